@@ -17,7 +17,7 @@ use Rattle.yv_text_grammar.specs.Refusals.{is_module, keyword_at}
 use Rattle.yv_text_grammar.specs.Fits.{FitsIn, IsAllowed, extension, occurrences, plain}
 use Rattle.yv_text_grammar.proofs.Counting.{some}
 use Rattle.yv_text_grammar.proofs.Keywords.{is_same, one}
-use Rattle.yv_link_definitions.specs.BuiltIn.{is_among}
+use Rattle.yv_statement.specs.Words.{is_among}
 use Rattle.yv_link_scopes.specs.Blocks.{StandsIn}
 use Rattle.yv_link_scopes.specs.Files.{Briefs, Files, brief_of, module_file_at}
 use Rattle.yv_link_scopes.specs.RowList.{rows_of, statements_of}

@@ -1,7 +1,7 @@
 -- Inner definitions, which only private clauses cite: items by the block or the file in which they
 -- stand, and what they give.
 use Rattle.std.specs.Prelude.{◌≡◌, ℕ, zero, suc, ◌<◌, ◌==◌, ◌&&◌, not, Bool, true, false, List, [], ◌∷◌, ◌++◌, length, map, if◌then◌else◌, Option, Some, None, slice_get, slice_index_or}
-use Rattle.std.specs.Option.{unwrap_or}
+use Rattle.std.specs.Option.{is_some, unwrap_or}
 use Rattle.std.specs.declared.vec.Vec.{Vec}
 use Rattle.std.specs.declared.alloc.Global.{Global}
 use Rattle.yv_link_scopes.specs.Files.{Briefs, module_file_at}
@@ -10,14 +10,19 @@ use Rattle.yv_link_definitions.specs.Refers.{RefersTo}
 use Rattle.yv_expand.specs.StatementBlocks.{block_of, numbers_from, is_node_or_uses, is_operation, is_input, is_output, is_augment, those, part, input_of, output_of}
 use Rattle.yv_expand.specs.declared.origin.Origin.{Origin}
 use Rattle.yv_expand.specs.declared.origin.Origin.TheVariants.{Statement, Input, Output}
+use Rattle.yv_expand.specs.Units.{units_of}
 use Rattle.yv_expand.specs.Tree.{Tree, Item, none, item}
 use Rattle.yv_expand.specs.Expands.{blocks_of}
 use Rattle.yv_expand.specs.declared.blocks.Blocks.{Blocks}
 use Rattle.yv_expand.specs.declared.lists.WantedFiles.{WantedFiles}
-use Rattle.yv_expand.specs.declared.lists.WantedFiles.TheVariants.{Items, Inputs, Outputs, Augments}
+use Rattle.yv_expand.specs.declared.lists.WantedFiles.TheVariants.{Items, Inputs, Outputs, Augments, Counted}
 
 abbrev pub Lists : Type 0
 Lists = List (Vec ℕ Global)
+
+-- whether a statement counts units, by itself or with what is in it
+abbrev pub counts : Row → Bool
+counts r = is_some (units_of r.head.keyword)
 
 -- whether a statement is one of those that are wanted
 abbrev pub is_wanted : WantedFiles → Row → Bool
@@ -25,6 +30,7 @@ is_wanted Items r = is_node_or_uses r
 is_wanted Inputs r = is_input r
 is_wanted Outputs r = is_output r
 is_wanted Augments r = is_augment r
+is_wanted Counted r = counts r
 
 -- the block in which a statement stands that passes a test
 abbrev pub block_place : (Row → Bool) → ℕ → Row → Option ℕ

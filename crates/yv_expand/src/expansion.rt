@@ -1,5 +1,5 @@
 //! Items in a list that keeps to a limit.
-ghost use Rattle.std.specs.Prelude.{◌≡◌, ◌≤◌, ◌<◌, ◌==◌, ℕ, [], ◌∷◌, ◌++◌, Some, length, take, OnOk, OnErr};
+ghost use Rattle.std.specs.Prelude.{◌≡◌, ◌≤◌, ◌<◌, ◌==◌, ℕ, [], ◌∷◌, ◌++◌, Some, length, OnOk, OnErr};
 
 use crate::item::Item;
 use std::alloc::{AllocError, Global};
@@ -82,13 +82,5 @@ impl Expansion {
     {
         self.items.push(item)?;
         Ok(())
-    }
-
-    /// Leaves so many of the first items, or all where there are no more.
-    pub fn truncate(&mut self, count: u32)
-        ensures items { self.new.items ≡ take count self.old.items }
-        ensures limit { self.new.limit ≡ self.old.limit }
-    {
-        self.items.truncate(count as usize);
     }
 }

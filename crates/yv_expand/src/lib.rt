@@ -20,7 +20,6 @@ mod stack;
 mod steps;
 mod unit_keywords;
 pub mod unit_laws;
-mod unit_lists;
 mod values;
 mod weights;
 mod whole;

@@ -7,7 +7,7 @@ ghost use Rattle.yv_expand.specs.Limit.{Fits, TooMany};
 ghost use Rattle.yv_expand.specs.InnerLists.{ArePlaced, top_place, top_sum};
 ghost use Rattle.yv_expand.specs.InnerSteps.{AreSettled};
 
-use crate::unit_lists::tops;
+use crate::lists::{WantedFiles, of_files};
 use crate::values::sum;
 use crate::weights::weigh_statements;
 use std::alloc::{AllocError, Global};
@@ -84,6 +84,6 @@ pub fn too_many(
         → IfOk result (λ found. IfNone found (Fits (lent_in rows.now) given.now limit)) }
 {
     let values = weigh_statements(alloc, rows, names)?;
-    let tops = tops(alloc, rows)?;
+    let tops = of_files(alloc, rows, WantedFiles::Counted)?;
     Ok(first_past(rows, &values, &tops, given, limit))
 }

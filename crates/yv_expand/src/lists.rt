@@ -7,6 +7,7 @@ ghost use Rattle.yv_link_scopes.specs.Views.{files_in, rows_in};
 ghost use Rattle.yv_expand.specs.InnerItems.{AreEmpty, AreModuleFiles, ArePlaced, block_place, is_wanted, top_place, numbers_at, top_at, tops_before};
 
 use crate::own::is_node_or_uses;
+use crate::unit_keywords::own_units;
 use std::alloc::{AllocError, Global};
 use yv_link_scopes::{Entry, Rows};
 
@@ -29,6 +30,8 @@ pub(crate) enum WantedFiles {
     Inputs,
     Outputs,
     Augments,
+    /// Those that count units by themselves, or contain such.
+    Counted,
 }
 
 // Whether a statement is one of those that are wanted.
@@ -40,6 +43,7 @@ fn is_wanted(wanted: WantedFiles, entry: &Entry<'_, '_>) -> bool
         WantedFiles::Inputs => entry.statement.keyword() == "input",
         WantedFiles::Outputs => entry.statement.keyword() == "output",
         WantedFiles::Augments => entry.statement.keyword() == "augment",
+        WantedFiles::Counted => own_units(entry).is_some(),
     }
 }
 

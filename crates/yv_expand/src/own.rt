@@ -1,13 +1,14 @@
 //! Which statements are items.
-ghost use Rattle.std.specs.Prelude.{◌≡◌, map};
+ghost use Rattle.std.specs.Prelude.{◌≡◌};
 ghost use Rattle.yv_link_scopes.specs.Rows.{row};
-ghost use Rattle.yv_link_definitions.specs.BuiltIn.{is_among};
 ghost use Rattle.yv_expand.specs.Units.{nodes, operations};
 ghost use Rattle.yv_expand.specs.StatementBlocks.{is_node_or_uses, is_operation};
 
 use yv_link_scopes::Entry;
+use yv_statement::is_among;
 
-static NODES: [&str; 10] = [
+/// The keywords of statements that give a schema node, but for operations, and `uses`.
+pub(crate) static NODES: [&str; 10] = [
     "container",
     "leaf",
     "leaf-list",
@@ -20,19 +21,8 @@ static NODES: [&str; 10] = [
     "uses",
 ];
 
-static OPERATIONS: [&str; 2] = ["rpc", "action"];
-
-// Whether one of the words is the name.
-fn is_among(words: &[&str], name: &str) -> bool
-    ensures { result ≡ is_among (map (λ w. w.now) words.now) name.now }
-{
-    for word in words {
-        if *word == name {
-            return true;
-        }
-    }
-    false
-}
+/// The keywords of operations.
+pub(crate) static OPERATIONS: [&str; 2] = ["rpc", "action"];
 
 /// Whether a statement is an rpc or an action.
 #[tactic(auto, unfolding(crate::specs::StatementBlocks::is_operation))]

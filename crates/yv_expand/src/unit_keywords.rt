@@ -1,39 +1,13 @@
 //! What statements count by themselves.
-ghost use Rattle.std.specs.Prelude.{◌≡◌, map};
+ghost use Rattle.std.specs.Prelude.{◌≡◌};
 ghost use Rattle.yv_link_scopes.specs.Rows.{row};
-ghost use Rattle.yv_link_definitions.specs.BuiltIn.{is_among};
 ghost use Rattle.yv_expand.specs.Units.{units_of};
 
+use crate::own::{NODES, OPERATIONS};
 use yv_link_scopes::Entry;
-
-static NODES: [&str; 10] = [
-    "container",
-    "leaf",
-    "leaf-list",
-    "list",
-    "choice",
-    "case",
-    "anydata",
-    "anyxml",
-    "notification",
-    "uses",
-];
-
-static OPERATIONS: [&str; 2] = ["rpc", "action"];
+use yv_statement::is_among;
 
 static PASSED: [&str; 3] = ["input", "output", "augment"];
-
-// Whether one of the words is the name.
-fn is_among(words: &[&str], name: &str) -> bool
-    ensures { result ≡ is_among (map (λ w. w.now) words.now) name.now }
-{
-    for word in words {
-        if *word == name {
-            return true;
-        }
-    }
-    false
-}
 
 // What a statement of a keyword counts by itself.
 #[tactic(auto, unfolding(crate::specs::Units::units_of))]

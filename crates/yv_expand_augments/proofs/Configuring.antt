@@ -9,8 +9,8 @@ use Rattle.yv_expand_rounds.specs.Tree.{Tree, none, item, tree_list}
 use Rattle.yv_expand_rounds.specs.declared.row.ItemRow.{ItemRow}
 use Rattle.yv_expand_augments.specs.MandatoryNodes.{Around, MarksView, inside, is_configuration, nothing_around}
 use Rattle.yv_expand_augments.specs.InnerMandatoryNodes.{AreShallow, around_marks, configuration_marks, enter}
-use Rattle.yv_expand_augments.specs.declared.spot.Spot.{Spot}
-use Rattle.yv_expand_augments.proofs.Reading.{rest_of}
+use Rattle.yv_expand_uses.specs.declared.spot.Spot.{Spot}
+use Rattle.yv_expand_uses.proofs.Reading.{rest_of}
 
 append_at : {A : Type 0} (xs ys : List A) (k : ℕ) (x : A) → slice_get (xs ++ ys) k ≡ Some x
     → (slice_get xs k ≡ Some x) ⊎ ((j : ℕ) × (j ≤ k) × (slice_get ys j ≡ Some x))

@@ -8,13 +8,14 @@ use Rattle.yv_expand_rounds.specs.Groups.{group_of_augment, members_of}
 use Rattle.yv_expand_rounds.specs.Turns.{State, turn}
 use Rattle.yv_expand_rounds.specs.Placements.{nothing, enter, HaveEntered, none_yet, one_turn, one_more}
 use Rattle.yv_expand_rounds.specs.Kinds.{is_uses}
-use Rattle.yv_expand_augments.specs.AugmentOrder.{augments_giving}
-use Rattle.yv_expand_augments.specs.Spots.{LayoutView, Whole, copies_of, labels_of, layout_of}
-use Rattle.yv_expand_augments.specs.Augmentation.{copy_turn, last_of, path_in, placement, placed_from, turns, turns_from}
-use Rattle.yv_expand_augments.specs.declared.spot.Spot.{Spot}
-use Rattle.yv_expand_augments.specs.InnerLayout.{AreLaid, Fits}
-use Rattle.yv_expand_augments.proofs.Bounds.{laid_whole}
-use Rattle.yv_expand_augments.proofs.Reading.{rest_of}
+use Rattle.yv_expand_uses.specs.AugmentOrder.{augments_giving}
+use Rattle.yv_expand_uses.specs.Spots.{LayoutView, Whole, copies_of, labels_of, layout_of}
+use Rattle.yv_expand_augments.specs.Augmentation.{copy_turn, last_of, placement, placed_from, turns, turns_from}
+use Rattle.yv_expand_uses.specs.Paths.{path_in}
+use Rattle.yv_expand_uses.specs.declared.spot.Spot.{Spot}
+use Rattle.yv_expand_uses.specs.InnerLayout.{AreLaid, Fits}
+use Rattle.yv_expand_uses.proofs.Bounds.{laid_whole}
+use Rattle.yv_expand_uses.proofs.Reading.{rest_of}
 
 abbrev pub KeepAugments : Type 0
 KeepAugments = (labels : List Label) (number start limit : ℕ) (names : List ℕ) (st : State) → length (turn labels number start limit names st).ends ≡ length st.ends

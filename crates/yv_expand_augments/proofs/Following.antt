@@ -17,15 +17,17 @@ use Rattle.yv_expand_rounds.specs.InnerState.{IsAugmentation}
 use Rattle.yv_expand_rounds.specs.Paths.{path_end}
 use Rattle.yv_expand_rounds.specs.Turns.{State, target}
 use Rattle.yv_expand_augments.specs.Refusals.{RefusesIf}
-use Rattle.yv_expand_augments.specs.AugmentOrder.{augments_giving}
-use Rattle.yv_expand_augments.specs.Augmentation.{copy_turn, last_of, path_in, turns, turns_from}
+use Rattle.yv_expand_uses.specs.AugmentOrder.{augments_giving}
+use Rattle.yv_expand_augments.specs.Augmentation.{copy_turn, last_of, turns, turns_from}
+use Rattle.yv_expand_uses.specs.Paths.{path_in}
 use Rattle.yv_expand_rounds.specs.Kinds.{is_uses}
 use Rattle.yv_expand_augments.specs.InnerSchedule.{AreIdle, AreOrdered, AreStretches, IsCovered, IsEnded, IsFrom, IsSource, IsReady, IsRefusalOf, IsStretch, MissesBetween, MissesIdle, added_to}
-use Rattle.yv_expand_augments.specs.Spots.{Whole}
-use Rattle.yv_expand_augments.specs.MissingTargets.{MissesInTurn, MissesOf, after_turns, augments_in, next_number, node_reached}
+use Rattle.yv_expand_uses.specs.Spots.{Whole}
+use Rattle.yv_expand_augments.specs.MissingTargets.{MissesInTurn, MissesOf, after_turns, next_number, node_reached}
+use Rattle.yv_expand_uses.specs.AugmentOrder.{augments_in}
 use Rattle.yv_expand_augments.specs.declared.schedule.AddressedAugment.{AddressedAugment}
 use Rattle.yv_expand_augments.specs.declared.schedule.Stretch.{Stretch}
-use Rattle.yv_expand_augments.specs.declared.spot.Spot.{Spot}
+use Rattle.yv_expand_uses.specs.declared.spot.Spot.{Spot}
 use Rattle.yv_expand_augments.proofs.Scheduling.{known_before}
 use Rattle.yv_expand_augments.proofs.Turning.{after_all, after_more, had_same, number_more}
 

@@ -15,13 +15,14 @@ use Rattle.yv_expand_rounds.specs.Placements.{HaveEntered, StandOnce, enter, one
 use Rattle.yv_expand_rounds.specs.Rounds.{AreApplied}
 use Rattle.yv_expand_rounds.specs.Tree.{AreRows, IsTree, StandsInTree, Tree, group_under, tree_list}
 use Rattle.yv_expand_rounds.specs.Turns.{State, given_group, group_of_target, is_applied, settle, target, target_of, turn}
-use Rattle.yv_expand_augments.specs.AugmentOrder.{augments_giving}
-use Rattle.yv_expand_augments.specs.Augmentation.{AreAugmented, copy_turn, last_of, module_paths, path_in, placement, placed_from, turns, turns_from}
-use Rattle.yv_expand_augments.specs.InnerLayout.{AreLaid, Fits}
+use Rattle.yv_expand_uses.specs.AugmentOrder.{augments_giving}
+use Rattle.yv_expand_augments.specs.Augmentation.{AreAugmented, copy_turn, last_of, placement, placed_from, turns, turns_from}
+use Rattle.yv_expand_uses.specs.Paths.{module_paths, path_in}
+use Rattle.yv_expand_uses.specs.InnerLayout.{AreLaid, Fits}
 use Rattle.yv_expand_rounds.specs.Kinds.{is_uses}
-use Rattle.yv_expand_augments.specs.Spots.{LayoutView, Whole, copies_of, copy_group, labels_of, layout_of, laid_from, one_more, spot_of}
-use Rattle.yv_expand_augments.specs.declared.spot.Spot.{Spot}
-use Rattle.yv_expand_augments.proofs.Bounds.{laid_whole, pushed_at}
+use Rattle.yv_expand_uses.specs.Spots.{LayoutView, Whole, copies_of, copy_group, labels_of, layout_of, laid_from, one_more, spot_of}
+use Rattle.yv_expand_uses.specs.declared.spot.Spot.{Spot}
+use Rattle.yv_expand_uses.proofs.Bounds.{laid_whole, pushed_at}
 use Rattle.yv_expand_augments.proofs.Entering.{placed_entered, spot_entered, whole_entered}
 
 -- the laws of augments

@@ -7,7 +7,7 @@ use Rattle.yv_expand_rounds.specs.Tree.{Tree, none, item, tree_list}
 use Rattle.yv_expand_rounds.specs.declared.row.ItemRow.{ItemRow}
 use Rattle.yv_expand_augments.specs.Remains.{remains}
 use Rattle.yv_expand_augments.specs.InnerRemains.{cut_after, is_below, is_left_under, one_if, scan}
-use Rattle.yv_expand_augments.proofs.Reading.{rest_of}
+use Rattle.yv_expand_uses.proofs.Reading.{rest_of}
 
 -- the first of these stands no deeper
 abbrev HeadAt : List ItemRow → ℕ → Type 0

@@ -4,10 +4,11 @@ use Rattle.std.specs.List.{slice_get}
 use Rattle.yv_expand_rounds.specs.declared.label.Label.{Label}
 use Rattle.yv_expand_refines.specs.Targets.{RefineMeaning}
 use Rattle.yv_expand_augments.specs.Augmentation.{placed_from}
-use Rattle.yv_expand_augments.specs.RefineTargets.{refined_at, refined_from}
-use Rattle.yv_expand_augments.specs.Spots.{Whole}
-use Rattle.yv_expand_augments.specs.declared.spot.Spot.{Spot}
-use Rattle.yv_expand_augments.proofs.Reading.{rest_of}
+use Rattle.yv_expand_uses.specs.RefineTargets.{refined_at}
+use Rattle.yv_expand_augments.specs.RefineMeanings.{refined_from}
+use Rattle.yv_expand_uses.specs.Spots.{Whole}
+use Rattle.yv_expand_uses.specs.declared.spot.Spot.{Spot}
+use Rattle.yv_expand_uses.proofs.Reading.{rest_of}
 
 module _ (w : Whole) (labels : List Label) (copies : ℕ) where
   -- one item more

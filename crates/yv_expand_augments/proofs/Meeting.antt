@@ -11,10 +11,10 @@ use Rattle.yv_expand_rounds.specs.Tree.{Tree, none, item, tree_list}
 use Rattle.yv_expand_rounds.specs.declared.row.ItemRow.{ItemRow}
 use Rattle.yv_expand_augments.specs.MandatoryNodes.{Around, ImposesMandatory, IsMandatoryAdded, MarksView, has_mandatory, inside, is_configuration, is_mandatory, nothing_around}
 use Rattle.yv_expand_augments.specs.InnerMandatoryNodes.{ImposesMandatoryIn, counts, found_in, meet}
-use Rattle.yv_expand_augments.specs.Remains.{is_marked}
-use Rattle.yv_expand_augments.specs.declared.spot.Spot.{Spot}
+use Rattle.yv_expand_uses.specs.On.{is_marked}
+use Rattle.yv_expand_uses.specs.declared.spot.Spot.{Spot}
 use Rattle.yv_expand_augments.proofs.Configuring.{marks_of}
-use Rattle.yv_expand_augments.proofs.Reading.{rest_of}
+use Rattle.yv_expand_uses.proofs.Reading.{rest_of}
 
 -- what is met depends on what was found alone
 pub met_same : (depth : ℕ) (b : Bool) (old found : ℕ → Bool) (d : ℕ) → ((e : ℕ) → old e ≡ found e) → meet depth b old d ≡ meet depth b found d

@@ -13,11 +13,11 @@ use Rattle.yv_expand_augments.specs.Refusals.{RefusesIf}
 use Rattle.yv_expand_augments.specs.MandatoryNodes.{IsMandatoryAdded, source_of}
 use Rattle.yv_expand_augments.specs.Placement.{IsMisplaced, augment_around}
 use Rattle.yv_expand_rounds.specs.Kinds.{takes}
-use Rattle.yv_expand_augments.specs.Spots.{spot_at}
+use Rattle.yv_expand_uses.specs.Spots.{spot_at}
 use Rattle.yv_expand_augments.specs.InnerRefusals.{refusal_of_row}
 use Rattle.yv_expand_augments.specs.InnerMandatoryNodes.{mandatory_refusal, is_mandatory_added}
 use Rattle.yv_expand_augments.specs.InnerPlacement.{placement_refusal, refusal_of_augment}
-use Rattle.yv_expand_augments.specs.declared.spot.Spot.{Spot}
+use Rattle.yv_expand_uses.specs.declared.spot.Spot.{Spot}
 use Rattle.yv_expand_augments.proofs.Refusing.{least_at, not_false}
 
 -- an augment is refused for an item and the node above it

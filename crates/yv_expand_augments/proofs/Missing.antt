@@ -9,9 +9,9 @@ use Rattle.yv_statement.specs.declared.refusal.Refusal.{Refusal}
 use Rattle.yv_statement.proofs.Least.{least_same}
 use Rattle.yv_expand_rounds.specs.Turns.{State}
 use Rattle.yv_expand_augments.specs.Augmentation.{placed_from}
-use Rattle.yv_expand_augments.specs.Spots.{LayoutView, Whole, labels_of}
+use Rattle.yv_expand_uses.specs.Spots.{LayoutView, Whole, labels_of}
 use Rattle.yv_expand_augments.specs.MissingTargets.{MissesAt, MissesOf}
-use Rattle.yv_expand_augments.specs.declared.spot.Spot.{Spot}
+use Rattle.yv_expand_uses.specs.declared.spot.Spot.{Spot}
 
 module _ (w : Whole) (l : LayoutView) where
   -- past the last item nothing is refused

@@ -13,7 +13,7 @@ use Rattle.yv_expand_rounds.specs.declared.row.ItemRow.{ItemRow}
 use Rattle.yv_expand_rounds.specs.Kinds.{is_uses}
 use Rattle.yv_expand_augments.specs.Refusals.{IsTooDeep, RefusesIf}
 use Rattle.yv_expand_augments.specs.InnerRefusals.{depth_refusal, is_absent, refusal_of_row}
-use Rattle.yv_expand_augments.specs.declared.spot.Spot.{Spot}
+use Rattle.yv_expand_uses.specs.declared.spot.Spot.{Spot}
 
 -- the least refusal of one statement
 pub least_at : (rows : List Row) (c : Code) (P : Type 0) (bad : Bool) (k : ℕ) → (bad ≡ true → P) → (P → bad ≡ true)

@@ -14,16 +14,16 @@ use Rattle.yv_statement.specs.declared.refusal.Refusal.{Refusal}
 use Rattle.yv_statement.proofs.Least.{up_to_trans}
 use Rattle.yv_link_scopes.specs.Rows.{Row}
 use Rattle.yv_base_tables.specs.Fronts.{KeepPaths}
-use Rattle.yv_expand_augments.specs.AugmentOrder.{is_giving}
-use Rattle.yv_expand_augments.specs.Augmentation.{path_in}
+use Rattle.yv_expand_uses.specs.AugmentOrder.{is_giving}
+use Rattle.yv_expand_uses.specs.Paths.{path_in}
 use Rattle.yv_expand_augments.specs.InnerSchedule.{AreIdle, AreOrdered, AreStretches, IsCovered, IsEnded, IsFollowed, IsFrom, IsGathering, IsNext, IsPassed, IsPathOf, IsRefusalOf, IsSchedule, IsStretch, is_of_module, stretches_of}
-use Rattle.yv_expand_augments.specs.Spots.{Whole}
-use Rattle.yv_expand_augments.specs.MissingTargets.{augments_in}
+use Rattle.yv_expand_uses.specs.Spots.{Whole}
+use Rattle.yv_expand_uses.specs.AugmentOrder.{augments_in}
 use Rattle.yv_expand_augments.specs.declared.schedule.AddressedAugment.{AddressedAugment}
 use Rattle.yv_expand_augments.specs.declared.schedule.ScheduleDraft.{ScheduleDraft}
 use Rattle.yv_expand_augments.specs.declared.schedule.Schedule.{Schedule}
 use Rattle.yv_expand_augments.specs.declared.schedule.Stretch.{Stretch}
-use Rattle.yv_expand_augments.proofs.Pushing.{get_before, get_last, keep_before, last_or_before}
+use Rattle.yv_expand_uses.proofs.Pushing.{get_before, get_last, keep_before, last_or_before}
 
 pub up_to_itself : (f : Refusal) → IsUpTo f f
 up_to_itself f = inr (refl, inr (refl, inr (refl, inr (refl, inr (refl, tt)))))

@@ -8,11 +8,12 @@ use Rattle.yv_link_scopes.specs.Rows.{Row}
 use Rattle.yv_base_tables.specs.Families.{is_place, numbers_at, numbers_from}
 use Rattle.yv_expand_rounds.specs.declared.label.Label.{Label}
 use Rattle.yv_expand_rounds.specs.Turns.{State}
-use Rattle.yv_expand_augments.specs.AugmentOrder.{augments_giving, giving_from, giving_places, is_augment, is_giving, is_in, item_places}
+use Rattle.yv_expand_uses.specs.AugmentOrder.{augments_giving, giving_from, giving_places, is_augment, is_giving, is_in, item_places}
 use Rattle.yv_expand_augments.specs.Augmentation.{copy_turn, turns_from}
-use Rattle.yv_expand_augments.specs.Spots.{Whole}
-use Rattle.yv_expand_augments.specs.MissingTargets.{after_turns, augment_places, augments_in, had_turns, next_number}
-use Rattle.yv_expand_augments.specs.declared.spot.Spot.{Spot}
+use Rattle.yv_expand_uses.specs.Spots.{Whole}
+use Rattle.yv_expand_augments.specs.MissingTargets.{after_turns, had_turns, next_number}
+use Rattle.yv_expand_uses.specs.AugmentOrder.{augment_places, augments_in}
+use Rattle.yv_expand_uses.specs.declared.spot.Spot.{Spot}
 
 -- the places of augments that give something are among those of augments
 data Among : List (Option ℕ) → List (Option ℕ) → Type 0 where

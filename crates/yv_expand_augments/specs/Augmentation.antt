@@ -1,29 +1,16 @@
 -- What augments make of the expansion of files (RFC 7950, sections 7.13 and 7.17).
-use Rattle.std.specs.Prelude.{ℕ, ◌+◌, ◌-◌, List, [], ◌∷◌, length, map, if◌then◌else◌, Option, Some, None, slice_get, slice_index_or}
+use Rattle.std.specs.Prelude.{ℕ, ◌+◌, ◌-◌, List, [], ◌∷◌, length, if◌then◌else◌, slice_index_or}
 use Rattle.yv_expand.specs.Tree.{Item}
-use Rattle.yv_expand_paths.specs.InnerSteps.{path_at, step_number}
-use Rattle.yv_expand_paths.specs.declared.step.SchemaStep.{SchemaStep}
+use Rattle.yv_expand_uses.specs.Paths.{module_paths, path_in}
 use Rattle.yv_expand_rounds.specs.declared.label.Label.{Label}
 use Rattle.yv_expand_rounds.specs.Groups.{group_of_augment, members_of}
 use Rattle.yv_expand_rounds.specs.Turns.{State, turn}
 use Rattle.yv_expand_rounds.specs.Placements.{nothing, enter}
 use Rattle.yv_expand_rounds.specs.Rounds.{AreApplied}
 use Rattle.yv_expand_rounds.specs.Kinds.{is_uses}
-use Rattle.yv_expand_augments.specs.AugmentOrder.{augments_giving}
-use Rattle.yv_expand_augments.specs.Spots.{LayoutView, Whole, layout_of, labels_of, own_module_file}
-use Rattle.yv_expand_augments.specs.declared.spot.Spot.{Spot}
-
--- no node has this name
-abbrev pub no_name : ℕ
-no_name = 4294967295
-
-abbrev pub step_name : (module_file : ℕ) → Option SchemaStep → ℕ
-step_name module_file None = no_name
-step_name module_file (Some s) = step_number module_file s
-
--- the path of an augment, where a name without prefix is of the module of the file `module_file`
-abbrev pub path_in : Whole → (module_file augment : ℕ) → List ℕ
-path_in w module_file augment = map (step_name module_file) (path_at w.files w.rows (slice_get w.rows augment))
+use Rattle.yv_expand_uses.specs.AugmentOrder.{augments_giving}
+use Rattle.yv_expand_uses.specs.Spots.{LayoutView, Whole, layout_of, labels_of}
+use Rattle.yv_expand_uses.specs.declared.spot.Spot.{Spot}
 
 -- the last of a list
 abbrev pub last_of : List ℕ → ℕ
@@ -53,10 +40,6 @@ placed_from w labels copies i (s ∷ others) = enter i s.group (turns w labels s
 
 abbrev pub placement : Whole → LayoutView → State
 placement w l = placed_from w (labels_of l.spots) l.copies 0 l.spots
-
--- the paths of the augments of modules
-abbrev pub module_paths : Whole → List (List ℕ)
-module_paths w = map (λ a. path_in w (own_module_file w.files (slice_get w.rows a)) a) w.augments
 
 -- where items stand when all augments were applied: first those of uses, and then those of modules
 -- in rounds

@@ -7,10 +7,10 @@ use Rattle.yv_expand_rounds.specs.Placements.{StandOnce}
 use Rattle.yv_expand_rounds.specs.Tree.{AreRows}
 use Rattle.yv_expand_rounds.specs.InnerState.{IsAugmentation}
 use Rattle.yv_expand_refines.specs.Targets.{all_meant}
-use Rattle.yv_expand_augments.specs.Spots.{Whole, labels_of, layout_of}
-use Rattle.yv_expand_augments.specs.Ends.{end_at}
+use Rattle.yv_expand_uses.specs.Spots.{Whole, labels_of, layout_of}
+use Rattle.yv_expand_uses.specs.Ends.{end_at}
 use Rattle.yv_expand_augments.specs.Augmentation.{AreAugmented}
-use Rattle.yv_expand_augments.specs.RefineTargets.{refined_all}
+use Rattle.yv_expand_augments.specs.RefineMeanings.{refined_all}
 use Rattle.yv_expand_augments.specs.MissingTargets.{MissesAt}
 use Rattle.yv_expand_augments.specs.declared.augmentation.AugmentedItems.{AugmentedItems}
 use Rattle.yv_expand_augments.specs.declared.final_tree.AugmentedTree.{AugmentedTree}

@@ -6,7 +6,7 @@ use Rattle.yv_link_scopes.specs.Rows.{Row}
 use Rattle.yv_expand_rounds.specs.declared.row.ItemRow.{ItemRow}
 use Rattle.yv_expand_augments.specs.MandatoryNodes.{Around, IsMandatoryAdded, MarksView, source_of, inside, is_configuration, is_given, is_mandatory}
 use Rattle.yv_expand_augments.specs.InnerPlacement.{refusal_of_augment}
-use Rattle.yv_expand_augments.specs.declared.spot.Spot.{Spot}
+use Rattle.yv_expand_uses.specs.declared.spot.Spot.{Spot}
 
 -- the depth of each item is at most its place, counted from 1
 abbrev pub AreShallow : List ItemRow → Type 0

@@ -6,7 +6,7 @@ use Rattle.yv_link_scopes.specs.Rows.{Row}
 use Rattle.yv_expand_augments.specs.InnerRefusals.{refusal_of_row}
 use Rattle.yv_expand_augments.specs.Placement.{augment_around}
 use Rattle.yv_expand_rounds.specs.Kinds.{takes}
-use Rattle.yv_expand_augments.specs.declared.spot.Spot.{Spot}
+use Rattle.yv_expand_uses.specs.declared.spot.Spot.{Spot}
 
 -- the refusal of an augment, if there is one and it is bad
 abbrev pub refusal_of_augment : List Row → (bad : Bool) → (augment : Option ℕ) → Option Refusal

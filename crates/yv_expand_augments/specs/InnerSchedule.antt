@@ -17,16 +17,17 @@ use Rattle.yv_expand_rounds.specs.InnerState.{IsAugmentation}
 use Rattle.yv_expand_rounds.specs.Paths.{path_end}
 use Rattle.yv_expand_rounds.specs.Turns.{State, target}
 use Rattle.yv_expand_augments.specs.Refusals.{RefusesIf}
-use Rattle.yv_expand_augments.specs.AugmentOrder.{augments_giving, is_giving}
-use Rattle.yv_expand_augments.specs.Augmentation.{path_in}
-use Rattle.yv_expand_augments.specs.Spots.{Whole}
-use Rattle.yv_expand_augments.specs.MissingTargets.{MissesInTurn, after_turns, augments_in, next_number}
+use Rattle.yv_expand_uses.specs.AugmentOrder.{augments_giving, is_giving}
+use Rattle.yv_expand_uses.specs.Paths.{path_in}
+use Rattle.yv_expand_uses.specs.Spots.{Whole}
+use Rattle.yv_expand_augments.specs.MissingTargets.{MissesInTurn, after_turns, next_number}
+use Rattle.yv_expand_uses.specs.AugmentOrder.{augments_in}
 use Rattle.yv_expand_augments.specs.declared.schedule.AddressedAugment.{AddressedAugment}
 use Rattle.yv_expand_augments.specs.declared.schedule.ScheduleDraft.{ScheduleDraft}
 use Rattle.yv_expand_augments.specs.declared.schedule.Schedule.{Schedule}
 use Rattle.yv_expand_augments.specs.declared.schedule.Schedules.{Schedules}
 use Rattle.yv_expand_augments.specs.declared.schedule.Stretch.{Stretch}
-use Rattle.yv_expand_augments.specs.declared.spot.Spot.{Spot}
+use Rattle.yv_expand_uses.specs.declared.spot.Spot.{Spot}
 
 -- an augment is refused so if it adds to no node
 abbrev pub IsRefusalOf : List Row → (augment : ℕ) → Refusal → Type 0

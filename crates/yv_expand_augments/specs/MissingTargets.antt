@@ -1,12 +1,11 @@
 -- Augments of uses that add to no node, each asked in its turn (RFC 7950, sections 7.13 and 7.17).
-use Rattle.std.specs.Prelude.{◌≡◌, ℕ, ◌+◌, true, List, length, map, take, drop, if◌then◌else◌, Option, Some, None, slice_get}
+use Rattle.std.specs.Prelude.{◌≡◌, ℕ, ◌+◌, true, List, length, take, drop, if◌then◌else◌, Option, Some, None, slice_get}
 use Rattle.std.specs.List.{filter}
 use Rattle.std.specs.Option.{option_and_then}
 use Rattle.yv_statement.specs.Order.{Among}
 use Rattle.yv_statement.specs.declared.refusal.Code.TheVariants as code
 use Rattle.yv_statement.specs.declared.refusal.Refusal.{Refusal}
 use Rattle.yv_link_scopes.specs.Rows.{Row}
-use Rattle.yv_base_tables.specs.Families.{numbers_at}
 use Rattle.yv_expand.specs.Tree.{Item}
 use Rattle.yv_expand_rounds.specs.declared.end.End.TheVariants.{Start}
 use Rattle.yv_expand_rounds.specs.declared.label.Label.{Label}
@@ -15,20 +14,13 @@ use Rattle.yv_expand_rounds.specs.Groups.{group_of_augment, members_of}
 use Rattle.yv_expand_rounds.specs.Paths.{path_end}
 use Rattle.yv_expand_rounds.specs.Turns.{State, target}
 use Rattle.yv_expand_rounds.specs.Kinds.{is_uses}
-use Rattle.yv_expand_augments.specs.Ends.{end_at}
+use Rattle.yv_expand_uses.specs.Ends.{end_at}
 use Rattle.yv_expand_augments.specs.Refusals.{RefusesIf}
-use Rattle.yv_expand_augments.specs.AugmentOrder.{is_augment, is_giving}
-use Rattle.yv_expand_augments.specs.Augmentation.{last_of, path_in, placed_from, turns_from}
-use Rattle.yv_expand_augments.specs.Spots.{LayoutView, Whole, labels_of, layout_of}
-use Rattle.yv_expand_augments.specs.declared.spot.Spot.{Spot}
-
--- for each augment the block in which it stands
-abbrev pub augment_places : List Row → List (Option ℕ)
-augment_places rows = map (λ r. if is_augment r then Some r.scope else None) rows
-
--- the augments of a block, in order
-abbrev pub augments_in : List Row → (block : ℕ) → List ℕ
-augments_in rows block = numbers_at (augment_places rows) block
+use Rattle.yv_expand_uses.specs.AugmentOrder.{augments_in, is_giving}
+use Rattle.yv_expand_augments.specs.Augmentation.{last_of, placed_from, turns_from}
+use Rattle.yv_expand_uses.specs.Paths.{path_in}
+use Rattle.yv_expand_uses.specs.Spots.{LayoutView, Whole, labels_of, layout_of}
+use Rattle.yv_expand_uses.specs.declared.spot.Spot.{Spot}
 
 -- those of the first augments of a uses that give something: they have had their turns
 abbrev pub had_turns : List Row → Spot → (count : ℕ) → List ℕ

@@ -9,8 +9,8 @@ use Rattle.yv_expand.specs.Tree.{Item}
 use Rattle.yv_expand_rounds.specs.Turns.{State, target_of}
 use Rattle.yv_expand_rounds.specs.declared.row.ItemRow.{ItemRow}
 use Rattle.yv_expand_rounds.specs.Kinds.{is_uses}
-use Rattle.yv_expand_augments.specs.Spots.{Whole, labels_of, layout_of}
-use Rattle.yv_expand_augments.specs.declared.spot.Spot.{Spot}
+use Rattle.yv_expand_uses.specs.Spots.{Whole, labels_of, layout_of}
+use Rattle.yv_expand_uses.specs.declared.spot.Spot.{Spot}
 
 -- f is the refusal of the numbered statement, which is refused where P holds
 abbrev pub RefusesIf : List Row → Code → Type 0 → (statement : ℕ) → Refusal → Type 0

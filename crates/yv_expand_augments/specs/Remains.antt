@@ -1,17 +1,14 @@
 -- What is left of the final tree (RFC 7950, sections 7.13, 7.17 and 7.20.2).
-use Rattle.std.specs.Prelude.{ℕ, ◌&&◌, not, Bool, if◌then◌else◌, false, List, Option, Some, None, slice_get, slice_index_or}
+use Rattle.std.specs.Prelude.{ℕ, ◌&&◌, not, Bool, if◌then◌else◌, false, List, Option, Some, None, slice_get}
 use Rattle.yv_expand_rounds.specs.Tree.{Tree, none, item}
 use Rattle.yv_expand_rounds.specs.Kinds.{is_uses}
-use Rattle.yv_expand_augments.specs.declared.spot.Spot.{Spot}
+use Rattle.yv_expand_uses.specs.On.{is_marked}
+use Rattle.yv_expand_uses.specs.declared.spot.Spot.{Spot}
 
 -- the tree without the items that aren't kept, and without what stands below these
 abbrev pub remains : (is_kept : ℕ → Bool) → Tree → Tree
 remains is_kept none = none
 remains is_kept (item i below behind) = if is_kept i then item i (remains is_kept below) (remains is_kept behind) else remains is_kept behind
-
--- a number has a mark
-abbrev pub is_marked : List Bool → ℕ → Bool
-is_marked marks number = slice_index_or marks number false
 
 abbrev pub is_some_uses : Option Spot → Bool
 is_some_uses None = false

@@ -8,28 +8,28 @@ ghost use Rattle.yv_expand_rounds.specs.declared.label.Label.{Label};
 ghost use Rattle.yv_expand_rounds.specs.Groups.{group_of_augment, members_of};
 ghost use Rattle.yv_expand_rounds.specs.Turns.{State, target_of};
 ghost use Rattle.yv_expand_rounds.specs.InnerState.{IsAugmentation};
-ghost use Rattle.yv_expand_augments.specs.Augmentation.{copy_turn, last_of, module_paths, path_in, placement, turns};
-ghost use Rattle.yv_expand_augments.specs.Spots.{Whole, copies_of, labels_of, layout_of, whole};
+ghost use Rattle.yv_expand_augments.specs.Augmentation.{copy_turn, last_of, placement, turns};
+ghost use Rattle.yv_expand_uses.specs.Paths.{module_paths, path_in};
+ghost use Rattle.yv_expand_uses.specs.Spots.{Whole, copies_of, labels_of, layout_of, whole};
 ghost use Rattle.yv_expand_augments.specs.Refusals.{RefusesIf};
 ghost use Rattle.yv_expand_rounds.specs.Kinds.{is_uses};
 ghost use Rattle.yv_expand_augments.specs.FinalItems.{AreAugmentedItems, AreAugmentedTree};
-ghost use Rattle.yv_expand_augments.specs.MissingTargets.{MissesAt, MissesOf, augments_in, next_number};
-ghost use Rattle.yv_expand_augments.specs.RefineTargets.{refine_meanings};
+ghost use Rattle.yv_expand_augments.specs.MissingTargets.{MissesAt, MissesOf, next_number};
+ghost use Rattle.yv_expand_uses.specs.AugmentOrder.{augments_in};
+ghost use Rattle.yv_expand_augments.specs.RefineMeanings.{refine_meanings};
 ghost use Rattle.yv_expand_refines.specs.Targets.{all_meant};
+ghost use Rattle.yv_expand_uses.specs.InnerPlan.{IsPlan, whole_in};
+ghost use Rattle.yv_expand_uses.specs.InnerLayout.{AreLaid, IsNumbered, laid_in};
+ghost use Rattle.yv_expand_augments.specs.InnerSchedule.{AreOrdered, AreSchedules, IsReady, IsStretch, MissesBetween, MissesIdle, added_to};
 
-use crate::ends::ends;
 use crate::final_tree::AugmentedTree;
-use crate::kinds::is_uses;
-use crate::layout::Layout;
-use crate::plan::Plan;
-use crate::refine_targets::RefineTargets;
 use crate::refusals::{is_absent, refused_at};
-use crate::schedule::{AddressedAugment, Schedules, Stretch};
-use crate::spot::Spot;
+use crate::schedule::{AddressedAugment, Schedules, Stretch, prepare};
 use std::alloc::{AllocError, Global};
 use yv_expand::Item;
 use yv_expand_refines::Refinements;
 use yv_expand_rounds::{Augmentation, Label};
+use yv_expand_uses::{Layout, Plan, RefineTargets, Spot, is_uses, item_ends};
 use yv_link_scopes::Rows;
 use yv_statement::{Code, Refusal, lesser};
 
@@ -100,246 +100,231 @@ struct TurnResult {
     missing: Option<Refusal>,
 }
 
-impl Plan<'_, '_, '_> {
-    ghost use Rattle.yv_expand_augments.specs.InnerPlan.{IsPlan, whole_in};
-    ghost use Rattle.yv_expand_augments.specs.InnerLayout.{AreLaid, IsNumbered, laid_in};
-    ghost use Rattle.yv_expand_augments.specs.InnerSchedule.{AreOrdered, AreSchedules, IsReady, IsStretch, MissesBetween, MissesIdle, added_to};
+// The refusal of an augment whose path begins in this group, if it adds to no node.
+fn refusal_of_target(
+    plan: &Plan<'_, '_, '_>,
+    grafting: &Augmentation,
+    group: usize,
+    limit: usize,
+    it: &AddressedAugment,
+) -> Option<Refusal>
+    ensures { (labels : List Label) (st : State) → IsAugmentation labels st grafting.now
+        → IsLeast (RefusesIf (rows_in plan.now.rows.now) AugmentTarget
+        (added_to labels st limit group it.now.path.items ≡ None) it.now.augment) result }
+{
+    let bad = is_absent(grafting.reach(group, limit, &it.path));
+    refused_at(plan.rows, Code::AugmentTarget, bad, it.augment)
+}
 
-    // The refusal of an augment whose path begins in this group, if it adds to no node.
-    fn refusal_of_target(
-        &self,
-        grafting: &Augmentation,
-        group: usize,
-        limit: usize,
-        it: &AddressedAugment,
-    ) -> Option<Refusal>
-        ensures { (labels : List Label) (st : State) → IsAugmentation labels st grafting.now
-            → IsLeast (RefusesIf (rows_in self.now.rows.now) AugmentTarget
-            (added_to labels st limit group it.now.path.items ≡ None) it.now.augment) result }
-    {
-        let bad = is_absent(grafting.reach(group, limit, &it.path));
-        refused_at(self.rows, Code::AugmentTarget, bad, it.augment)
-    }
-
-    // The least refusal of these augments of a uses, which give nothing: that of the first which
-    // adds to no node.
-    fn first_missing(
-        &self,
-        grafting: &Augmentation,
-        spot: &Spot,
-        end: usize,
-        idle: &[AddressedAugment],
-    ) -> Option<Refusal>
-        ensures { (labels : List Label) (st : State) → IsAugmentation labels st grafting.now
-            → AreOrdered (rows_in self.now.rows.now) idle.now
-            → IsLeast
-            (MissesIdle (rows_in self.now.rows.now) (added_to labels st end spot.now.group)
-            idle.now) result }
-    {
-        for it in idle {
-            let missing = self.refusal_of_target(grafting, spot.group, end, it);
-            if missing.is_some() {
-                return missing;
-            }
-        }
-        None
-    }
-
-    // The turn of the numbered copy of an augment of a uses that gives something. Its refusal, if
-    // it adds to no node.
-    fn give(
-        &self,
-        grafting: Augmentation,
-        spot: &Spot,
-        number: usize,
-        it: &AddressedAugment,
-    ) -> Result<TurnResult, AllocError>
-        requires few { number < 2 ^ 63 }
-        ensures state { (labels : List Label) (st : State) → IsAugmentation labels st grafting
-            → length labels ≡ length self.now.items.now
-            → it.now.path.items ≡ path_in (whole_in self.now) spot.now.module_file it.now.augment
-            → number < length st.ends
-            → IfOk result
-            (λ turned. IsAugmentation labels
-            (copy_turn (whole_in self.now) labels spot.now number it.now.augment st)
-            turned.grafting) }
-        ensures lacks { (labels : List Label) (st : State) → IsAugmentation labels st grafting
-            → length labels ≡ length self.now.items.now
-            → IfOk result
-            (λ turned. IsLeast
-            (RefusesIf (rows_in self.now.rows.now) AugmentTarget (added_to labels st
-            (last_of (members_of st.groups (group_of_augment labels number))) spot.now.group
-            it.now.path.items ≡ None) it.now.augment)
-            turned.missing) }
-    {
-        let group = self.copy_group(number);
-        let limit = last_of(grafting.members(group));
-        let missing = self.refusal_of_target(&grafting, spot.group, limit, it);
-        let grafting = grafting.turn(number, spot.group, limit, &it.path)?;
-        Ok(TurnResult { grafting, missing })
-    }
-
-    // The turns of a stretch of augments of a uses.
-    fn follow(
-        &self,
-        grafting: Augmentation,
-        spot: &Spot,
-        end: usize,
-        number: usize,
-        stretch: &Stretch,
-    ) -> Result<FollowedPath, AllocError>
-        requires few { number < 2 ^ 63 }
-        ensures number { (from to : ℕ)
-            → IsStretch (whole_in self.now) spot.now.statement spot.now.module_file from to
-            stretch.now
-            → number ≡ next_number (rows_in self.now.rows.now) spot.now from
-            → IfOk result
-            (λ followed. followed.number ≡ next_number (rows_in self.now.rows.now) spot.now to) }
-        ensures ready { (labels : List Label) (st : State) (from to : ℕ)
-            → IsReady (whole_in self.now) labels spot.now st from number grafting
-            → IsStretch (whole_in self.now) spot.now.statement spot.now.module_file from to
-            stretch.now
-            → IfOk result
-            (λ followed. IsReady (whole_in self.now) labels spot.now st to followed.number
-            followed.grafting) }
-        ensures lacks { (labels : List Label) (st : State) (from to : ℕ)
-            → IsReady (whole_in self.now) labels spot.now st from number grafting
-            → IsStretch (whole_in self.now) spot.now.statement spot.now.module_file from to
-            stretch.now
-            → IfOk result
-            (λ followed. IsLeast (MissesBetween (whole_in self.now) labels spot.now end st from to)
-            followed.missing) }
-    {
-        yv_expand_rounds::laws::turns_keep_augments();
-        let missing = self.first_missing(&grafting, spot, end, &stretch.idle);
-        match &stretch.giving {
-            Some(it) => {
-                let own = self.give(grafting, spot, number, it)?;
-                Ok(FollowedPath {
-                    grafting: own.grafting,
-                    missing: lesser(missing, own.missing),
-                    number: number + 1,
-                })
-            }
-            None => Ok(FollowedPath {
-                grafting,
-                missing,
-                number,
-            }),
+// The least refusal of these augments of a uses, which give nothing: that of the first which adds
+// to no node.
+fn first_missing(
+    plan: &Plan<'_, '_, '_>,
+    grafting: &Augmentation,
+    spot: &Spot,
+    end: usize,
+    idle: &[AddressedAugment],
+) -> Option<Refusal>
+    ensures { (labels : List Label) (st : State) → IsAugmentation labels st grafting.now
+        → AreOrdered (rows_in plan.now.rows.now) idle.now
+        → IsLeast
+        (MissesIdle (rows_in plan.now.rows.now) (added_to labels st end spot.now.group)
+        idle.now) result }
+{
+    for it in idle {
+        let missing = refusal_of_target(plan, grafting, spot.group, end, it);
+        if missing.is_some() {
+            return missing;
         }
     }
+    None
+}
 
-    // Whether an item is a uses that augments.
-    fn has_augments(&self, spot: &Spot) -> bool
-        requires { IsPlan self.now }
-        ensures { result ≡ (is_uses spot.now.label.kind
-            && not (length (augments_in (rows_in self.now.rows.now) spot.now.statement) == 0)) }
-    {
-        is_uses(spot.label.kind) && !self.augments_in(spot.statement).is_empty()
-    }
+// The turn of the numbered copy of an augment of a uses that gives something. Its refusal, if it
+// adds to no node.
+fn give(
+    plan: &Plan<'_, '_, '_>,
+    grafting: Augmentation,
+    spot: &Spot,
+    number: usize,
+    it: &AddressedAugment,
+) -> Result<TurnResult, AllocError>
+    requires few { number < 2 ^ 63 }
+    ensures state { (labels : List Label) (st : State) → IsAugmentation labels st grafting
+        → length labels ≡ length plan.now.items.now
+        → it.now.path.items ≡ path_in (whole_in plan.now) spot.now.module_file it.now.augment
+        → number < length st.ends
+        → IfOk result
+        (λ turned. IsAugmentation labels
+        (copy_turn (whole_in plan.now) labels spot.now number it.now.augment st)
+        turned.grafting) }
+    ensures lacks { (labels : List Label) (st : State) → IsAugmentation labels st grafting
+        → length labels ≡ length plan.now.items.now
+        → IfOk result
+        (λ turned. IsLeast
+        (RefusesIf (rows_in plan.now.rows.now) AugmentTarget (added_to labels st
+        (last_of (members_of st.groups (group_of_augment labels number))) spot.now.group
+        it.now.path.items ≡ None) it.now.augment)
+        turned.missing) }
+{
+    let group = plan.copy_group(number);
+    let limit = last_of(grafting.members(group));
+    let missing = refusal_of_target(plan, &grafting, spot.group, limit, it);
+    let grafting = grafting.turn(number, spot.group, limit, &it.path)?;
+    Ok(TurnResult { grafting, missing })
+}
 
-    // The turns of the augments of a uses, in order. The least refusal of one that adds to no node.
-    fn turns(
-        &self,
-        alloc: Global,
-        mut grafting: Augmentation,
-        spot: &Spot,
-        end: usize,
-        schedules: &mut Schedules,
-    ) -> Result<TurnResult, AllocError>
-        requires plan { IsPlan self.now }
-        requires schedules { AreSchedules (whole_in self.now) schedules.old }
-        requires few { IsNumbered (rows_in self.now.rows.now) spot.now }
-        ensures schedules { OnOk result (AreSchedules (whole_in self.now) schedules.new) }
-        ensures state { (labels : List Label) (st : State) → IsAugmentation labels st grafting
-            → length labels ≡ length self.now.items.now
-            → spot.now.first + copies_of (rows_in self.now.rows.now) spot.now ≤ length st.ends
-            → IfOk result
-            (λ turned. IsAugmentation labels (turns (whole_in self.now) labels spot.now st)
-            turned.grafting) }
-        ensures lacks { (labels : List Label) (st : State) → IsAugmentation labels st grafting
-            → length labels ≡ length self.now.items.now
-            → spot.now.first + copies_of (rows_in self.now.rows.now) spot.now ≤ length st.ends
-            → IfOk result
-            (λ turned. IsLeast (MissesOf (whole_in self.now) labels spot.now end st)
-            turned.missing) }
-    {
-        let mut least = None;
-        if !self.has_augments(spot) {
-            return Ok(TurnResult {
-                grafting,
-                missing: least,
-            });
+// The turns of a stretch of augments of a uses.
+fn follow(
+    plan: &Plan<'_, '_, '_>,
+    grafting: Augmentation,
+    spot: &Spot,
+    end: usize,
+    number: usize,
+    stretch: &Stretch,
+) -> Result<FollowedPath, AllocError>
+    requires few { number < 2 ^ 63 }
+    ensures number { (from to : ℕ)
+        → IsStretch (whole_in plan.now) spot.now.statement spot.now.module_file from to
+        stretch.now
+        → number ≡ next_number (rows_in plan.now.rows.now) spot.now from
+        → IfOk result
+        (λ followed. followed.number ≡ next_number (rows_in plan.now.rows.now) spot.now to) }
+    ensures ready { (labels : List Label) (st : State) (from to : ℕ)
+        → IsReady (whole_in plan.now) labels spot.now st from number grafting
+        → IsStretch (whole_in plan.now) spot.now.statement spot.now.module_file from to
+        stretch.now
+        → IfOk result
+        (λ followed. IsReady (whole_in plan.now) labels spot.now st to followed.number
+        followed.grafting) }
+    ensures lacks { (labels : List Label) (st : State) (from to : ℕ)
+        → IsReady (whole_in plan.now) labels spot.now st from number grafting
+        → IsStretch (whole_in plan.now) spot.now.statement spot.now.module_file from to
+        stretch.now
+        → IfOk result
+        (λ followed. IsLeast (MissesBetween (whole_in plan.now) labels spot.now end st from to)
+        followed.missing) }
+{
+    yv_expand_rounds::laws::turns_keep_augments();
+    let missing = first_missing(plan, &grafting, spot, end, &stretch.idle);
+    match &stretch.giving {
+        Some(it) => {
+            let own = give(plan, grafting, spot, number, it)?;
+            Ok(FollowedPath {
+                grafting: own.grafting,
+                missing: lesser(missing, own.missing),
+                number: number + 1,
+            })
         }
-        self.prepare(alloc, schedules, spot.statement, spot.module_file)?;
-        let mut number = spot.first;
-        for stretch in schedules.stretches(spot.statement) {
-            let followed = self.follow(grafting, spot, end, number, stretch)?;
-            least = lesser(least, followed.missing);
-            number = followed.number;
-            grafting = followed.grafting;
-        }
-        Ok(TurnResult {
-            grafting,
-            missing: least,
-        })
-    }
-
-    // The items enter from the last to the first, and before a uses enters its refines are
-    // followed, and its augments have their turns.
-    fn place(&self, alloc: Global, layout: &Layout, ends: &[usize]) -> Result<Placer, AllocError>
-        requires plan { IsPlan self.now }
-        requires lays { AreLaid (whole_in self.now) (laid_in layout.now) }
-        requires few { layout.now.copies < 2 ^ 63 }
-        ensures state { IfOk result (λ told.
-            IsAugmentation (labels_of (laid_in layout.now).spots)
-            (placement (whole_in self.now) (laid_in layout.now)) told.grafting) }
-        ensures lacks { IfOk result (λ told. (i : ℕ)
-            → IsLeast
-            (MissesAt (whole_in self.now) (laid_in layout.now) (slice_index_or ends.now i 0) i)
-            (slice_index_or told.missing.items i None)) }
-        ensures refines { IfOk result (λ told.
-            all_meant told.refined
-            ≡ refine_meanings (whole_in self.now) (laid_in layout.now)
-            (λ i. slice_index_or ends.now i 0)) }
-    {
-        yv_expand_rounds::laws::turns_keep_augments();
-        let labels = labels(alloc, &layout.spots)?;
-        let mut grafting = Augmentation::new(alloc, labels, layout.copies)?;
-        let mut missing = none_missing(alloc, layout.spots.len())?;
-        let mut aims = RefineTargets::new(alloc);
-        let mut schedules = Schedules::new(alloc);
-        let mut left = layout.spots.len();
-        while left > 0 {
-            left -= 1;
-            let spot = &layout.spots[left];
-            let end = end_of(ends, left);
-            self.refine_all(alloc, &grafting, spot, left, end, &mut aims)?;
-            let turned = self.turns(alloc, grafting, spot, end, &mut schedules)?;
-            note(&mut missing, left, turned.missing);
-            grafting = turned.grafting;
-            grafting.enter(left, spot.group)?;
-        }
-        Ok(Placer {
+        None => Ok(FollowedPath {
             grafting,
             missing,
-            refined: aims.refinements,
-        })
+            number,
+        }),
     }
+}
 
-    // The paths of the augments of modules.
-    fn module_paths(&self, alloc: Global) -> Result<Vec<Vec<usize>>, AllocError>
-        requires { IsPlan self.now }
-        ensures { IfOk result
-            (λ paths. map (λ p. p.items) paths.items ≡ module_paths (whole_in self.now)) }
-    {
-        let mut paths = Vec::new(alloc);
-        for augment in self.augments {
-            let path = self.path(alloc, self.own_module_file(*augment), *augment)?;
-            paths.push(path)?;
-        }
-        Ok(paths)
+// Whether an item is a uses that augments.
+fn has_augments(plan: &Plan<'_, '_, '_>, spot: &Spot) -> bool
+    requires { IsPlan plan.now }
+    ensures { result ≡ (is_uses spot.now.label.kind
+        && not (length (augments_in (rows_in plan.now.rows.now) spot.now.statement) == 0)) }
+{
+    is_uses(spot.label.kind) && !plan.augments_in(spot.statement).is_empty()
+}
+
+// The turns of the augments of a uses, in order. The least refusal of one that adds to no node.
+fn turns(
+    alloc: Global,
+    plan: &Plan<'_, '_, '_>,
+    mut grafting: Augmentation,
+    spot: &Spot,
+    end: usize,
+    schedules: &mut Schedules,
+) -> Result<TurnResult, AllocError>
+    requires plan { IsPlan plan.now }
+    requires schedules { AreSchedules (whole_in plan.now) schedules.old }
+    requires few { IsNumbered (rows_in plan.now.rows.now) spot.now }
+    ensures schedules { OnOk result (AreSchedules (whole_in plan.now) schedules.new) }
+    ensures state { (labels : List Label) (st : State) → IsAugmentation labels st grafting
+        → length labels ≡ length plan.now.items.now
+        → spot.now.first + copies_of (rows_in plan.now.rows.now) spot.now ≤ length st.ends
+        → IfOk result
+        (λ turned. IsAugmentation labels (turns (whole_in plan.now) labels spot.now st)
+        turned.grafting) }
+    ensures lacks { (labels : List Label) (st : State) → IsAugmentation labels st grafting
+        → length labels ≡ length plan.now.items.now
+        → spot.now.first + copies_of (rows_in plan.now.rows.now) spot.now ≤ length st.ends
+        → IfOk result
+        (λ turned. IsLeast (MissesOf (whole_in plan.now) labels spot.now end st)
+        turned.missing) }
+{
+    let mut least = None;
+    if !has_augments(plan, spot) {
+        return Ok(TurnResult {
+            grafting,
+            missing: least,
+        });
     }
+    prepare(alloc, plan, schedules, spot.statement, spot.module_file)?;
+    let mut number = spot.first;
+    for stretch in schedules.stretches(spot.statement) {
+        let followed = follow(plan, grafting, spot, end, number, stretch)?;
+        least = lesser(least, followed.missing);
+        number = followed.number;
+        grafting = followed.grafting;
+    }
+    Ok(TurnResult {
+        grafting,
+        missing: least,
+    })
+}
+
+// The items enter from the last to the first, and before a uses enters its refines are followed,
+// and its augments have their turns.
+fn place(
+    alloc: Global,
+    plan: &Plan<'_, '_, '_>,
+    layout: &Layout,
+    ends: &[usize],
+) -> Result<Placer, AllocError>
+    requires plan { IsPlan plan.now }
+    requires lays { AreLaid (whole_in plan.now) (laid_in layout.now) }
+    requires few { layout.now.copies < 2 ^ 63 }
+    ensures state { IfOk result (λ told.
+        IsAugmentation (labels_of (laid_in layout.now).spots)
+        (placement (whole_in plan.now) (laid_in layout.now)) told.grafting) }
+    ensures lacks { IfOk result (λ told. (i : ℕ)
+        → IsLeast
+        (MissesAt (whole_in plan.now) (laid_in layout.now) (slice_index_or ends.now i 0) i)
+        (slice_index_or told.missing.items i None)) }
+    ensures refines { IfOk result (λ told.
+        all_meant told.refined
+        ≡ refine_meanings (whole_in plan.now) (laid_in layout.now)
+        (λ i. slice_index_or ends.now i 0)) }
+{
+    yv_expand_rounds::laws::turns_keep_augments();
+    let labels = labels(alloc, &layout.spots)?;
+    let mut grafting = Augmentation::new(alloc, labels, layout.copies)?;
+    let mut missing = none_missing(alloc, layout.spots.len())?;
+    let mut aims = RefineTargets::new(alloc);
+    let mut schedules = Schedules::new(alloc);
+    let mut left = layout.spots.len();
+    while left > 0 {
+        left -= 1;
+        let spot = &layout.spots[left];
+        let end = end_of(ends, left);
+        plan.refine_all(alloc, &grafting, spot, left, end, &mut aims)?;
+        let turned = turns(alloc, plan, grafting, spot, end, &mut schedules)?;
+        note(&mut missing, left, turned.missing);
+        grafting = turned.grafting;
+        grafting.enter(left, spot.group)?;
+    }
+    Ok(Placer {
+        grafting,
+        missing,
+        refined: aims.refinements,
+    })
 }
 
 /// Where items are once all augments are applied.
@@ -403,12 +388,12 @@ pub fn apply_augments(
     yv_expand_rounds::laws::turns_keep_augments();
     let plan = Plan::read(alloc, rows, augments, items)?;
     let layout = plan.lay(alloc, items)?;
-    let ends = ends(alloc, items)?;
+    let ends = item_ends(alloc, items)?;
     let Placer {
         grafting,
         missing,
         refined,
-    } = plan.place(alloc, &layout, &ends)?;
+    } = place(alloc, &plan, &layout, &ends)?;
     let paths = plan.module_paths(alloc)?;
     let grafting = grafting.run(0, &paths)?;
     let Layout { spots, copies: _ } = layout;

@@ -4,12 +4,12 @@ ghost use Rattle.yv_statement.specs.Order.{IsLeast};
 ghost use Rattle.yv_expand.specs.Tree.{Item};
 ghost use Rattle.yv_expand_rounds.specs.Turns.{State};
 ghost use Rattle.yv_expand_augments.specs.FinalItems.{AreAugmentedTree};
-ghost use Rattle.yv_expand_augments.specs.Spots.{Whole};
+ghost use Rattle.yv_expand_uses.specs.Spots.{Whole};
 ghost use Rattle.yv_expand_augments.specs.MissingTargets.{MissesTarget};
 
-use crate::spot::Spot;
 use yv_expand_refines::Refinements;
 use yv_expand_rounds::ItemRow;
+use yv_expand_uses::Spot;
 use yv_statement::{Refusal, lesser};
 
 /// The final tree when all augments were applied, and what was known of items and refines before.

@@ -1,24 +1,13 @@
 //! Laws about the definitions only. These functions do nothing: the contract of each is the law.
-ghost use Rattle.std.specs.Prelude.{◌≡◌, ◌<◌, ℕ, Bool, List, None, Some, length, slice_get};
-ghost use Rattle.yv_link_scopes.specs.Rows.{Row};
-ghost use Rattle.yv_expand.specs.ItemLimit.{ParentsComeFirst};
+ghost use Rattle.std.specs.Prelude.{◌≡◌, ◌<◌, ℕ, List, None, Some, length, slice_get};
 ghost use Rattle.yv_expand.specs.Tree.{Item};
 ghost use Rattle.yv_expand_rounds.specs.Placements.{StandOnce};
 ghost use Rattle.yv_expand_rounds.specs.Tree.{IsTree, Tree, tree_list};
 ghost use Rattle.yv_expand_rounds.specs.Turns.{State, target_of};
 ghost use Rattle.yv_expand_rounds.specs.declared.row.ItemRow.{ItemRow};
 ghost use Rattle.yv_expand_augments.specs.Augmentation.{AreAugmented};
-ghost use Rattle.yv_expand_augments.specs.On.{AreOn};
-ghost use Rattle.yv_expand_augments.specs.Spots.{Whole, copy_group, labels_of, layout_of};
-ghost use Rattle.yv_expand_augments.specs.declared.spot.Spot.{Spot};
-
-/// There is one answer to which items are there by their conditions.
-pub fn if_features_have_one_answer()
-    ensures { (rows : List Row) (spots : List Spot) (items : List Item) (statements own : ℕ → Bool)
-        (a b : List Bool)
-        → ParentsComeFirst items → AreOn rows spots items statements own a
-        → AreOn rows spots items statements own b → a ≡ b }
-{}
+ghost use Rattle.yv_expand_uses.specs.Spots.{Whole, copy_group, labels_of, layout_of};
+ghost use Rattle.yv_expand_uses.specs.declared.spot.Spot.{Spot};
 
 /// Applying augments leads to one state.
 pub fn augments_come_to_one()

@@ -7,15 +7,13 @@ ghost use Rattle.yv_expand_rounds.specs.Tree.{Tree, tree_list};
 ghost use Rattle.yv_expand_augments.specs.MandatoryNodes.{ImposesMandatory, source_of, inside, is_configuration, is_container_without, is_given, is_mandatory, is_some_operation, nothing_around, told_in};
 ghost use Rattle.yv_expand_rounds.specs.Kinds.{is_container, is_operation_or_notification};
 ghost use Rattle.yv_expand_augments.specs.InnerMandatoryNodes.{AreShallow, around_marks, configuration_marks, counts, enter, mandatory_refusal, is_mandatory_added, meet};
-ghost use Rattle.yv_expand_augments.specs.Remains.{is_marked};
-ghost use Rattle.yv_expand_augments.specs.Spots.{spot_at};
+ghost use Rattle.yv_expand_uses.specs.On.{is_marked};
+ghost use Rattle.yv_expand_uses.specs.Spots.{spot_at};
 
-use crate::layout::{source_in, spot_at};
 use crate::placement::refusal_of_augment;
-use crate::remains::is_marked;
-use crate::spot::Spot;
 use std::alloc::{AllocError, Global};
 use yv_expand_rounds::{ItemRow, StatementKind};
+use yv_expand_uses::{Spot, is_marked, source_in, spot_at};
 use yv_link_scopes::Rows;
 use yv_statement::{Refusal, lesser};
 

@@ -4,17 +4,24 @@ ghost use Rattle.yv_statement.specs.Order.{IsLeast};
 ghost use Rattle.yv_link_scopes.specs.Views.{rows_in};
 ghost use Rattle.yv_expand_augments.specs.InnerPlacement.{placement_refusal, refusal_of_augment};
 ghost use Rattle.yv_expand_augments.specs.Placement.{PutsMisplaced, augment_around, augment_at};
-ghost use Rattle.yv_expand_rounds.specs.Kinds.{is_action_or_notification, is_data, is_part, takes};
-ghost use Rattle.yv_expand_augments.specs.Spots.{spot_at};
+ghost use Rattle.yv_expand_rounds.specs.Kinds.{is_action_or_notification, is_case, is_data, is_part, takes};
+ghost use Rattle.yv_expand_uses.specs.Spots.{spot_at};
 
-use crate::if_features::is_augment;
-use crate::kinds::{is_case, is_uses};
-use crate::layout::spot_at;
 use crate::refusals::refused_at;
-use crate::spot::Spot;
 use yv_expand_rounds::{ItemRow, StatementKind};
+use yv_expand_uses::{Spot, is_augment, is_uses, spot_at};
 use yv_link_scopes::Rows;
 use yv_statement::{Code, Refusal, lesser};
+
+// Whether an item is a case.
+fn is_case(kind: StatementKind) -> bool
+    ensures { result ≡ is_case kind }
+{
+    match kind {
+        StatementKind::Case => true,
+        _ => false,
+    }
+}
 
 // Whether it is a data definition, but no uses.
 fn is_data(kind: StatementKind) -> bool

@@ -8,12 +8,11 @@ ghost use Rattle.yv_expand_rounds.specs.Turns.{State};
 ghost use Rattle.yv_expand_augments.specs.Refusals.{BadTarget, HasNoTarget, RefusesIf, TooDeep};
 ghost use Rattle.yv_expand_augments.specs.InnerRefusals.{depth_refusal, is_absent, refusal_of_row};
 ghost use Rattle.yv_expand_augments.specs.FinalItems.{AreAugmentedItems};
-ghost use Rattle.yv_expand_augments.specs.Spots.{Whole};
+ghost use Rattle.yv_expand_uses.specs.Spots.{Whole};
 
 use crate::augmentation::AugmentedItems;
-use crate::kinds::is_uses;
-use crate::spot::Spot;
 use yv_expand_rounds::ItemRow;
+use yv_expand_uses::{Spot, is_uses};
 use yv_link_scopes::Rows;
 use yv_statement::{Code, Refusal, lesser, refusal_if};
 

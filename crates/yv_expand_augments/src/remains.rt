@@ -1,13 +1,12 @@
 //! What is left of the final tree.
 ghost use Rattle.std.specs.Prelude.{◌≡◌, ◌++◌, ◌&&◌, not, None, slice_get, IfOk, OnOk};
 ghost use Rattle.yv_expand_rounds.specs.Tree.{Tree, tree_list};
-ghost use Rattle.yv_expand_augments.specs.Remains.{is_left, is_marked, is_some_uses, remains};
+ghost use Rattle.yv_expand_augments.specs.Remains.{is_left, is_some_uses, remains};
 ghost use Rattle.yv_expand_augments.specs.InnerRemains.{cut_after, is_below, is_left_under, one_if, scan};
 
-use crate::kinds::is_uses;
-use crate::spot::Spot;
 use std::alloc::{AllocError, Global};
 use yv_expand_rounds::ItemRow;
+use yv_expand_uses::{Spot, is_marked, is_uses};
 
 // Whether an item stands below one of this depth.
 fn is_below(cut: Option<usize>, depth: usize) -> bool
@@ -17,13 +16,6 @@ fn is_below(cut: Option<usize>, depth: usize) -> bool
         Some(cut) => cut < depth,
         None => false,
     }
-}
-
-// Whether a number has a mark.
-pub(crate) fn is_marked(marks: &[bool], number: usize) -> bool
-    ensures { result ≡ is_marked marks.now number }
-{
-    marks.get(number).copied().unwrap_or(false)
 }
 
 // Whether an item is a uses, where there is one.

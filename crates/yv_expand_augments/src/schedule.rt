@@ -6,14 +6,16 @@ ghost use Rattle.std.specs.Ordering.{nat_cmp};
 ghost use Rattle.yv_statement.specs.Order.{IsUpTo};
 ghost use Rattle.yv_statement.specs.declared.refusal.Refusal.{Refusal};
 ghost use Rattle.yv_link_scopes.specs.Views.{rows_in};
-ghost use Rattle.yv_expand_augments.specs.Spots.{Whole};
-ghost use Rattle.yv_expand_augments.specs.MissingTargets.{augments_in};
+ghost use Rattle.yv_expand_uses.specs.Spots.{Whole};
+ghost use Rattle.yv_expand_uses.specs.AugmentOrder.{augments_in};
+ghost use Rattle.yv_expand_uses.specs.InnerPlan.{IsPlan, whole_in};
+ghost use Rattle.yv_expand_augments.specs.InnerSchedule.{AreSchedules, AreStretches, IsGathering, IsRefusalOf, IsSchedule, stretches_in};
 
-use crate::plan::Plan;
 use std::alloc::{AllocError, Global};
 use std::collections::{BTreeMap, BTreeSet};
 use std::mem;
 use yv_base_tables::PathTree;
+use yv_expand_uses::Plan;
 use yv_statement::{Code, Refusal};
 
 /// An augment with its path.
@@ -206,94 +208,96 @@ impl Schedules {
     }
 }
 
-impl Plan<'_, '_, '_> {
-    ghost use Rattle.yv_expand_augments.specs.InnerPlan.{IsPlan, whole_in};
-    ghost use Rattle.yv_expand_augments.specs.InnerSchedule.{AreSchedules, AreStretches, IsGathering, IsRefusalOf, IsSchedule, stretches_in};
-
-    // The refusal of an augment that adds to no node.
-    fn refusal_of(&self, augment: usize) -> Refusal
-        requires { augment < length (rows_in self.now.rows.now) }
-        ensures { IsRefusalOf (rows_in self.now.rows.now) augment result }
-    {
-        let entry = &self.rows.entries()[augment];
-        Refusal {
-            code: Code::AugmentTarget,
-            file: entry.file,
-            offset: entry.statement.offset(),
-            line: entry.statement.line(),
-        }
+// The refusal of an augment that adds to no node.
+fn refusal_of(plan: &Plan<'_, '_, '_>, augment: usize) -> Refusal
+    requires { augment < length (rows_in plan.now.rows.now) }
+    ensures { IsRefusalOf (rows_in plan.now.rows.now) augment result }
+{
+    let entry = &plan.rows.entries()[augment];
+    Refusal {
+        code: Code::AugmentTarget,
+        file: entry.file,
+        offset: entry.statement.offset(),
+        line: entry.statement.line(),
     }
+}
 
-    // Adds the next augment of a `uses`.
-    fn gather(
-        &self,
-        alloc: Global,
-        gathering: &mut ScheduleDraft,
-        statement: usize,
-        module_file: u32,
-        augment: usize,
-    ) -> Result<(), AllocError>
-        requires plan { IsPlan self.now }
-        requires within { augment < length (rows_in self.now.rows.now) }
-        ensures { (count : ℕ)
-            → IsGathering (whole_in self.now) statement module_file count gathering.old
-            → slice_get (augments_in (rows_in self.now.rows.now) statement) count ≡ Some augment
-            → OnOk result
-            (IsGathering (whole_in self.now) statement module_file (count + 1) gathering.new) }
-    {
-        let path = self.path(alloc, module_file, augment)?;
-        let it = AddressedAugment { augment, path };
-        if self.is_giving(statement, augment) {
-            gathering.close(alloc, Some(it))
-        } else {
-            gathering.note(alloc, it, self.refusal_of(augment))
-        }
+// Adds the next augment of a `uses`.
+fn gather(
+    alloc: Global,
+    plan: &Plan<'_, '_, '_>,
+    gathering: &mut ScheduleDraft,
+    statement: usize,
+    module_file: u32,
+    augment: usize,
+) -> Result<(), AllocError>
+    requires plan { IsPlan plan.now }
+    requires within { augment < length (rows_in plan.now.rows.now) }
+    ensures { (count : ℕ)
+        → IsGathering (whole_in plan.now) statement module_file count gathering.old
+        → slice_get (augments_in (rows_in plan.now.rows.now) statement) count ≡ Some augment
+        → OnOk result
+        (IsGathering (whole_in plan.now) statement module_file (count + 1) gathering.new) }
+{
+    let path = plan.path(alloc, module_file, augment)?;
+    let it = AddressedAugment { augment, path };
+    if plan.is_giving(statement, augment) {
+        gathering.close(alloc, Some(it))
+    } else {
+        gathering.note(alloc, it, refusal_of(plan, augment))
     }
+}
 
-    // The augments of a `uses` in the module of this file.
-    fn schedule(
-        &self,
-        alloc: Global,
-        statement: usize,
-        module_file: u32,
-    ) -> Result<Schedule, AllocError>
-        requires { IsPlan self.now }
-        ensures schedule { IfOk result (IsSchedule (whole_in self.now) statement) }
-        ensures module_file { IfOk result (λ schedule. schedule.module_file ≡ module_file) }
-    {
-        yv_base_tables::laws::a_number_is_listed_at_its_place();
-        let mut gathering = ScheduleDraft::new(alloc)?;
-        for augment in self.augments_in(statement) {
-            self.gather(alloc, &mut gathering, statement, module_file, *augment)?;
-        }
-        gathering.close(alloc, None)?;
-        let ScheduleDraft { stretches, .. } = gathering;
-        Ok(Schedule {
+// The augments of a `uses` in the module of this file.
+fn schedule_of_uses(
+    alloc: Global,
+    plan: &Plan<'_, '_, '_>,
+    statement: usize,
+    module_file: u32,
+) -> Result<Schedule, AllocError>
+    requires { IsPlan plan.now }
+    ensures schedule { IfOk result (IsSchedule (whole_in plan.now) statement) }
+    ensures module_file { IfOk result (λ schedule. schedule.module_file ≡ module_file) }
+{
+    yv_base_tables::laws::a_number_is_listed_at_its_place();
+    let mut gathering = ScheduleDraft::new(alloc)?;
+    for augment in plan.augments_in(statement) {
+        gather(
+            alloc,
+            plan,
+            &mut gathering,
+            statement,
             module_file,
-            stretches,
-        })
+            *augment,
+        )?;
     }
+    gathering.close(alloc, None)?;
+    let ScheduleDraft { stretches, .. } = gathering;
+    Ok(Schedule {
+        module_file,
+        stretches,
+    })
+}
 
-    /// Works out the augments of a `uses` in the module of this file, if they aren't kept.
-    pub(crate) fn prepare(
-        &self,
-        alloc: Global,
-        schedules: &mut Schedules,
-        statement: usize,
-        module_file: u32,
-    ) -> Result<(), AllocError>
-        requires plan { IsPlan self.now }
-        requires schedules { AreSchedules (whole_in self.now) schedules.old }
-        ensures schedules { OnOk result (AreSchedules (whole_in self.now) schedules.new) }
-        ensures ready { OnOk result (AreStretches (whole_in self.now) statement module_file 0
-            (length (augments_in (rows_in self.now.rows.now) statement))
-            (stretches_in schedules.new statement)) }
-    {
-        if schedules.is_ready(statement, module_file) {
-            return Ok(());
-        }
-        let schedule = self.schedule(alloc, statement, module_file)?;
-        schedules.known.insert(statement, schedule)?;
-        Ok(())
+/// Works out the augments of a `uses` in the module of this file, if they aren't kept.
+pub(crate) fn prepare(
+    alloc: Global,
+    plan: &Plan<'_, '_, '_>,
+    schedules: &mut Schedules,
+    statement: usize,
+    module_file: u32,
+) -> Result<(), AllocError>
+    requires plan { IsPlan plan.now }
+    requires schedules { AreSchedules (whole_in plan.now) schedules.old }
+    ensures schedules { OnOk result (AreSchedules (whole_in plan.now) schedules.new) }
+    ensures ready { OnOk result (AreStretches (whole_in plan.now) statement module_file 0
+        (length (augments_in (rows_in plan.now.rows.now) statement))
+        (stretches_in schedules.new statement)) }
+{
+    if schedules.is_ready(statement, module_file) {
+        return Ok(());
     }
+    let schedule = schedule_of_uses(alloc, plan, statement, module_file)?;
+    schedules.known.insert(statement, schedule)?;
+    Ok(())
 }

@@ -9,7 +9,7 @@ use Rattle.std.proofs.lemmas.Option.{slice_get_within}
 use Rattle.yv_link_scopes.specs.Files.{Files}
 use Rattle.yv_link_scopes.specs.Rows.{Row}
 use Rattle.yv_link_scopes.specs.RowList.{rows_of, statements_of}
-use Rattle.yv_expand_augments.specs.declared.spot.Spot.{Spot}
+use Rattle.yv_expand_uses.specs.declared.spot.Spot.{Spot}
 use Rattle.yv_expand_refines.specs.Targets.{RefineMeaning, meaning_of}
 use Rattle.yv_expand_refines.specs.declared.targets.RefineTarget.{RefineTarget}
 use Rattle.yv_expand_changes.specs.AllowedRefines.{is_some_fit}

@@ -13,7 +13,7 @@ use Rattle.yv_statement.proofs.Least.{least_lesser, least_more, least_same}
 use Rattle.yv_link_scopes.specs.Files.{Files}
 use Rattle.yv_link_scopes.specs.RowList.{rows_of}
 use Rattle.yv_expand_rounds.specs.declared.row.ItemRow.{ItemRow}
-use Rattle.yv_expand_augments.specs.declared.spot.Spot.{Spot}
+use Rattle.yv_expand_uses.specs.declared.spot.Spot.{Spot}
 use Rattle.yv_expand_refines.specs.Targets.{RefineMeaning, targets_at, meant_at, meaning_of, meant_from}
 use Rattle.yv_expand_refines.specs.declared.targets.RefineTarget.{RefineTarget}
 use Rattle.yv_expand_refines.specs.declared.targets.RefinedUses.{RefinedUses}

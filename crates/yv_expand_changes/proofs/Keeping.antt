@@ -6,7 +6,7 @@ use Rattle.std.proofs.lemmas.List.{length-set, map_push}
 use Rattle.std.proofs.lemmas.Option.{same_Some, slice_get_past}
 use Rattle.yv_link_scopes.specs.Files.{Files}
 use Rattle.yv_link_scopes.proofs.Firsts.{take_next}
-use Rattle.yv_expand_augments.specs.declared.spot.Spot.{Spot}
+use Rattle.yv_expand_uses.specs.declared.spot.Spot.{Spot}
 use Rattle.yv_expand_refines.specs.Changes.{sequence_at}
 use Rattle.yv_expand_refines.specs.Targets.{targets_at, targets_of, meant_at, meaning_of, meant_from}
 use Rattle.yv_expand_refines.specs.declared.targets.RefineTarget.{RefineTarget}

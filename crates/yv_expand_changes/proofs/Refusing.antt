@@ -14,7 +14,7 @@ use Rattle.yv_link_scopes.specs.Files.{Files}
 use Rattle.yv_link_scopes.specs.Rows.{Row}
 use Rattle.yv_link_scopes.specs.RowList.{rows_of}
 use Rattle.yv_expand_rounds.specs.declared.row.ItemRow.{ItemRow}
-use Rattle.yv_expand_augments.specs.declared.spot.Spot.{Spot}
+use Rattle.yv_expand_uses.specs.declared.spot.Spot.{Spot}
 use Rattle.yv_expand_refines.specs.Targets.{RefineMeaning}
 use Rattle.yv_expand_changes.specs.Changes.{is_fit_at_item}
 use Rattle.yv_expand_changes.specs.Refusals.{IsThere, IsWrong}

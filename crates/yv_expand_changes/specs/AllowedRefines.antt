@@ -1,13 +1,11 @@
 -- Which statements may refine which nodes (RFC 7950, section 7.13.2).
 use Rattle.std.specs.Prelude.{ℕ, ◌&&◌, ◌||◌, nat_le, Bool, false, List, [], ◌∷◌, if◌then◌else◌, Option, Some, None, codes, count_by}
-use Rattle.std.specs.List.{list_any, list_all}
+use Rattle.std.specs.List.{list_all}
 use Rattle.std.specs.Str.{bytes_eq}
 use Rattle.yv_statement.specs.Tree.{Tree, trees}
+use Rattle.yv_statement.specs.Words.{is_among}
 use Rattle.yv_link_scopes.specs.Files.{has_word}
 use Rattle.yv_link_scopes.specs.Rows.{Row, is_extended}
-
-abbrev pub is_among : List (List ℕ) → List ℕ → Bool
-is_among words name = list_any (λ word. bytes_eq word name) words
 
 abbrev pub with_default : List (List ℕ)
 with_default = codes "leaf" ∷ codes "leaf-list" ∷ codes "choice" ∷ []

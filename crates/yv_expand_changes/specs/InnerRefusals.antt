@@ -12,7 +12,7 @@ use Rattle.yv_statement.specs.declared.refusal.Refusal.{Refusal}
 use Rattle.yv_link_scopes.specs.Files.{Files}
 use Rattle.yv_link_scopes.specs.Rows.{Row}
 use Rattle.yv_expand_rounds.specs.declared.row.ItemRow.{ItemRow}
-use Rattle.yv_expand_augments.specs.declared.spot.Spot.{Spot}
+use Rattle.yv_expand_uses.specs.declared.spot.Spot.{Spot}
 use Rattle.yv_expand_refines.specs.Targets.{targets_at, meaning_of}
 use Rattle.yv_expand_refines.specs.declared.targets.RefineTarget.{RefineTarget}
 use Rattle.yv_expand_changes.specs.Refusals.{BadRefines, IsThere}

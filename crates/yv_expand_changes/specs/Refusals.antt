@@ -8,7 +8,7 @@ use Rattle.yv_link_scopes.specs.RowList.{rows_of}
 use Rattle.yv_expand_rounds.specs.declared.row.ItemRow.{ItemRow}
 use Rattle.yv_expand_augments.specs.Refusals.{RefusesIf}
 use Rattle.yv_expand_refines.specs.Targets.{RefineMeaning}
-use Rattle.yv_expand_augments.specs.declared.spot.Spot.{Spot}
+use Rattle.yv_expand_uses.specs.declared.spot.Spot.{Spot}
 use Rattle.yv_expand_changes.specs.Changes.{is_fit_at_item}
 
 -- the numbered item is one of these of the final tree

@@ -1,14 +1,14 @@
 //! Which statements may refine which nodes.
-ghost use Rattle.std.specs.Prelude.{◌≡◌, map, codes, count_by};
+ghost use Rattle.std.specs.Prelude.{◌≡◌, codes, count_by};
 ghost use Rattle.std.specs.List.{list_all};
 ghost use Rattle.yv_link_scopes.specs.Files.{has_word};
 ghost use Rattle.yv_link_scopes.specs.Rows.{is_extended};
 ghost use Rattle.yv_link_scopes.specs.Views.{lent_in};
-ghost use Rattle.yv_expand_changes.specs.AllowedRefines.{is_among, is_allowed, is_fit, may_have};
+ghost use Rattle.yv_expand_changes.specs.AllowedRefines.{is_allowed, is_fit, may_have};
 ghost use Rattle.yv_expand_changes.specs.InnerAlike.{is_fit_at};
 
 use yv_link_scopes::Rows;
-use yv_statement::Statement;
+use yv_statement::{Statement, is_among};
 
 static WITH_DEFAULT: [&str; 3] = ["leaf", "leaf-list", "choice"];
 
@@ -21,18 +21,6 @@ static WITH_ELEMENTS: [&str; 2] = ["list", "leaf-list"];
 static ELEMENT_LIMITS: [&str; 2] = ["min-elements", "max-elements"];
 
 static OF_ANY_NODE: [&str; 4] = ["config", "description", "reference", "if-feature"];
-
-// Whether one of the words is the name.
-fn is_among(words: &[&str], name: &str) -> bool
-    ensures { result ≡ is_among (map (λ w. w.now) words.now) name.now }
-{
-    for word in words {
-        if *word == name {
-            return true;
-        }
-    }
-    false
-}
 
 // Whether a keyword is an extension's.
 fn is_extended(keyword: &str) -> bool

@@ -5,7 +5,7 @@ ghost use Rattle.yv_statement.specs.Tree.{name_of as name_at};
 ghost use Rattle.yv_link_scopes.specs.Files.{has_word};
 ghost use Rattle.yv_link_scopes.specs.Views.{lent_in, trees_in};
 ghost use Rattle.yv_link.specs.LinkedFiles.{truth_in};
-ghost use Rattle.yv_expand_augments.specs.Remains.{is_marked};
+ghost use Rattle.yv_expand_uses.specs.On.{is_marked};
 ghost use Rattle.yv_expand_refines.specs.Changes.{each};
 ghost use Rattle.yv_expand_changes.specs.IfFeatures.{is_on, item_marks, statement_marks};
 ghost use Rattle.yv_expand_changes.specs.InnerIfFeatures.{is_on_in};
@@ -13,7 +13,7 @@ ghost use Rattle.yv_expand_changes.specs.InnerSequences.{known_of};
 
 use crate::sequences::known_of;
 use std::alloc::{AllocError, Global};
-use yv_expand_augments::Spot;
+use yv_expand_uses::Spot;
 use yv_expand_refines::Changes;
 use yv_link::Linked;
 use yv_link_scopes::{Rows, name_of};

@@ -11,7 +11,7 @@ ghost use Rattle.yv_expand_changes.specs.InnerLists.{lists_of};
 use crate::runs::read_runs;
 use crate::ways::{Way, is_same, read_ways};
 use std::alloc::{AllocError, Global};
-use yv_expand_augments::Spot;
+use yv_expand_uses::Spot;
 use yv_expand_refines::{Changes, RefineTarget, RefinedUses};
 use yv_link_scopes::Rows;
 

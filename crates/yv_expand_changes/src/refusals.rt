@@ -15,7 +15,7 @@ use crate::runs::way_at;
 use crate::ways::{Way, is_same, read_ways};
 use std::alloc::{AllocError, Global};
 use std::collections::BTreeSet;
-use yv_expand_augments::Spot;
+use yv_expand_uses::Spot;
 use yv_expand_refines::{RefineTarget, RefinedUses, Refinements};
 use yv_expand_rounds::ItemRow;
 use yv_link_scopes::Rows;
@@ -172,6 +172,10 @@ pub fn first_wrong(
     ensures { IfOk result
         (IsLeast (BadRefines (lent_in rows.now) spots.now (all_meant refinements.now) tree.now)) }
 {
+    // Most files refine nothing, and then the items aren't needed.
+    if refinements.uses.as_slice().is_empty() {
+        return Ok(None);
+    }
     let aims = refinements.aims.as_slice();
     let items = items_of(alloc, tree)?;
     let mut judged = nothing_judged(alloc, aims)?;

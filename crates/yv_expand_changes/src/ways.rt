@@ -9,7 +9,7 @@ ghost use Rattle.yv_expand_changes.specs.InnerFirstPaths.{AreFirsts, are_rising,
 
 use std::alloc::{AllocError, Global};
 use std::collections::BTreeMap;
-use yv_expand_augments::Spot;
+use yv_expand_uses::Spot;
 
 /// Where a path leads at a copy of a `uses`, as far as copies that are alike agree on it.
 #[derive(Clone, Copy, Debug, PartialEq, Eq)]

@@ -11,7 +11,8 @@ use Rattle.yv_link_scopes.specs.RowList.{rows_of}
 use Rattle.yv_link_scopes.specs.Rows.{Row, name_in}
 use Rattle.yv_link_scopes.specs.declared.kind.NameKind.{NameKind}
 use Rattle.yv_link_scopes.specs.declared.kind.NameKind.TheVariants.{Prefix, Include, Typedef, Grouping, Feature, Identity, Extension}
-use Rattle.yv_link_definitions.specs.BuiltIn.{is_among, is_built_in}
+use Rattle.yv_link_definitions.specs.BuiltIn.{is_built_in}
+use Rattle.yv_statement.specs.Words.{is_among}
 use Rattle.yv_link_definitions.specs.Refers.{RefersTo, is_type, is_uses, names_definition}
 use Rattle.yv_expand.specs.Units.{nodes, operations}
 use Rattle.yv_expand.specs.StatementBlocks.{block_of, is_augment, is_node_or_uses, is_operation, those, is_refine}

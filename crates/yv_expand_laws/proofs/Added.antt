@@ -18,7 +18,7 @@ use Rattle.yv_expand.specs.Expansion.{IsWhole}
 use Rattle.yv_expand.specs.Expands.{Expands}
 use Rattle.yv_expand.specs.Expands.Expands.{nothing, node, operation, other, uses}
 use Rattle.yv_expand_rounds.specs.Kinds.{is_uses}
-use Rattle.yv_expand_augments.specs.Kinds.{kind_of}
+use Rattle.yv_expand_uses.specs.Kinds.{kind_of}
 use Rattle.yv_expand_tree.proofs.Standing.{in_first, in_lists, in_second, listed_long}
 use Rattle.yv_expand_definition.specs.Expansion.{AllRefer}
 use Rattle.yv_expand_laws.proofs.Finding.{not_none}

@@ -10,7 +10,7 @@ use Rattle.yv_expand_rounds.specs.Groups.{group_of_augment}
 use Rattle.yv_expand_rounds.specs.Tree.{IsTree, Tree, tree_list}
 use Rattle.yv_expand_rounds.specs.Turns.{State, target_of}
 use Rattle.yv_expand_augments.specs.Augmentation.{AreAugmented}
-use Rattle.yv_expand_augments.specs.Spots.{Whole}
+use Rattle.yv_expand_uses.specs.Spots.{Whole}
 use Rattle.yv_expand_changes.specs.Refusals.{IsThere}
 use Rattle.yv_expand_definition.specs.Expansion.{Expand, Tops}
 use Rattle.yv_expand_definition.specs.Gives.{Product, Wrong}

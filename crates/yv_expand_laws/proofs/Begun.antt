@@ -11,9 +11,9 @@ use Rattle.yv_expand.specs.Tree.{Item, Tree, all_of, count, join, item_list}
 use Rattle.yv_expand_rounds.specs.declared.label.Label.{Label}
 use Rattle.yv_expand_rounds.specs.Placements.{nothing}
 use Rattle.yv_expand_augments.specs.Augmentation.{placement, placed_from}
-use Rattle.yv_expand_augments.specs.InnerEnds.{is_from_at}
-use Rattle.yv_expand_augments.specs.Spots.{LayoutView, Whole, labels_of, layout_of, laid_from, whole}
-use Rattle.yv_expand_augments.specs.declared.spot.Spot.{Spot}
+use Rattle.yv_expand_uses.specs.InnerEnds.{is_from_at}
+use Rattle.yv_expand_uses.specs.Spots.{LayoutView, Whole, labels_of, layout_of, laid_from, whole}
+use Rattle.yv_expand_uses.specs.declared.spot.Spot.{Spot}
 use Rattle.yv_expand_definition.specs.Expansion.{Tops}
 use Rattle.yv_expand_definition.specs.Gives.{Product}
 use Rattle.yv_expand_laws.specs.FirstItems.{BlocksMarked, first_state}

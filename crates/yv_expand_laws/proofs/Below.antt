@@ -19,10 +19,11 @@ use Rattle.yv_expand_rounds.specs.Tree.{Make, Tree}
 use Rattle.yv_expand_rounds.specs.Tree.Make.{no_items, one_more as one_more_item}
 use Rattle.yv_expand_rounds.specs.Tree as by_number
 use Rattle.yv_expand_rounds.specs.Turns.{State, give, is_applied, is_some_target, settle, target, turn}
-use Rattle.yv_expand_augments.specs.AugmentOrder.{augments_giving, is_giving, ordinal, place_of}
-use Rattle.yv_expand_augments.specs.Augmentation.{AreAugmented, copy_turn, last_of, module_paths, path_in, placed_from, turns, turns_from}
-use Rattle.yv_expand_augments.specs.Spots.{LayoutView, Whole, copy_group, group_below, labels_of, layout_of, laid_from, one_more, spot_at, spot_of, top_group_of, top_group, used_group}
-use Rattle.yv_expand_augments.specs.declared.spot.Spot.{Spot}
+use Rattle.yv_expand_uses.specs.AugmentOrder.{augments_giving, is_giving, ordinal, place_of}
+use Rattle.yv_expand_augments.specs.Augmentation.{AreAugmented, copy_turn, last_of, placed_from, turns, turns_from}
+use Rattle.yv_expand_uses.specs.Paths.{module_paths, path_in}
+use Rattle.yv_expand_uses.specs.Spots.{LayoutView, Whole, copy_group, group_below, labels_of, layout_of, laid_from, one_more, spot_at, spot_of, top_group_of, top_group, used_group}
+use Rattle.yv_expand_uses.specs.declared.spot.Spot.{Spot}
 use Rattle.yv_expand.proofs.UnitListing.{pushed_at}
 use Rattle.yv_expand_laws.proofs.Finding.{not_none}
 use Rattle.yv_expand_laws.proofs.Kinding.{uses_only}

@@ -13,14 +13,16 @@ use Rattle.yv_expand_rounds.specs.Placements.{HaveEntered, StandOnce, enter}
 use Rattle.yv_expand_rounds.specs.Rounds.{AreApplied}
 use Rattle.yv_expand_rounds.specs.Tree.{AreRows, IsTree, StandsInTree, Tree, group_under, tree_list}
 use Rattle.yv_expand_rounds.specs.Turns.{State, given_group, group_of_target, target, target_of, turn}
-use Rattle.yv_expand_augments.specs.AugmentOrder.{augments_giving, is_giving}
-use Rattle.yv_expand_augments.specs.Augmentation.{AreAugmented, module_paths, placement, placed_from, turns}
-use Rattle.yv_expand_augments.specs.InnerLayout.{AreLaid, Fits}
+use Rattle.yv_expand_uses.specs.AugmentOrder.{augments_giving, is_giving}
+use Rattle.yv_expand_augments.specs.Augmentation.{AreAugmented, placement, placed_from, turns}
+use Rattle.yv_expand_uses.specs.Paths.{module_paths}
+use Rattle.yv_expand_uses.specs.InnerLayout.{AreLaid, Fits}
 use Rattle.yv_expand_rounds.specs.Kinds.{is_uses}
-use Rattle.yv_expand_augments.specs.Spots.{LayoutView, Whole, copies_of, copy_group, labels_of, layout_of}
-use Rattle.yv_expand_augments.specs.MissingTargets.{augments_in, next_number}
-use Rattle.yv_expand_augments.specs.declared.spot.Spot.{Spot}
-use Rattle.yv_expand_augments.proofs.Bounds.{laid_whole}
+use Rattle.yv_expand_uses.specs.Spots.{LayoutView, Whole, copies_of, copy_group, labels_of, layout_of}
+use Rattle.yv_expand_uses.specs.AugmentOrder.{augments_in}
+use Rattle.yv_expand_augments.specs.MissingTargets.{next_number}
+use Rattle.yv_expand_uses.specs.declared.spot.Spot.{Spot}
+use Rattle.yv_expand_uses.proofs.Bounds.{laid_whole}
 use Rattle.yv_expand_augments.proofs.Entering.{placed_entered, spot_entered, whole_entered}
 use Rattle.yv_expand_augments.proofs.Given.{once_of}
 use Rattle.yv_expand_augments.proofs.Turning.{number_within}

@@ -15,15 +15,17 @@ use Rattle.yv_expand_rounds.specs.Paths.{path_end}
 use Rattle.yv_expand_rounds.specs.Placements.{HaveEntered}
 use Rattle.yv_expand_rounds.specs.Rounds.{round, rounds}
 use Rattle.yv_expand_rounds.specs.Turns.{State, is_applied, is_some, resolve, settle, target, turn}
-use Rattle.yv_expand_augments.specs.Ends.{end_at}
-use Rattle.yv_expand_augments.specs.AugmentOrder.{augments_giving, is_giving}
-use Rattle.yv_expand_augments.specs.Augmentation.{copy_turn, last_of, module_paths, path_in, placement, placed_from, turns, turns_from}
-use Rattle.yv_expand_augments.specs.InnerLayout.{AreLaid}
+use Rattle.yv_expand_uses.specs.Ends.{end_at}
+use Rattle.yv_expand_uses.specs.AugmentOrder.{augments_giving, is_giving}
+use Rattle.yv_expand_augments.specs.Augmentation.{copy_turn, last_of, placement, placed_from, turns, turns_from}
+use Rattle.yv_expand_uses.specs.Paths.{module_paths, path_in}
+use Rattle.yv_expand_uses.specs.InnerLayout.{AreLaid}
 use Rattle.yv_expand_rounds.specs.Kinds.{is_uses}
-use Rattle.yv_expand_augments.specs.Spots.{LayoutView, Whole, copies_of, labels_of, layout_of, laid_from, one_more, spot_of}
-use Rattle.yv_expand_augments.specs.MissingTargets.{after_turns, augments_in, had_turns, next_number}
-use Rattle.yv_expand_augments.specs.declared.spot.Spot.{Spot}
-use Rattle.yv_expand_augments.proofs.Bounds.{laid_whole}
+use Rattle.yv_expand_uses.specs.Spots.{LayoutView, Whole, copies_of, labels_of, layout_of, laid_from, one_more, spot_of}
+use Rattle.yv_expand_augments.specs.MissingTargets.{after_turns, had_turns, next_number}
+use Rattle.yv_expand_uses.specs.AugmentOrder.{augments_in}
+use Rattle.yv_expand_uses.specs.declared.spot.Spot.{Spot}
+use Rattle.yv_expand_uses.proofs.Bounds.{laid_whole}
 use Rattle.yv_expand_augments.proofs.Entering.{placed_entered, turns_entered}
 use Rattle.yv_expand_augments.proofs.Turning.{giving_filtered, number_within}
 use Rattle.yv_expand_tree.proofs.Standing.{in_first, in_second}

@@ -19,8 +19,8 @@ use Rattle.yv_expand_rounds.specs.Tree as by_number
 use Rattle.yv_expand_augments.specs.Refusals.{TooDeep}
 use Rattle.yv_expand_augments.specs.Augmentation.{AreAugmented}
 use Rattle.yv_expand_rounds.specs.Kinds.{is_uses}
-use Rattle.yv_expand_augments.specs.Spots.{Whole, labels_of, layout_of, whole}
-use Rattle.yv_expand_augments.specs.declared.spot.Spot.{Spot}
+use Rattle.yv_expand_uses.specs.Spots.{Whole, labels_of, layout_of, whole}
+use Rattle.yv_expand_uses.specs.declared.spot.Spot.{Spot}
 use Rattle.yv_expand_tree.specs.Final.{spots_of, final_items}
 use Rattle.yv_expand_tree.specs.FileOrder.{marks_of}
 use Rattle.yv_expand_tree.proofs.Standing.{Every, every_row, in_first, in_lists, in_second}

@@ -9,7 +9,7 @@ use Rattle.yv_expand.specs.Tree as expansion
 use Rattle.yv_expand_rounds.specs.declared.label.Label.{Label}
 use Rattle.yv_expand.specs.Expands.{Expands}
 use Rattle.yv_expand.specs.Expands.Expands.{nothing, other, node, operation, uses}
-use Rattle.yv_expand_augments.specs.Spots.{LayoutView, Whole}
+use Rattle.yv_expand_uses.specs.Spots.{LayoutView, Whole}
 use Rattle.yv_expand_definition.specs.Expansion.{AllRefer}
 use Rattle.yv_expand_laws.specs.Blocks.{Block}
 use Rattle.yv_expand_laws.specs.Expansions.{ExpansionLies, spot_view}

@@ -9,8 +9,8 @@ use Rattle.yv_expand_rounds.specs.declared.label.Label.{Label}
 use Rattle.yv_expand_rounds.specs.Groups.{group_of_augment, members_of}
 use Rattle.yv_expand_rounds.specs.Order.{is_given, is_some_given}
 use Rattle.yv_expand_rounds.specs.Placements.{nothing}
-use Rattle.yv_expand_augments.specs.Spots.{Whole, source_in, labels_of, layout_of}
-use Rattle.yv_expand_augments.specs.declared.spot.Spot.{Spot as LaidSpot}
+use Rattle.yv_expand_uses.specs.Spots.{Whole, source_in, labels_of, layout_of}
+use Rattle.yv_expand_uses.specs.declared.spot.Spot.{Spot as LaidSpot}
 use Rattle.yv_expand_tree.proofs.Standing.{in_lists}
 use Rattle.yv_expand_laws.specs.FirstItems.{BlocksMarked, first_state}
 use Rattle.yv_expand_laws.specs.Blocks.{Augments, Block, augment, no_augments, run_all, uses}

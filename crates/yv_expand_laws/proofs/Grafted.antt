@@ -20,11 +20,12 @@ use Rattle.yv_expand_rounds.specs.Tree.{AreInOrder, IsTree, Make, Tree, item, tr
 use Rattle.yv_expand_rounds.specs.Tree as by_number
 use Rattle.yv_expand_rounds.specs.Tree.Make.{no_items as none_made, one_more as one_more_made}
 use Rattle.yv_expand_rounds.specs.Turns.{State, give, is_applied, is_some, is_some_target, settle, target, target_of, turn}
-use Rattle.yv_expand_augments.specs.AugmentOrder.{augments_giving}
-use Rattle.yv_expand_augments.specs.Augmentation.{copy_turn, last_of, module_paths, path_in, placement, placed_from, turns_from}
+use Rattle.yv_expand_uses.specs.AugmentOrder.{augments_giving}
+use Rattle.yv_expand_augments.specs.Augmentation.{copy_turn, last_of, placement, placed_from, turns_from}
+use Rattle.yv_expand_uses.specs.Paths.{module_paths, path_in}
 use Rattle.yv_expand_rounds.specs.Kinds.{is_uses}
-use Rattle.yv_expand_augments.specs.Spots.{LayoutView, Whole, labels_of, layout_of, laid_from, one_more, spot_of}
-use Rattle.yv_expand_augments.specs.declared.spot.Spot.{Spot}
+use Rattle.yv_expand_uses.specs.Spots.{LayoutView, Whole, labels_of, layout_of, laid_from, one_more, spot_of}
+use Rattle.yv_expand_uses.specs.declared.spot.Spot.{Spot}
 use Rattle.yv_expand_augments.proofs.Entering.{whole_entered}
 use Rattle.yv_expand_changes.specs.Refusals.{IsThere}
 use Rattle.yv_expand_tree.proofs.Standing.{in_first, in_lists, in_second}

@@ -20,15 +20,15 @@ use Rattle.yv_expand_rounds.specs.declared.row.ItemRow.{ItemRow}
 use Rattle.yv_expand_rounds.specs.Kinds as kinds_are
 use Rattle.yv_expand_rounds.specs.Tree.{IsTree, Tree, item, tree_list}
 use Rattle.yv_expand_rounds.specs.Tree as by_number
-use Rattle.yv_expand_augments.specs.Ends.{end_at}
+use Rattle.yv_expand_uses.specs.Ends.{end_at}
 use Rattle.yv_expand_augments.specs.Augmentation.{AreAugmented}
 use Rattle.yv_expand_augments.specs.MandatoryNodes.{Around, ImposesMandatory, MarksView, source_of, inside, is_container_without, is_given, is_some_operation, nothing_around}
 use Rattle.yv_expand_rounds.specs.Kinds.{is_container, is_operation_or_notification, is_uses}
 use Rattle.yv_expand_augments.specs.MandatoryNodes as by_item
-use Rattle.yv_expand_augments.specs.Kinds.{kind_of}
-use Rattle.yv_expand_augments.specs.RefineTargets.{refined_all}
-use Rattle.yv_expand_augments.specs.Spots.{Whole, source_in, labels_of, layout_of, spot_at, whole}
-use Rattle.yv_expand_augments.specs.declared.spot.Spot.{Spot}
+use Rattle.yv_expand_uses.specs.Kinds.{kind_of}
+use Rattle.yv_expand_augments.specs.RefineMeanings.{refined_all}
+use Rattle.yv_expand_uses.specs.Spots.{Whole, source_in, labels_of, layout_of, spot_at, whole}
+use Rattle.yv_expand_uses.specs.declared.spot.Spot.{Spot}
 use Rattle.yv_expand_changes.specs.Changes.{all_changes, changes, changes_from}
 use Rattle.yv_expand_refines.specs.Targets.{RefineMeaning}
 use Rattle.yv_node_properties.specs.Marks.{is_mandatory, stated_of}

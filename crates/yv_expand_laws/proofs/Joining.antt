@@ -2,7 +2,7 @@
 use Rattle.std.proofs.Common.{◌≡◌, ℕ, ◌+◌, List, [], ◌∷◌, ◌++◌, append_assoc, refl, sym, ◌∙◌, ap, subst, arith, Option, Some}
 use Rattle.yv_expand.specs.Tree.{Item, Tree, count, item, join, item_list, none}
 use Rattle.yv_expand_rounds.specs.declared.label.Label.{Label}
-use Rattle.yv_expand_augments.specs.Spots.{LayoutView, Whole, laid_from, one_more}
+use Rattle.yv_expand_uses.specs.Spots.{LayoutView, Whole, laid_from, one_more}
 use Rattle.yv_expand_laws.specs.Blocks.{Block, uses}
 use Rattle.yv_expand_laws.specs.Blocks as block
 use Rattle.yv_expand_laws.specs.Layout.{Lie, Spot}

@@ -6,12 +6,12 @@ use Rattle.std.proofs.lemmas.Option.{same_Some, slice_get_within}
 use Rattle.yv_link_scopes.specs.Rows.{Row}
 use Rattle.yv_expand.specs.Origin.{number_of}
 use Rattle.yv_expand.specs.Tree.{Item}
-use Rattle.yv_expand_augments.specs.AugmentOrder.{augments_giving, is_giving, ordinal, place_of}
+use Rattle.yv_expand_uses.specs.AugmentOrder.{augments_giving, is_giving, ordinal, place_of}
 use Rattle.yv_expand_rounds.specs.Kinds.{is_uses}
-use Rattle.yv_expand_augments.specs.Spots.{LayoutView, Whole, copies_of, copy_group, group_below, laid_from, layout_of, one_more, spot_at, spot_of, top_group, top_group_of, used_group}
-use Rattle.yv_expand_augments.specs.declared.spot.Spot.{Spot}
-use Rattle.yv_expand_augments.proofs.Bounds.{ordinal_within}
-use Rattle.yv_expand_augments.proofs.Counting.{place_within}
+use Rattle.yv_expand_uses.specs.Spots.{LayoutView, Whole, copies_of, copy_group, group_below, laid_from, layout_of, one_more, spot_at, spot_of, top_group, top_group_of, used_group}
+use Rattle.yv_expand_uses.specs.declared.spot.Spot.{Spot}
+use Rattle.yv_expand_uses.proofs.Bounds.{ordinal_within}
+use Rattle.yv_expand_uses.proofs.Counting.{place_within}
 use Rattle.yv_expand_tree.proofs.Standing.{in_first}
 use Rattle.yv_expand_laws.proofs.CopyEnds.{past_modules, rises}
 use Rattle.yv_expand_laws.proofs.Finding.{not_none}

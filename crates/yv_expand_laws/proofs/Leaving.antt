@@ -15,12 +15,13 @@ use Rattle.yv_link_features.specs.Refusals.{BadFeatures}
 use Rattle.yv_link_features.specs.On.{AllHoldBy, Holds, is_if_feature_of}
 use Rattle.yv_expand.specs.Origin.{number_of}
 use Rattle.yv_expand_rounds.specs.Tree.{Tree, item, none as no_item}
-use Rattle.yv_expand_augments.specs.Remains.{is_left, is_marked, is_some_uses}
+use Rattle.yv_expand_augments.specs.Remains.{is_left, is_some_uses}
+use Rattle.yv_expand_uses.specs.On.{is_marked}
 use Rattle.yv_expand_augments.specs.Remains as by_number
-use Rattle.yv_expand_augments.specs.On.{AreOn}
-use Rattle.yv_expand_augments.specs.RefineTargets.{refined_all}
-use Rattle.yv_expand_augments.specs.Spots.{Whole, labels_of, layout_of, whole}
-use Rattle.yv_expand_augments.specs.declared.spot.Spot.{Spot}
+use Rattle.yv_expand_uses.specs.On.{AreOn}
+use Rattle.yv_expand_augments.specs.RefineMeanings.{refined_all}
+use Rattle.yv_expand_uses.specs.Spots.{Whole, labels_of, layout_of, whole}
+use Rattle.yv_expand_uses.specs.declared.spot.Spot.{Spot}
 use Rattle.yv_expand_changes.specs.Changes.{all_changes}
 use Rattle.yv_expand_changes.specs.Truth.{Truth}
 use Rattle.yv_expand_changes.specs.IfFeatures.{item_marks, statement_marks}

@@ -13,12 +13,12 @@ use Rattle.yv_link_definitions.specs.Refers as refers
 use Rattle.yv_link_definitions.specs.Refers.{RefersTo}
 use Rattle.yv_expand.specs.StatementBlocks.{block_of, first_of, input_of, is_at, is_input, is_node_or_uses, is_operation, is_output, output_of, part, part_block}
 use Rattle.yv_expand_rounds.specs.declared.label.Label.{Label}
-use Rattle.yv_expand_augments.specs.AugmentOrder.{augments_giving}
-use Rattle.yv_expand_augments.specs.Augmentation.{path_in}
+use Rattle.yv_expand_uses.specs.AugmentOrder.{augments_giving}
+use Rattle.yv_expand_uses.specs.Paths.{path_in}
 use Rattle.yv_expand_rounds.specs.Kinds.{is_uses}
-use Rattle.yv_expand_augments.specs.Kinds.{kind_at, kind_of}
-use Rattle.yv_expand_augments.specs.Spots.{LayoutView, Whole, copies_of, group_below, laid_from, spot_at, spot_of, used_group}
-use Rattle.yv_expand_augments.specs.declared.spot.Spot.{Spot}
+use Rattle.yv_expand_uses.specs.Kinds.{kind_at, kind_of}
+use Rattle.yv_expand_uses.specs.Spots.{LayoutView, Whole, copies_of, group_below, laid_from, spot_at, spot_of, used_group}
+use Rattle.yv_expand_uses.specs.declared.spot.Spot.{Spot}
 use Rattle.yv_expand_laws.specs.Blocks.{Augments, Block, augment, no_augments, uses}
 use Rattle.yv_expand_laws.specs.Blocks as block
 use Rattle.yv_expand_laws.specs.Expansions.{spot_view}

@@ -15,14 +15,14 @@ use Rattle.yv_expand_rounds.specs.declared.label.Label.{Label}
 use Rattle.yv_expand_rounds.specs.Groups.{group_of_augment, members_of}
 use Rattle.yv_expand_rounds.specs.Placements.{nothing}
 use Rattle.yv_expand_rounds.specs.Turns.{State}
-use Rattle.yv_expand_augments.specs.Ends.{end_at, is_above, is_from}
-use Rattle.yv_expand_augments.specs.Ends as ends
+use Rattle.yv_expand_uses.specs.Ends.{end_at, is_above, is_from}
+use Rattle.yv_expand_uses.specs.Ends as ends
 use Rattle.yv_expand_augments.specs.Augmentation.{placed_from}
-use Rattle.yv_expand_augments.specs.InnerEnds.{is_from_at}
-use Rattle.yv_expand_augments.specs.RefineTargets.{refined_from}
-use Rattle.yv_expand_augments.specs.Spots.{LayoutView, Whole, labels_of, layout_of, whole}
-use Rattle.yv_expand_augments.specs.declared.spot.Spot.{Spot}
-use Rattle.yv_expand_augments.proofs.Ending.{drop_drop, run_no, run_yes}
+use Rattle.yv_expand_uses.specs.InnerEnds.{is_from_at}
+use Rattle.yv_expand_augments.specs.RefineMeanings.{refined_from}
+use Rattle.yv_expand_uses.specs.Spots.{LayoutView, Whole, labels_of, layout_of, whole}
+use Rattle.yv_expand_uses.specs.declared.spot.Spot.{Spot}
+use Rattle.yv_expand_uses.proofs.Ending.{drop_drop, run_no, run_yes}
 use Rattle.yv_expand_changes.specs.Changes.{changes}
 use Rattle.yv_expand_refines.specs.Targets.{RefineMeaning}
 use Rattle.yv_expand_definition.specs.Gives.{Product}

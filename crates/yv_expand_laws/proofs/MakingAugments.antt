@@ -12,15 +12,16 @@ use Rattle.yv_expand.specs.Tree.{Item, Tree, count, join, item_list, none}
 use Rattle.yv_expand_rounds.specs.declared.label.Label.{Label}
 use Rattle.yv_expand_rounds.specs.Groups.{group_of_augment, members_of}
 use Rattle.yv_expand_rounds.specs.Turns.{State}
-use Rattle.yv_expand_augments.specs.Ends.{end_at}
-use Rattle.yv_expand_augments.specs.AugmentOrder.{augments_giving, is_giving, ordinal}
-use Rattle.yv_expand_augments.specs.Augmentation.{path_in, placed_from}
-use Rattle.yv_expand_augments.specs.InnerEnds.{is_from_at}
+use Rattle.yv_expand_uses.specs.Ends.{end_at}
+use Rattle.yv_expand_uses.specs.AugmentOrder.{augments_giving, is_giving, ordinal}
+use Rattle.yv_expand_uses.specs.Paths.{path_in}
+use Rattle.yv_expand_augments.specs.Augmentation.{placed_from}
+use Rattle.yv_expand_uses.specs.InnerEnds.{is_from_at}
 use Rattle.yv_expand_rounds.specs.Kinds.{is_uses}
 use Rattle.yv_expand_augments.specs.Placement.{augment_at}
-use Rattle.yv_expand_augments.specs.RefineTargets.{refined_from}
-use Rattle.yv_expand_augments.specs.Spots.{LayoutView, Whole, copy_group, module_file_below, labels_of, layout_of, laid_from, whole}
-use Rattle.yv_expand_augments.specs.declared.spot.Spot.{Spot}
+use Rattle.yv_expand_augments.specs.RefineMeanings.{refined_from}
+use Rattle.yv_expand_uses.specs.Spots.{LayoutView, Whole, copy_group, module_file_below, labels_of, layout_of, laid_from, whole}
+use Rattle.yv_expand_uses.specs.declared.spot.Spot.{Spot}
 use Rattle.yv_expand_refines.specs.Targets.{RefineMeaning}
 use Rattle.yv_expand_definition.specs.Gives.{AugmentsGive, Product, Reaches, Wrong, add_block, judge, nothing as made_none, add_refusal, takes_block}
 use Rattle.yv_expand_definition.specs.Gives.AugmentsGive.{none_left as augmented_all, adds as augment_adds, without_target as augment_misses}

@@ -22,14 +22,15 @@ use Rattle.yv_expand_rounds.specs.declared.statement_kind.StatementKind.TheVaria
 use Rattle.yv_expand_rounds.specs.declared.label.Label.{Label}
 use Rattle.yv_expand_rounds.specs.Kinds as kinds_are
 use Rattle.yv_expand_rounds.specs.Turns.{State}
-use Rattle.yv_expand_augments.specs.Ends.{end_at}
+use Rattle.yv_expand_uses.specs.Ends.{end_at}
 use Rattle.yv_expand_augments.specs.Augmentation.{placed_from}
 use Rattle.yv_expand_rounds.specs.Kinds.{is_uses}
-use Rattle.yv_expand_augments.specs.Kinds.{kind_at, kind_of}
-use Rattle.yv_expand_augments.specs.RefineTargets.{node_meant, refined_from, refines_in}
-use Rattle.yv_expand_augments.specs.Spots.{LayoutView, Whole, group_below, module_file_below, labels_of, layout_of, spot_at, spot_of, whole}
-use Rattle.yv_expand_augments.specs.declared.spot.Spot.{Spot}
-use Rattle.yv_expand_augments.proofs.Ending.{drop_drop}
+use Rattle.yv_expand_uses.specs.Kinds.{kind_at, kind_of}
+use Rattle.yv_expand_uses.specs.RefineTargets.{node_meant, refines_in}
+use Rattle.yv_expand_augments.specs.RefineMeanings.{refined_from}
+use Rattle.yv_expand_uses.specs.Spots.{LayoutView, Whole, group_below, module_file_below, labels_of, layout_of, spot_at, spot_of, whole}
+use Rattle.yv_expand_uses.specs.declared.spot.Spot.{Spot}
+use Rattle.yv_expand_uses.proofs.Ending.{drop_drop}
 use Rattle.yv_expand_refines.specs.Targets.{RefineMeaning}
 use Rattle.yv_expand_definition.specs.Gives.{Gives, Product, nothing as made_none}
 use Rattle.yv_expand_definition.specs.Gives.Gives.{no_statements as gives_nothing, other as gives_other, one_node as gives_node, operation as gives_operation, uses as gives_uses}

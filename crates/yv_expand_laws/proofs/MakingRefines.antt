@@ -17,11 +17,13 @@ use Rattle.yv_expand_rounds.specs.declared.label.Label.{Label}
 use Rattle.yv_expand_rounds.specs.Groups.{members_of}
 use Rattle.yv_expand_rounds.specs.Paths.{path_end}
 use Rattle.yv_expand_rounds.specs.Turns.{State}
-use Rattle.yv_expand_augments.specs.Ends.{end_at}
-use Rattle.yv_expand_augments.specs.Augmentation.{path_in, placed_from}
-use Rattle.yv_expand_augments.specs.RefineTargets.{node_meant, node_at, refined_from}
-use Rattle.yv_expand_augments.specs.Spots.{Whole, labels_of, layout_of, whole}
-use Rattle.yv_expand_augments.specs.declared.spot.Spot.{Spot}
+use Rattle.yv_expand_uses.specs.Ends.{end_at}
+use Rattle.yv_expand_uses.specs.Paths.{path_in}
+use Rattle.yv_expand_augments.specs.Augmentation.{placed_from}
+use Rattle.yv_expand_uses.specs.RefineTargets.{node_meant, node_at}
+use Rattle.yv_expand_augments.specs.RefineMeanings.{refined_from}
+use Rattle.yv_expand_uses.specs.Spots.{Whole, labels_of, layout_of, whole}
+use Rattle.yv_expand_uses.specs.declared.spot.Spot.{Spot}
 use Rattle.yv_expand_changes.specs.Changes.{changes, is_change, is_fit_at_item, is_meant}
 use Rattle.yv_expand_changes.specs.AllowedRefines.{is_some_fit}
 use Rattle.yv_expand_refines.specs.Targets.{RefineMeaning}

@@ -23,19 +23,21 @@ use Rattle.yv_expand_rounds.specs.declared.label.Label.{Label}
 use Rattle.yv_expand_rounds.specs.Groups.{members_of}
 use Rattle.yv_expand_rounds.specs.Kinds as kinds_are
 use Rattle.yv_expand_rounds.specs.Turns.{State}
-use Rattle.yv_expand_augments.specs.Ends.{end_at, is_above, is_from}
-use Rattle.yv_expand_augments.specs.Ends as ends
-use Rattle.yv_expand_augments.specs.AugmentOrder.{augments_giving, is_giving, ordinal}
-use Rattle.yv_expand_augments.specs.Augmentation.{path_in, placed_from}
-use Rattle.yv_expand_augments.specs.InnerEnds.{is_from_at}
+use Rattle.yv_expand_uses.specs.Ends.{end_at, is_above, is_from}
+use Rattle.yv_expand_uses.specs.Ends as ends
+use Rattle.yv_expand_uses.specs.AugmentOrder.{augments_giving, is_giving, ordinal}
+use Rattle.yv_expand_uses.specs.Paths.{path_in}
+use Rattle.yv_expand_augments.specs.Augmentation.{placed_from}
+use Rattle.yv_expand_uses.specs.InnerEnds.{is_from_at}
 use Rattle.yv_expand_rounds.specs.Kinds.{is_uses}
-use Rattle.yv_expand_augments.specs.Kinds.{kind_at}
+use Rattle.yv_expand_uses.specs.Kinds.{kind_at}
 use Rattle.yv_expand_augments.specs.Placement.{augment_at}
-use Rattle.yv_expand_augments.specs.RefineTargets.{node_meant, refined_at, refined_from, refines_in}
-use Rattle.yv_expand_augments.specs.Spots.{LayoutView, Whole, copy_group, module_file_below, labels_of, layout_of, spot_at, spot_of, whole}
-use Rattle.yv_expand_augments.specs.MissingTargets.{augments_in}
-use Rattle.yv_expand_augments.specs.declared.spot.Spot.{Spot}
-use Rattle.yv_expand_augments.proofs.Ending.{drop_drop, run_yes}
+use Rattle.yv_expand_uses.specs.RefineTargets.{node_meant, refined_at, refines_in}
+use Rattle.yv_expand_augments.specs.RefineMeanings.{refined_from}
+use Rattle.yv_expand_uses.specs.Spots.{LayoutView, Whole, copy_group, module_file_below, labels_of, layout_of, spot_at, spot_of, whole}
+use Rattle.yv_expand_uses.specs.AugmentOrder.{augments_in}
+use Rattle.yv_expand_uses.specs.declared.spot.Spot.{Spot}
+use Rattle.yv_expand_uses.proofs.Ending.{drop_drop, run_yes}
 use Rattle.yv_expand_augments.proofs.Turning.{giving_filtered}
 use Rattle.yv_expand_changes.specs.Changes.{changes}
 use Rattle.yv_expand_refines.specs.Targets.{RefineMeaning}

@@ -8,8 +8,8 @@ use Rattle.yv_expand.specs.Tree.{Item}
 use Rattle.yv_expand_rounds.specs.declared.label.Label.{Label}
 use Rattle.yv_expand_rounds.specs.Groups.{group_of_augment}
 use Rattle.yv_expand_rounds.specs.Order.{is_given, is_some_given}
-use Rattle.yv_expand_augments.specs.Spots.{Whole, labels_of, layout_of}
-use Rattle.yv_expand_augments.specs.declared.spot.Spot.{Spot as LaidSpot}
+use Rattle.yv_expand_uses.specs.Spots.{Whole, labels_of, layout_of}
+use Rattle.yv_expand_uses.specs.declared.spot.Spot.{Spot as LaidSpot}
 use Rattle.yv_expand_laws.specs.Blocks.{Augments, Block, augment, no_augments, uses}
 use Rattle.yv_expand_laws.specs.Blocks as block
 use Rattle.yv_expand_laws.specs.Comes.{AllMarked, MarksBlock}

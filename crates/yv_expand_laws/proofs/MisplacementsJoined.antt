@@ -13,8 +13,8 @@ use Rattle.yv_expand_rounds.specs.Tree.{IsTree}
 use Rattle.yv_expand_rounds.specs.declared.row.ItemRow.{ItemRow}
 use Rattle.yv_expand_augments.specs.Augmentation.{AreAugmented}
 use Rattle.yv_expand_augments.specs.Placement.{PutsMisplaced}
-use Rattle.yv_expand_augments.specs.Spots.{Whole, labels_of, layout_of, whole}
-use Rattle.yv_expand_augments.specs.declared.spot.Spot.{Spot}
+use Rattle.yv_expand_uses.specs.Spots.{Whole, labels_of, layout_of, whole}
+use Rattle.yv_expand_uses.specs.declared.spot.Spot.{Spot}
 use Rattle.yv_expand_changes.specs.Refusals.{IsThere}
 use Rattle.yv_expand_tree.specs.Final.{final_items, spots_of}
 use Rattle.yv_expand_tree.specs.FileOrder.{marks_of, order_of}

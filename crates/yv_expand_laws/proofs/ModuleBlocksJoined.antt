@@ -13,8 +13,8 @@ use Rattle.yv_expand_rounds.specs.declared.statement_kind.StatementKind.{Stateme
 use Rattle.yv_expand_rounds.specs.declared.label.Label.{Label}
 use Rattle.yv_expand_rounds.specs.Turns.{is_some_target, target}
 use Rattle.yv_expand_augments.specs.Augmentation.{AreAugmented}
-use Rattle.yv_expand_augments.specs.Spots.{Whole, layout_of, whole}
-use Rattle.yv_expand_augments.specs.declared.spot.Spot.{Spot}
+use Rattle.yv_expand_uses.specs.Spots.{Whole, layout_of, whole}
+use Rattle.yv_expand_uses.specs.declared.spot.Spot.{Spot}
 use Rattle.yv_expand_tree.specs.FileOrder.{marks_of, order_of}
 use Rattle.yv_expand_definition.specs.Gives.{Wrong, takes_block}
 use Rattle.yv_expand_definition.proofs.Giving.{RefersToOne}

@@ -16,10 +16,10 @@ use Rattle.yv_expand.specs.Expands.{Expands}
 use Rattle.yv_expand_rounds.specs.declared.label.Label.{Label}
 use Rattle.yv_expand_rounds.specs.Groups.{group_of_augment, members_of}
 use Rattle.yv_expand_rounds.specs.Turns.{State}
-use Rattle.yv_expand_augments.specs.AugmentOrder.{place_of}
+use Rattle.yv_expand_uses.specs.AugmentOrder.{place_of}
 use Rattle.yv_expand_augments.specs.Placement.{augment_at}
-use Rattle.yv_expand_augments.specs.Spots.{Whole, layout_of, own_module_file, spot_at, top_group_of, top_group}
-use Rattle.yv_expand_augments.specs.declared.spot.Spot.{Spot}
+use Rattle.yv_expand_uses.specs.Spots.{Whole, layout_of, own_module_file, spot_at, top_group_of, top_group}
+use Rattle.yv_expand_uses.specs.declared.spot.Spot.{Spot}
 use Rattle.yv_expand_definition.specs.Expansion.{Tops}
 use Rattle.yv_expand_definition.specs.Gives.{Gives, Product}
 use Rattle.yv_expand_definition.specs.Nodes.{Forest, nodes_given}

@@ -20,7 +20,7 @@ use Rattle.yv_expand.specs.Expansion.{IsWhole}
 use Rattle.yv_expand.specs.Expands.{Expands}
 use Rattle.yv_expand.specs.Expands.Expands.{nothing, other, node, operation, uses}
 use Rattle.yv_expand_rounds.specs.declared.statement_kind.StatementKind.TheVariants as kind
-use Rattle.yv_expand_augments.specs.Kinds.{kind_at, kind_of}
+use Rattle.yv_expand_uses.specs.Kinds.{kind_at, kind_of}
 use Rattle.yv_expand_rounds.specs.Kinds.{kind_of_keyword, takes}
 use Rattle.yv_expand_augments.specs.Placement.{augment_around, augment_at}
 use Rattle.yv_expand_tree.proofs.Standing.{in_first, in_lists, in_second}

@@ -11,10 +11,10 @@ use Rattle.yv_expand_rounds.specs.declared.statement_kind.StatementKind.TheVaria
 use Rattle.yv_expand_rounds.specs.declared.label.Label.{Label}
 use Rattle.yv_expand_rounds.specs.Order.{is_given}
 use Rattle.yv_expand_rounds.specs.Kinds.{is_uses}
-use Rattle.yv_expand_augments.specs.Kinds.{kind_of}
-use Rattle.yv_expand_augments.specs.RefineTargets.{refined_all}
-use Rattle.yv_expand_augments.specs.Spots.{Whole, labels_of, layout_of, spot_at}
-use Rattle.yv_expand_augments.specs.declared.spot.Spot.{Spot}
+use Rattle.yv_expand_uses.specs.Kinds.{kind_of}
+use Rattle.yv_expand_augments.specs.RefineMeanings.{refined_all}
+use Rattle.yv_expand_uses.specs.Spots.{Whole, labels_of, layout_of, spot_at}
+use Rattle.yv_expand_uses.specs.declared.spot.Spot.{Spot}
 use Rattle.yv_expand_changes.specs.Changes.{changes}
 use Rattle.yv_expand_definition.specs.Nodes.{Node}
 use Rattle.yv_expand_tree.proofs.Standing.{parents_first}

@@ -5,12 +5,13 @@ use Rattle.yv_expand_rounds.specs.declared.label.Label.{Label}
 use Rattle.yv_expand_rounds.specs.Groups.{group_of_augment, members_of}
 use Rattle.yv_expand_rounds.specs.Placements.{HaveEntered, enter, one_turn}
 use Rattle.yv_expand_rounds.specs.Turns.{State, turn}
-use Rattle.yv_expand_augments.specs.AugmentOrder.{augments_giving}
-use Rattle.yv_expand_augments.specs.Augmentation.{copy_turn, last_of, path_in, placed_from, turns, turns_from}
-use Rattle.yv_expand_augments.specs.InnerLayout.{Fits}
+use Rattle.yv_expand_uses.specs.AugmentOrder.{augments_giving}
+use Rattle.yv_expand_augments.specs.Augmentation.{copy_turn, last_of, placed_from, turns, turns_from}
+use Rattle.yv_expand_uses.specs.Paths.{path_in}
+use Rattle.yv_expand_uses.specs.InnerLayout.{Fits}
 use Rattle.yv_expand_rounds.specs.Kinds.{is_uses}
-use Rattle.yv_expand_augments.specs.Spots.{Whole, copies_of}
-use Rattle.yv_expand_augments.specs.declared.spot.Spot.{Spot}
+use Rattle.yv_expand_uses.specs.Spots.{Whole, copies_of}
+use Rattle.yv_expand_uses.specs.declared.spot.Spot.{Spot}
 use Rattle.yv_expand_augments.proofs.Entering.{placed_entered}
 
 abbrev pub KeptInTurns : (labels : List Label) (copies : ℕ) → (State → Type 0) → Type 0

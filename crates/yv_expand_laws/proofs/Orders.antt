@@ -12,7 +12,7 @@ use Rattle.yv_link_scopes.specs.Rows.{Row, is_extended, row_list}
 use Rattle.yv_link_scopes.proofs.Within.{rows_of_roots}
 use Rattle.yv_expand.specs.StatementBlocks.{given_at, given_before, block_of, stands_in, top_of, augments_of, is_at, is_augment}
 use Rattle.yv_expand.specs.StatementBlocks as blocks
-use Rattle.yv_expand_augments.specs.AugmentOrder.{place_of}
+use Rattle.yv_expand_uses.specs.AugmentOrder.{place_of}
 use Rattle.yv_expand_tree.proofs.Nesting.{block_file}
 use Rattle.yv_expand_tree.proofs.Standing.{in_lists}
 use Rattle.yv_expand_laws.proofs.Choosing.{block_scope, filter_in, left_is, numbered_in, right_is, row_at}

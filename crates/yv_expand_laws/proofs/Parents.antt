@@ -11,11 +11,12 @@ use Rattle.yv_expand_rounds.specs.Placements.{HaveEntered, StandOnce, enter}
 use Rattle.yv_expand_rounds.specs.Rounds.{AreApplied}
 use Rattle.yv_expand_rounds.specs.Tree.{IsTree, Tree, group_under, tree_list}
 use Rattle.yv_expand_rounds.specs.Turns.{State, turn}
-use Rattle.yv_expand_augments.specs.Augmentation.{AreAugmented, module_paths, placement, placed_from, turns}
-use Rattle.yv_expand_augments.specs.InnerLayout.{AreLaid, Fits}
-use Rattle.yv_expand_augments.specs.Spots.{LayoutView, Whole, labels_of, layout_of}
-use Rattle.yv_expand_augments.specs.declared.spot.Spot.{Spot}
-use Rattle.yv_expand_augments.proofs.Bounds.{laid_whole}
+use Rattle.yv_expand_augments.specs.Augmentation.{AreAugmented, placement, placed_from, turns}
+use Rattle.yv_expand_uses.specs.Paths.{module_paths}
+use Rattle.yv_expand_uses.specs.InnerLayout.{AreLaid, Fits}
+use Rattle.yv_expand_uses.specs.Spots.{LayoutView, Whole, labels_of, layout_of}
+use Rattle.yv_expand_uses.specs.declared.spot.Spot.{Spot}
+use Rattle.yv_expand_uses.proofs.Bounds.{laid_whole}
 use Rattle.yv_expand_augments.proofs.Entering.{placed_entered, spot_entered, whole_entered}
 use Rattle.yv_expand_augments.proofs.Given.{once_of}
 use Rattle.yv_expand_laws.proofs.Finding.{not_none}

@@ -3,12 +3,13 @@ use Rattle.std.proofs.Common.{◌≡◌, ℕ, ◌+◌, Bool, true, false, if◌t
 use Rattle.yv_expand_rounds.specs.declared.label.Label.{Label}
 use Rattle.yv_expand_rounds.specs.Placements.{enter, nothing}
 use Rattle.yv_expand_rounds.specs.Turns.{State}
-use Rattle.yv_expand_augments.specs.AugmentOrder.{augments_giving}
+use Rattle.yv_expand_uses.specs.AugmentOrder.{augments_giving}
 use Rattle.yv_expand_augments.specs.Augmentation as augmented
-use Rattle.yv_expand_augments.specs.Augmentation.{path_in, placed_from}
+use Rattle.yv_expand_uses.specs.Paths.{path_in}
+use Rattle.yv_expand_augments.specs.Augmentation.{placed_from}
 use Rattle.yv_expand_rounds.specs.Kinds.{is_uses}
-use Rattle.yv_expand_augments.specs.Spots.{Whole}
-use Rattle.yv_expand_augments.specs.declared.spot.Spot.{Spot}
+use Rattle.yv_expand_uses.specs.Spots.{Whole}
+use Rattle.yv_expand_uses.specs.declared.spot.Spot.{Spot}
 use Rattle.yv_expand_laws.specs.Expansions.{spot_view}
 use Rattle.yv_expand_laws.specs.Layout as laid
 use Rattle.yv_expand_laws.specs.Layout.{placed_on}

@@ -8,11 +8,12 @@ use Rattle.std.proofs.lemmas.Option.{same_Some}
 use Rattle.yv_expand_rounds.specs.declared.label.Label.{Label}
 use Rattle.yv_expand_rounds.specs.Groups.{group_of_augment, members_of}
 use Rattle.yv_expand_rounds.specs.Turns.{State, turn}
-use Rattle.yv_expand_augments.specs.AugmentOrder.{is_giving}
-use Rattle.yv_expand_augments.specs.Augmentation.{last_of, path_in, turns_from}
-use Rattle.yv_expand_augments.specs.Spots.{Whole}
+use Rattle.yv_expand_uses.specs.AugmentOrder.{is_giving}
+use Rattle.yv_expand_augments.specs.Augmentation.{last_of, turns_from}
+use Rattle.yv_expand_uses.specs.Paths.{path_in}
+use Rattle.yv_expand_uses.specs.Spots.{Whole}
 use Rattle.yv_expand_augments.specs.MissingTargets.{node_reached}
-use Rattle.yv_expand_augments.specs.declared.spot.Spot.{Spot}
+use Rattle.yv_expand_uses.specs.declared.spot.Spot.{Spot}
 use Rattle.yv_expand_definition.specs.Gives.{takes_block}
 use Rattle.yv_expand_definition.specs.Nodes.{Forest, Node, join}
 use Rattle.yv_expand_definition.specs.Paths.{Step}

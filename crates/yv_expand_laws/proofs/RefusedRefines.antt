@@ -8,7 +8,7 @@ use Rattle.yv_statement.specs.declared.refusal.Code.{Code}
 use Rattle.yv_statement.specs.declared.refusal.Code.TheVariants as code
 use Rattle.yv_link_scopes.specs.Files.{Files}
 use Rattle.yv_expand_refines.specs.Targets.{RefineMeaning}
-use Rattle.yv_expand_augments.specs.declared.spot.Spot.{Spot}
+use Rattle.yv_expand_uses.specs.declared.spot.Spot.{Spot}
 use Rattle.yv_expand_changes.specs.Changes.{is_fit_at_item}
 use Rattle.yv_expand_changes.specs.Refusals.{IsUnfit}
 use Rattle.yv_expand_definition.specs.Gives.{Wrong}

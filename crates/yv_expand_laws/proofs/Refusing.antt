@@ -10,13 +10,13 @@ use Rattle.yv_link_scopes.specs.Files.{Files, brief_of}
 use Rattle.yv_link_scopes.specs.RowList.{rows_of}
 use Rattle.yv_expand.specs.Tree.{Item}
 use Rattle.yv_expand_rounds.specs.declared.label.Label.{Label}
-use Rattle.yv_expand_augments.specs.Ends.{end_at}
+use Rattle.yv_expand_uses.specs.Ends.{end_at}
 use Rattle.yv_expand_augments.specs.Augmentation.{placed_from}
 use Rattle.yv_expand_rounds.specs.Kinds.{is_uses}
-use Rattle.yv_expand_augments.specs.RefineTargets.{node_meant, refined_at, refines_in}
-use Rattle.yv_expand_augments.specs.Spots.{Whole, labels_of, layout_of, whole}
-use Rattle.yv_expand_augments.specs.MissingTargets.{augments_in}
-use Rattle.yv_expand_augments.specs.declared.spot.Spot.{Spot}
+use Rattle.yv_expand_uses.specs.RefineTargets.{node_meant, refined_at, refines_in}
+use Rattle.yv_expand_uses.specs.Spots.{Whole, labels_of, layout_of, whole}
+use Rattle.yv_expand_uses.specs.AugmentOrder.{augments_in}
+use Rattle.yv_expand_uses.specs.declared.spot.Spot.{Spot}
 use Rattle.yv_expand_refines.specs.Targets.{RefineMeaning}
 use Rattle.yv_expand_definition.specs.Gives.{Wrong, judge, takes_block}
 use Rattle.yv_expand_definition.specs.Nodes.{Forest, node}

@@ -19,7 +19,7 @@ use Rattle.yv_expand.specs.Expansion.{IsWhole}
 use Rattle.yv_expand.specs.Expands.{Expands, node, nothing, operation, other, uses}
 use Rattle.yv_expand_rounds.specs.declared.statement_kind.StatementKind.TheVariants as kind
 use Rattle.yv_expand_rounds.specs.Kinds.{is_uses, kind_of_keyword}
-use Rattle.yv_expand_augments.specs.Kinds.{kind_at, kind_of}
+use Rattle.yv_expand_uses.specs.Kinds.{kind_at, kind_of}
 use Rattle.yv_expand_tree.proofs.Standing.{in_first, in_lists, in_second, listed_long}
 use Rattle.yv_expand_laws.specs.Conditions.{gives_node, is_node_kind, stands_in_node}
 use Rattle.yv_expand_laws.proofs.Choosing.{block_scope, filter_in, first_passes, row_at}

@@ -25,7 +25,7 @@ use Rattle.yv_link_scopes.specs.Rows.{Row, name_in}
 use Rattle.yv_link_scopes.specs.Scopes.{MeansIn}
 use Rattle.yv_link_scopes.specs.declared.kind.NameKind.{NameKind}
 use Rattle.yv_link_scopes.specs.declared.kind.NameKind.TheVariants.{Grouping}
-use Rattle.yv_link_definitions.specs.BuiltIn.{is_among}
+use Rattle.yv_statement.specs.Words.{is_among}
 use Rattle.yv_link_definitions.specs.Refers.{RefersTo}
 use Rattle.yv_link_definitions.specs.Refusals.{BadNames}
 use Rattle.yv_base_tables.specs.Families.{numbers_at}
@@ -35,8 +35,8 @@ use Rattle.yv_expand.specs.Units.{nodes, operations}
 use Rattle.yv_expand.proofs.Listing.{numbers_have}
 use Rattle.yv_expand.proofs.Words.{word_is}
 use Rattle.yv_expand_rounds.specs.declared.statement_kind.StatementKind.{StatementKind}
-use Rattle.yv_expand_augments.specs.AugmentOrder.{giving_from, giving_places, gives, is_augment, is_giving, is_in, item_places}
-use Rattle.yv_expand_augments.specs.AugmentOrder as order
+use Rattle.yv_expand_uses.specs.AugmentOrder.{giving_from, giving_places, gives, is_augment, is_giving, is_in, item_places}
+use Rattle.yv_expand_uses.specs.AugmentOrder as order
 use Rattle.yv_expand_rounds.specs.Kinds.{kind_in, kind_of_keyword, kinds}
 use Rattle.yv_expand_definition.specs.Expansion.{AllRefer}
 use Rattle.yv_expand_laws.specs.StatementItems.{AreSound}

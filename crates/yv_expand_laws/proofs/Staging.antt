@@ -11,12 +11,14 @@ use Rattle.yv_expand_rounds.specs.declared.end.End.TheVariants as end_is
 use Rattle.yv_expand_rounds.specs.declared.label.Label.{Label}
 use Rattle.yv_expand_rounds.specs.Paths.{path_end}
 use Rattle.yv_expand_rounds.specs.Turns.{State}
-use Rattle.yv_expand_augments.specs.AugmentOrder.{augments_giving}
-use Rattle.yv_expand_augments.specs.Augmentation.{path_in, placed_from, turns, turns_from}
+use Rattle.yv_expand_uses.specs.AugmentOrder.{augments_giving}
+use Rattle.yv_expand_uses.specs.Paths.{path_in}
+use Rattle.yv_expand_augments.specs.Augmentation.{placed_from, turns, turns_from}
 use Rattle.yv_expand_rounds.specs.Kinds.{is_uses}
-use Rattle.yv_expand_augments.specs.RefineTargets.{node_meant, node_at, refined_at, refined_from, refines_in}
-use Rattle.yv_expand_augments.specs.Spots.{Whole}
-use Rattle.yv_expand_augments.specs.declared.spot.Spot.{Spot}
+use Rattle.yv_expand_uses.specs.RefineTargets.{node_meant, node_at, refined_at, refines_in}
+use Rattle.yv_expand_augments.specs.RefineMeanings.{refined_from}
+use Rattle.yv_expand_uses.specs.Spots.{Whole}
+use Rattle.yv_expand_uses.specs.declared.spot.Spot.{Spot}
 use Rattle.yv_expand_changes.specs.Changes.{changes, is_change, is_fit_at_item, is_meant}
 use Rattle.yv_expand_refines.specs.Targets.{RefineMeaning}
 use Rattle.yv_expand_laws.specs.Comes.{HasMarks}

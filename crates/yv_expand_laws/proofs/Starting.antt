@@ -12,8 +12,8 @@ use Rattle.yv_expand_rounds.specs.Placements.{nothing}
 use Rattle.yv_expand_rounds.specs.Turns.{State}
 use Rattle.yv_expand_augments.specs.Augmentation.{placement, placed_from}
 use Rattle.yv_expand_definition.specs.Nodes.{Forest}
-use Rattle.yv_expand_augments.specs.Spots.{LayoutView, Whole, labels_of, layout_of, laid_from}
-use Rattle.yv_expand_augments.specs.declared.spot.Spot.{Spot as LaidSpot}
+use Rattle.yv_expand_uses.specs.Spots.{LayoutView, Whole, labels_of, layout_of, laid_from}
+use Rattle.yv_expand_uses.specs.declared.spot.Spot.{Spot as LaidSpot}
 use Rattle.yv_expand_laws.specs.Blocks.{enter_block}
 use Rattle.yv_expand_laws.specs.Comes.{Comes, MarksBlock}
 use Rattle.yv_expand_laws.specs.Expansions.{spot_view}

@@ -11,7 +11,7 @@ use Rattle.yv_expand.specs.StatementBlocks.{block_of, stands_in, is_at, is_augme
 use Rattle.yv_expand.specs.StatementBlocks as blocks
 use Rattle.yv_expand_rounds.specs.declared.statement_kind.StatementKind.{StatementKind}
 use Rattle.yv_expand_rounds.specs.declared.statement_kind.StatementKind.TheVariants as kind
-use Rattle.yv_expand_augments.specs.Kinds.{kind_at}
+use Rattle.yv_expand_uses.specs.Kinds.{kind_at}
 use Rattle.yv_expand_rounds.specs.Kinds.{kind_of_keyword, takes}
 use Rattle.yv_expand_augments.specs.Placement.{augment_around, augment_at}
 use Rattle.yv_expand_definition.specs.Gives.{is_taken, takes_block}

@@ -25,10 +25,10 @@ use Rattle.yv_expand.specs.declared.origin.Origin.TheVariants.{Statement, Input,
 use Rattle.yv_expand_rounds.specs.declared.label.Label.{Label}
 use Rattle.yv_expand_rounds.specs.Labels.{is_named, is_some_named}
 use Rattle.yv_expand_rounds.specs.Kinds as kinds_are
-use Rattle.yv_expand_augments.specs.Augmentation.{step_name}
-use Rattle.yv_expand_augments.specs.Kinds.{label_of, name_number}
-use Rattle.yv_expand_augments.specs.Spots.{LayoutView, Whole, source_in, labels_of, layout_of, laid_from, one_more, spot_of, whole}
-use Rattle.yv_expand_augments.specs.declared.spot.Spot.{Spot}
+use Rattle.yv_expand_uses.specs.Paths.{step_name}
+use Rattle.yv_expand_uses.specs.Kinds.{label_of, name_number}
+use Rattle.yv_expand_uses.specs.Spots.{LayoutView, Whole, source_in, labels_of, layout_of, laid_from, one_more, spot_of, whole}
+use Rattle.yv_expand_uses.specs.declared.spot.Spot.{Spot}
 use Rattle.yv_expand_definition.specs.Paths.{Step, answers, is_module_file, path_of}
 use Rattle.yv_expand_laws.specs.Shows.{Agree, Items}
 use Rattle.yv_expand_laws.specs.ItemProperties.{AreItems, HaveStatements, LabelsTell, PathsAgree, is_some_node, name_at, name_of}

@@ -15,15 +15,17 @@ use Rattle.yv_expand_rounds.specs.Paths.{path_end}
 use Rattle.yv_expand_rounds.specs.Placements.{HaveEntered, StandOnce, enter}
 use Rattle.yv_expand_rounds.specs.Turns.{State, given_group, group_of_target, target}
 use Rattle.yv_expand_rounds.proofs.Once.{stand}
-use Rattle.yv_expand_augments.specs.Ends.{end_at}
-use Rattle.yv_expand_augments.specs.AugmentOrder.{augments_giving, is_giving}
-use Rattle.yv_expand_augments.specs.Augmentation.{AreAugmented, path_in, placement, placed_from, turns, turns_from}
-use Rattle.yv_expand_augments.specs.InnerLayout.{AreLaid}
+use Rattle.yv_expand_uses.specs.Ends.{end_at}
+use Rattle.yv_expand_uses.specs.AugmentOrder.{augments_giving, is_giving}
+use Rattle.yv_expand_augments.specs.Augmentation.{AreAugmented, placement, placed_from, turns, turns_from}
+use Rattle.yv_expand_uses.specs.Paths.{path_in}
+use Rattle.yv_expand_uses.specs.InnerLayout.{AreLaid}
 use Rattle.yv_expand_rounds.specs.Kinds.{is_uses}
-use Rattle.yv_expand_augments.specs.Spots.{LayoutView, Whole, copies_of, labels_of, layout_of}
-use Rattle.yv_expand_augments.specs.MissingTargets.{after_turns, augments_in, had_turns, limit_of, next_number, node_reached}
-use Rattle.yv_expand_augments.specs.declared.spot.Spot.{Spot}
-use Rattle.yv_expand_augments.proofs.Bounds.{laid_whole}
+use Rattle.yv_expand_uses.specs.Spots.{LayoutView, Whole, copies_of, labels_of, layout_of}
+use Rattle.yv_expand_augments.specs.MissingTargets.{after_turns, had_turns, limit_of, next_number, node_reached}
+use Rattle.yv_expand_uses.specs.AugmentOrder.{augments_in}
+use Rattle.yv_expand_uses.specs.declared.spot.Spot.{Spot}
+use Rattle.yv_expand_uses.proofs.Bounds.{laid_whole}
 use Rattle.yv_expand_augments.proofs.Entering.{placed_entered, turns_entered}
 use Rattle.yv_expand_augments.proofs.Given.{once_of}
 use Rattle.yv_expand_augments.proofs.Turning.{giving_filtered}

@@ -11,9 +11,9 @@ use Rattle.yv_expand.specs.Tree.{Item, Tree, all_of, count, item_list}
 use Rattle.yv_expand_rounds.specs.declared.label.Label.{Label}
 use Rattle.yv_expand_rounds.specs.Groups.{group_of_augment, members_of}
 use Rattle.yv_expand_rounds.specs.Turns.{State}
-use Rattle.yv_expand_augments.specs.InnerEnds.{is_from_at}
-use Rattle.yv_expand_augments.specs.Spots.{LayoutView, Whole, labels_of, layout_of, laid_from, own_module_file, top_group, whole}
-use Rattle.yv_expand_augments.specs.declared.spot.Spot.{Spot}
+use Rattle.yv_expand_uses.specs.InnerEnds.{is_from_at}
+use Rattle.yv_expand_uses.specs.Spots.{LayoutView, Whole, labels_of, layout_of, laid_from, own_module_file, top_group, whole}
+use Rattle.yv_expand_uses.specs.declared.spot.Spot.{Spot}
 use Rattle.yv_expand_definition.specs.Expansion.{Tops}
 use Rattle.yv_expand_definition.specs.Expansion.Tops.{no_files, one_more as one_more_top}
 use Rattle.yv_expand_definition.specs.Gives.{Gives, Product}

@@ -8,11 +8,12 @@ use Rattle.yv_expand.specs.Origin.{number_of}
 use Rattle.yv_expand.specs.Tree.{Item}
 use Rattle.yv_expand.specs.StatementBlocks.{is_augment, is_node_or_uses}
 use Rattle.yv_expand_rounds.specs.declared.statement_kind.StatementKind.{StatementKind}
-use Rattle.yv_expand_augments.specs.AugmentOrder.{is_giving, ordinal}
+use Rattle.yv_expand_uses.specs.AugmentOrder.{is_giving, ordinal}
 use Rattle.yv_expand_rounds.specs.Kinds.{is_uses}
-use Rattle.yv_expand_augments.specs.MissingTargets.{augments_in, had_turns, next_number}
-use Rattle.yv_expand_augments.specs.Spots.{Whole, copy_group, group_below, layout_of, spot_at, used_group}
-use Rattle.yv_expand_augments.specs.declared.spot.Spot.{Spot}
+use Rattle.yv_expand_uses.specs.AugmentOrder.{augments_in}
+use Rattle.yv_expand_augments.specs.MissingTargets.{had_turns, next_number}
+use Rattle.yv_expand_uses.specs.Spots.{Whole, copy_group, group_below, layout_of, spot_at, used_group}
+use Rattle.yv_expand_uses.specs.declared.spot.Spot.{Spot}
 use Rattle.yv_expand_augments.proofs.Turning.{giving_filtered}
 use Rattle.yv_expand_laws.proofs.Choosing.{nothing_given, ordinal_is}
 use Rattle.yv_expand_laws.proofs.CopyEnds.{filter_split}

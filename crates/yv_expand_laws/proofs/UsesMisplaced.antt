@@ -22,15 +22,16 @@ use Rattle.yv_expand_rounds.specs.declared.statement_kind.StatementKind.{Stateme
 use Rattle.yv_expand_rounds.specs.declared.statement_kind.StatementKind.TheVariants as kind
 use Rattle.yv_expand_rounds.specs.declared.label.Label.{Label}
 use Rattle.yv_expand_rounds.specs.declared.row.ItemRow.{ItemRow}
-use Rattle.yv_expand_augments.specs.Ends.{end_at}
+use Rattle.yv_expand_uses.specs.Ends.{end_at}
 use Rattle.yv_expand_augments.specs.Augmentation.{AreAugmented, placed_from}
-use Rattle.yv_expand_augments.specs.AugmentOrder.{is_giving, place_of}
+use Rattle.yv_expand_uses.specs.AugmentOrder.{is_giving, place_of}
 use Rattle.yv_expand_rounds.specs.Kinds.{is_uses, takes}
-use Rattle.yv_expand_augments.specs.Kinds.{kind_at, kind_of}
-use Rattle.yv_expand_augments.specs.MissingTargets.{after_turns, augments_in, next_number, node_reached}
+use Rattle.yv_expand_uses.specs.Kinds.{kind_at, kind_of}
+use Rattle.yv_expand_augments.specs.MissingTargets.{after_turns, next_number, node_reached}
+use Rattle.yv_expand_uses.specs.AugmentOrder.{augments_in}
 use Rattle.yv_expand_augments.specs.Placement.{augment_around, augment_at}
-use Rattle.yv_expand_augments.specs.Spots.{Whole, copy_group, group_below, layout_of, spot_at, top_group, top_group_of}
-use Rattle.yv_expand_augments.specs.declared.spot.Spot.{Spot}
+use Rattle.yv_expand_uses.specs.Spots.{Whole, copy_group, group_below, layout_of, spot_at, top_group, top_group_of}
+use Rattle.yv_expand_uses.specs.declared.spot.Spot.{Spot}
 use Rattle.yv_expand_augments.proofs.Given.{once_of}
 use Rattle.yv_expand_changes.specs.Refusals.{IsThere}
 use Rattle.yv_expand_tree.proofs.Standing.{parents_first}

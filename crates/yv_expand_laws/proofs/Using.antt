@@ -14,14 +14,14 @@ use Rattle.yv_expand.specs.declared.origin.Origin.TheVariants.{Statement}
 use Rattle.yv_expand_rounds.specs.declared.label.Label.{Label}
 use Rattle.yv_expand_rounds.specs.Groups.{group_of_augment}
 use Rattle.yv_expand.specs.Expands.{blocks_of}
-use Rattle.yv_expand_augments.specs.AugmentOrder.{augments_giving, is_giving, ordinal}
-use Rattle.yv_expand_augments.specs.AugmentOrder as augmented_giving
-use Rattle.yv_expand_augments.specs.Augmentation.{path_in}
+use Rattle.yv_expand_uses.specs.AugmentOrder.{augments_giving, is_giving, ordinal}
+use Rattle.yv_expand_uses.specs.AugmentOrder as augmented_giving
+use Rattle.yv_expand_uses.specs.Paths.{path_in}
 use Rattle.yv_expand_rounds.specs.Kinds.{is_uses}
-use Rattle.yv_expand_augments.specs.Kinds.{kind_at}
-use Rattle.yv_expand_augments.specs.Spots.{LayoutView, Whole, copy_group, group_below, laid_from, spot_at, spot_of, used_group}
-use Rattle.yv_expand_augments.specs.MissingTargets.{augments_in}
-use Rattle.yv_expand_augments.specs.declared.spot.Spot.{Spot}
+use Rattle.yv_expand_uses.specs.Kinds.{kind_at}
+use Rattle.yv_expand_uses.specs.Spots.{LayoutView, Whole, copy_group, group_below, laid_from, spot_at, spot_of, used_group}
+use Rattle.yv_expand_uses.specs.AugmentOrder.{augments_in}
+use Rattle.yv_expand_uses.specs.declared.spot.Spot.{Spot}
 use Rattle.yv_expand_augments.proofs.Turning.{giving_filtered}
 use Rattle.yv_expand_laws.specs.Blocks.{augment, no_augments}
 use Rattle.yv_expand_laws.specs.Expansions.{spot_view}

@@ -23,8 +23,9 @@ use Rattle.yv_expand_rounds.specs.Placements.{nothing}
 use Rattle.yv_expand_rounds.specs.Rounds.{AreApplied}
 use Rattle.yv_expand_rounds.specs.Turns.{State, is_applied}
 use Rattle.yv_expand_rounds.specs.Turns as turns
-use Rattle.yv_expand_augments.specs.Augmentation.{AreAugmented, module_paths, path_in, step_name}
-use Rattle.yv_expand_augments.specs.Spots.{Whole, own_module_file}
+use Rattle.yv_expand_augments.specs.Augmentation.{AreAugmented}
+use Rattle.yv_expand_uses.specs.Paths.{module_paths, path_in, step_name}
+use Rattle.yv_expand_uses.specs.Spots.{Whole, own_module_file}
 use Rattle.yv_expand_definition.specs.Expansion.{Expand, Tops}
 use Rattle.yv_expand_definition.specs.Gives.{Gives, Product, Wrong, judge, takes_block}
 use Rattle.yv_expand_definition.specs.Nodes.{Forest, Node, nodes_given, insert}

@@ -5,13 +5,14 @@ use Rattle.yv_expand.specs.Tree.{Item}
 use Rattle.yv_expand_rounds.specs.Tree.{IsTree, Tree, tree_list}
 use Rattle.yv_expand_rounds.specs.Turns.{State}
 use Rattle.yv_expand_rounds.specs.declared.row.ItemRow.{ItemRow}
-use Rattle.yv_expand_augments.specs.Ends.{end_at}
-use Rattle.yv_expand_augments.specs.AugmentOrder.{is_giving}
+use Rattle.yv_expand_uses.specs.Ends.{end_at}
+use Rattle.yv_expand_uses.specs.AugmentOrder.{is_giving}
 use Rattle.yv_expand_augments.specs.Augmentation.{AreAugmented, placed_from}
 use Rattle.yv_expand_rounds.specs.Kinds.{is_uses}
-use Rattle.yv_expand_augments.specs.Spots.{Whole, copy_group, labels_of, layout_of}
-use Rattle.yv_expand_augments.specs.MissingTargets.{after_turns, augments_in, next_number, node_reached}
-use Rattle.yv_expand_augments.specs.declared.spot.Spot.{Spot}
+use Rattle.yv_expand_uses.specs.Spots.{Whole, copy_group, labels_of, layout_of}
+use Rattle.yv_expand_augments.specs.MissingTargets.{after_turns, next_number, node_reached}
+use Rattle.yv_expand_uses.specs.AugmentOrder.{augments_in}
+use Rattle.yv_expand_uses.specs.declared.spot.Spot.{Spot}
 
 -- an item of the final tree that is laid behind a uses, in the group of a copy of one of its
 -- augments, stands below the node to which this added in its turn

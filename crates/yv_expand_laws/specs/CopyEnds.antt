@@ -3,13 +3,14 @@
 use Rattle.std.specs.Prelude.{◌≡◌, ℕ, ◌+◌, true, List, length, drop, Some, slice_get}
 use Rattle.yv_expand.specs.Tree.{Item}
 use Rattle.yv_expand_rounds.specs.Turns.{State, target_of}
-use Rattle.yv_expand_augments.specs.Ends.{end_at}
-use Rattle.yv_expand_augments.specs.AugmentOrder.{is_giving}
+use Rattle.yv_expand_uses.specs.Ends.{end_at}
+use Rattle.yv_expand_uses.specs.AugmentOrder.{is_giving}
 use Rattle.yv_expand_augments.specs.Augmentation.{AreAugmented, placed_from}
 use Rattle.yv_expand_rounds.specs.Kinds.{is_uses}
-use Rattle.yv_expand_augments.specs.Spots.{Whole, labels_of, layout_of}
-use Rattle.yv_expand_augments.specs.MissingTargets.{after_turns, augments_in, next_number, node_reached}
-use Rattle.yv_expand_augments.specs.declared.spot.Spot.{Spot}
+use Rattle.yv_expand_uses.specs.Spots.{Whole, labels_of, layout_of}
+use Rattle.yv_expand_augments.specs.MissingTargets.{after_turns, next_number, node_reached}
+use Rattle.yv_expand_uses.specs.AugmentOrder.{augments_in}
+use Rattle.yv_expand_uses.specs.declared.spot.Spot.{Spot}
 
 -- when all augments were applied, a copy of an augment of a uses that gives something adds to the
 -- node to which it added in its turn, and to none where it added to none

@@ -7,11 +7,12 @@ use Rattle.yv_expand.specs.Tree as expansion
 use Rattle.yv_expand_rounds.specs.declared.label.Label.{Label}
 use Rattle.yv_expand_rounds.specs.Placements.{nothing}
 use Rattle.yv_expand.specs.Expands.{Expands}
-use Rattle.yv_expand_augments.specs.AugmentOrder.{augments_giving}
-use Rattle.yv_expand_augments.specs.Augmentation.{path_in, placed_from}
+use Rattle.yv_expand_uses.specs.AugmentOrder.{augments_giving}
+use Rattle.yv_expand_uses.specs.Paths.{path_in}
+use Rattle.yv_expand_augments.specs.Augmentation.{placed_from}
 use Rattle.yv_expand_rounds.specs.Kinds.{is_uses}
-use Rattle.yv_expand_augments.specs.Spots.{LayoutView, Whole, group_below, laid_from, spot_at}
-use Rattle.yv_expand_augments.specs.declared.spot.Spot.{Spot}
+use Rattle.yv_expand_uses.specs.Spots.{LayoutView, Whole, group_below, laid_from, spot_at}
+use Rattle.yv_expand_uses.specs.declared.spot.Spot.{Spot}
 use Rattle.yv_expand_definition.specs.Expansion.{AllRefer}
 use Rattle.yv_expand_laws.specs.Blocks.{Block}
 use Rattle.yv_expand_laws.specs.Layout as laid

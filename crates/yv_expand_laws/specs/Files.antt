@@ -11,8 +11,8 @@ use Rattle.yv_expand_rounds.specs.declared.label.Label.{Label}
 use Rattle.yv_expand_rounds.specs.Groups.{group_of_augment}
 use Rattle.yv_expand_rounds.specs.Turns.{State}
 use Rattle.yv_expand_augments.specs.Augmentation.{AreAugmented, placement}
-use Rattle.yv_expand_augments.specs.Spots.{Whole, source_in, labels_of, layout_of, whole}
-use Rattle.yv_expand_augments.specs.declared.spot.Spot.{Spot}
+use Rattle.yv_expand_uses.specs.Spots.{Whole, source_in, labels_of, layout_of, whole}
+use Rattle.yv_expand_uses.specs.declared.spot.Spot.{Spot}
 use Rattle.yv_expand_definition.specs.Expansion.{Expand, Tops}
 use Rattle.yv_expand_definition.specs.Gives.{Gives, Product}
 use Rattle.yv_expand_definition.specs.Nodes.{nodes_given}

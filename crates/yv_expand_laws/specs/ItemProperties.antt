@@ -13,9 +13,9 @@ use Rattle.yv_expand.specs.Expands.{Expands}
 use Rattle.yv_expand_rounds.specs.declared.label.Label.{Label}
 use Rattle.yv_expand_rounds.specs.Kinds as kinds_are
 use Rattle.yv_expand_rounds.specs.Order.{is_given}
-use Rattle.yv_expand_augments.specs.Augmentation.{path_in}
-use Rattle.yv_expand_augments.specs.Spots.{Whole, labels_of, layout_of, whole}
-use Rattle.yv_expand_augments.specs.declared.spot.Spot.{Spot}
+use Rattle.yv_expand_uses.specs.Paths.{path_in}
+use Rattle.yv_expand_uses.specs.Spots.{Whole, labels_of, layout_of, whole}
+use Rattle.yv_expand_uses.specs.declared.spot.Spot.{Spot}
 use Rattle.yv_expand_definition.specs.Paths.{path_of}
 use Rattle.yv_expand_laws.specs.Shows.{Agree, AreLabels, Items}
 

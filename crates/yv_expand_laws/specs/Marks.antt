@@ -2,7 +2,7 @@
 use Rattle.std.specs.Prelude.{◌≡◌, ℕ, ◌+◌, ◌≤◌, Bool, List, length, map, Some, is_some, slice_get}
 use Rattle.yv_expand.specs.Tree.{Item}
 use Rattle.yv_expand_rounds.specs.Order.{is_given}
-use Rattle.yv_expand_augments.specs.Spots.{Whole, source_in, labels_of, layout_of}
+use Rattle.yv_expand_uses.specs.Spots.{Whole, source_in, labels_of, layout_of}
 use Rattle.yv_expand_laws.specs.Blocks.{Block}
 use Rattle.yv_expand_laws.specs.Comes.{MarksBlock}
 use Rattle.yv_expand_laws.specs.Expansions.{spot_view}

@@ -14,8 +14,8 @@ use Rattle.yv_expand.specs.Tree.{Item}
 use Rattle.yv_expand_rounds.specs.declared.row.ItemRow.{ItemRow}
 use Rattle.yv_expand_augments.specs.Placement.{PutsMisplaced, augment_around}
 use Rattle.yv_expand_rounds.specs.Kinds.{takes}
-use Rattle.yv_expand_augments.specs.Spots.{Whole, layout_of, spot_at}
-use Rattle.yv_expand_augments.specs.declared.spot.Spot.{Spot}
+use Rattle.yv_expand_uses.specs.Spots.{Whole, layout_of, spot_at}
+use Rattle.yv_expand_uses.specs.declared.spot.Spot.{Spot}
 use Rattle.yv_expand_tree.specs.Final.{Final, IsFinal, final_items, spots_of, whole_of}
 use Rattle.yv_expand_tree.specs.FileOrder.{marks_of, order_of}
 use Rattle.yv_expand_definition.specs.Expansion.{Expand}

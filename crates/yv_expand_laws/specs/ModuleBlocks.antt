@@ -12,8 +12,8 @@ use Rattle.yv_link_scopes.specs.Rows.{Row}
 use Rattle.yv_expand.specs.Tree.{Item}
 use Rattle.yv_expand.specs.StatementBlocks.{augments_of}
 use Rattle.yv_expand_rounds.specs.Turns.{State, target_of}
-use Rattle.yv_expand_augments.specs.Spots.{Whole, labels_of, layout_of}
-use Rattle.yv_expand_augments.specs.declared.spot.Spot.{Spot}
+use Rattle.yv_expand_uses.specs.Spots.{Whole, labels_of, layout_of}
+use Rattle.yv_expand_uses.specs.declared.spot.Spot.{Spot}
 use Rattle.yv_expand_tree.specs.Final.{Final, IsFinal, whole_of}
 use Rattle.yv_expand_tree.specs.FileOrder.{marks_of, order_of}
 use Rattle.yv_expand_definition.specs.Expansion.{Expand}

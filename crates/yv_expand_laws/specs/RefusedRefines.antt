@@ -4,7 +4,7 @@ use Rattle.std.specs.List.{Contains}
 use Rattle.yv_statement.specs.declared.refusal.Code.TheVariants as code
 use Rattle.yv_link_scopes.specs.Files.{Files}
 use Rattle.yv_expand_refines.specs.Targets.{RefineMeaning}
-use Rattle.yv_expand_augments.specs.declared.spot.Spot.{Spot}
+use Rattle.yv_expand_uses.specs.declared.spot.Spot.{Spot}
 use Rattle.yv_expand_changes.specs.Refusals.{IsUnfit}
 use Rattle.yv_expand_definition.specs.Gives.{Wrong}
 

@@ -7,7 +7,7 @@ use Rattle.yv_expand.specs.Tree.{Item, count, item_list}
 use Rattle.yv_expand.specs.Tree as expansion
 use Rattle.yv_expand.specs.Expands.{Expands}
 use Rattle.yv_expand_augments.specs.Augmentation.{placement}
-use Rattle.yv_expand_augments.specs.Spots.{Whole, labels_of, layout_of, top_group}
+use Rattle.yv_expand_uses.specs.Spots.{Whole, labels_of, layout_of, top_group}
 use Rattle.yv_expand_definition.specs.Expansion.{AllRefer}
 use Rattle.yv_expand_definition.specs.Nodes.{Forest}
 use Rattle.yv_expand_laws.specs.Blocks.{Block}

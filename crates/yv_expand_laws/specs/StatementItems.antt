@@ -8,13 +8,13 @@ use Rattle.yv_expand.specs.StatementBlocks.{block_of, is_node_or_uses}
 use Rattle.yv_expand.specs.Origin.{number_of}
 use Rattle.yv_expand.specs.Tree.{Item, Tree, count, item_list}
 use Rattle.yv_expand.specs.Expands.{Expands}
-use Rattle.yv_expand_augments.specs.AugmentOrder.{is_giving}
+use Rattle.yv_expand_uses.specs.AugmentOrder.{is_giving}
 use Rattle.yv_expand_augments.specs.Augmentation.{placement}
 use Rattle.yv_expand_rounds.specs.Kinds.{is_uses}
 use Rattle.yv_expand_augments.specs.Placement.{augment_around}
-use Rattle.yv_expand_augments.specs.RefineTargets.{refined_all}
-use Rattle.yv_expand_augments.specs.Spots.{Whole, layout_of, own_module_file, spot_at, top_group, whole}
-use Rattle.yv_expand_augments.specs.declared.spot.Spot.{Spot}
+use Rattle.yv_expand_augments.specs.RefineMeanings.{refined_all}
+use Rattle.yv_expand_uses.specs.Spots.{Whole, layout_of, own_module_file, spot_at, top_group, whole}
+use Rattle.yv_expand_uses.specs.declared.spot.Spot.{Spot}
 use Rattle.yv_expand_changes.specs.Changes.{changes}
 use Rattle.yv_expand_definition.specs.Expansion.{AllRefer}
 use Rattle.yv_expand_definition.specs.Gives.{Gives, Product}

@@ -3,7 +3,7 @@ use Rattle.std.specs.Prelude.{◌≡◌, ◌↔◌, ℕ, true, false, List, Some
 use Rattle.yv_link_scopes.specs.Rows.{Row}
 use Rattle.yv_expand.specs.StatementBlocks.{is_augment, is_node_or_uses}
 use Rattle.yv_expand_rounds.specs.declared.statement_kind.StatementKind.{StatementKind}
-use Rattle.yv_expand_augments.specs.Kinds.{kind_at}
+use Rattle.yv_expand_uses.specs.Kinds.{kind_at}
 use Rattle.yv_expand_augments.specs.Placement.{augment_around}
 use Rattle.yv_expand_rounds.specs.Kinds.{takes}
 use Rattle.yv_expand_definition.specs.Gives.{takes_block}

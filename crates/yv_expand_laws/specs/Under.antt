@@ -9,7 +9,7 @@ use Rattle.yv_expand_rounds.specs.Groups.{Groups, group_of_augment, members_of}
 use Rattle.yv_expand_rounds.specs.Tree.{IsTree, Tree, tree_list}
 use Rattle.yv_expand_rounds.specs.Turns.{State, target_of}
 use Rattle.yv_expand_augments.specs.Augmentation.{AreAugmented, placement}
-use Rattle.yv_expand_augments.specs.Spots.{Whole, labels_of, layout_of}
+use Rattle.yv_expand_uses.specs.Spots.{Whole, labels_of, layout_of}
 use Rattle.yv_expand_changes.specs.Refusals.{IsThere}
 use Rattle.yv_expand_definition.specs.Nodes.{Forest}
 use Rattle.yv_expand_laws.specs.FirstItems.{BlocksMarked, first_state}

@@ -14,12 +14,13 @@ use Rattle.yv_link_scopes.specs.Rows.{Row}
 use Rattle.yv_expand.specs.Tree.{Item}
 use Rattle.yv_expand.specs.StatementBlocks.{augments_of}
 use Rattle.yv_expand_rounds.specs.declared.row.ItemRow.{ItemRow}
-use Rattle.yv_expand_augments.specs.Ends.{end_at}
+use Rattle.yv_expand_uses.specs.Ends.{end_at}
 use Rattle.yv_expand_augments.specs.Augmentation.{placed_from}
 use Rattle.yv_expand_rounds.specs.Kinds.{is_uses}
-use Rattle.yv_expand_augments.specs.Spots.{Whole, labels_of, layout_of}
-use Rattle.yv_expand_augments.specs.MissingTargets.{after_turns, augments_in, next_number, node_reached}
-use Rattle.yv_expand_augments.specs.declared.spot.Spot.{Spot}
+use Rattle.yv_expand_uses.specs.Spots.{Whole, labels_of, layout_of}
+use Rattle.yv_expand_augments.specs.MissingTargets.{after_turns, next_number, node_reached}
+use Rattle.yv_expand_uses.specs.AugmentOrder.{augments_in}
+use Rattle.yv_expand_uses.specs.declared.spot.Spot.{Spot}
 use Rattle.yv_expand_tree.specs.Final.{Final, IsFinal, final_items, whole_of}
 use Rattle.yv_expand_tree.specs.FileOrder.{marks_of, order_of}
 use Rattle.yv_expand_definition.specs.Expansion.{Expand}

@@ -4,7 +4,7 @@ ghost use Rattle.yv_link_scopes.specs.Files.{Briefs, Files};
 ghost use Rattle.yv_link_scopes.specs.Rows.{Row};
 ghost use Rattle.yv_expand.specs.Tree.{Item};
 ghost use Rattle.yv_expand_rounds.specs.declared.label.Label.{Label};
-ghost use Rattle.yv_expand_augments.specs.Spots.{Whole};
+ghost use Rattle.yv_expand_uses.specs.Spots.{Whole};
 ghost use Rattle.yv_expand_laws.specs.FirstItems.{BeginningShows};
 ghost use Rattle.yv_expand_laws.specs.Conditions.{FilesAsk, MarksAreConditions, MarksAsk};
 ghost use Rattle.yv_expand_laws.specs.Conformance.{AreAccepted, ConformingLeftIsSchema, ConformingRefusalsAreOne, NoFileIsBad};

@@ -14,9 +14,9 @@ use Rattle.yv_expand_refines.specs.Changes.{ChangesView, each}
 use Rattle.yv_expand_refines.specs.Targets.{all_meant}
 use Rattle.yv_expand_augments.specs.Refusals.{BadTarget}
 use Rattle.yv_expand_augments.specs.FinalItems.{AreAugmentedTree}
-use Rattle.yv_expand_augments.specs.Spots.{whole}
+use Rattle.yv_expand_uses.specs.Spots.{whole}
 use Rattle.yv_expand_augments.specs.declared.final_tree.AugmentedTree.{AugmentedTree}
-use Rattle.yv_expand_augments.specs.declared.spot.Spot.{Spot}
+use Rattle.yv_expand_uses.specs.declared.spot.Spot.{Spot}
 use Rattle.yv_expand_changes.specs.Changes.{all_changes}
 use Rattle.yv_expand_tree.specs.Refusals.{BadFinal, BadStanding}
 use Rattle.yv_expand_tree.specs.Final.{Final, IsFinal, changes_of, spots_of}

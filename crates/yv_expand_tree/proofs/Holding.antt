@@ -15,11 +15,12 @@ use Rattle.yv_expand_rounds.specs.Kinds.{may_be_target, is_uses}
 use Rattle.yv_expand_rounds.specs.Paths.{path_end}
 use Rattle.yv_expand_rounds.specs.Rounds.{round, rounds}
 use Rattle.yv_expand_rounds.specs.Turns.{State, give, is_applied, is_some_target, settle, target, turn}
-use Rattle.yv_expand_augments.specs.AugmentOrder.{augments_giving, is_giving, ordinal, place_of}
-use Rattle.yv_expand_augments.specs.Augmentation.{AreAugmented, copy_turn, last_of, module_paths, path_in, placed_from, turns, turns_from}
-use Rattle.yv_expand_augments.specs.Spots.{LayoutView, Whole, copy_group, group_below, labels_of, layout_of, laid_from, one_more, spot_at, spot_of, top_group_of, top_group, used_group}
-use Rattle.yv_expand_augments.specs.declared.spot.Spot.{Spot}
-use Rattle.yv_expand_augments.proofs.Bounds.{pushed_at}
+use Rattle.yv_expand_uses.specs.AugmentOrder.{augments_giving, is_giving, ordinal, place_of}
+use Rattle.yv_expand_augments.specs.Augmentation.{AreAugmented, copy_turn, last_of, placed_from, turns, turns_from}
+use Rattle.yv_expand_uses.specs.Paths.{module_paths, path_in}
+use Rattle.yv_expand_uses.specs.Spots.{LayoutView, Whole, copy_group, group_below, labels_of, layout_of, laid_from, one_more, spot_at, spot_of, top_group_of, top_group, used_group}
+use Rattle.yv_expand_uses.specs.declared.spot.Spot.{Spot}
+use Rattle.yv_expand_uses.proofs.Bounds.{pushed_at}
 
 -- where items stand before any augment is applied
 module _ (w : Whole) (V : ℕ → Type 0) (within : (p : ℕ) → V p → p < w.items) where

@@ -13,7 +13,7 @@ use Rattle.yv_expand_augments.specs.Refusals.{BadTarget, TooDeep}
 use Rattle.yv_expand_augments.specs.MandatoryNodes.{ImposesMandatory, MarksView, nothing_around}
 use Rattle.yv_expand_augments.specs.Placement.{PutsMisplaced}
 use Rattle.yv_expand_augments.specs.MissingTargets.{MissesTarget}
-use Rattle.yv_expand_augments.specs.declared.spot.Spot.{Spot}
+use Rattle.yv_expand_uses.specs.declared.spot.Spot.{Spot}
 use Rattle.yv_expand_changes.specs.Refusals.{BadRefines}
 use Rattle.yv_expand_changes.specs.Properties.{told_of}
 use Rattle.yv_expand_tree.specs.Refusals.{BadAugments, BadStanding}

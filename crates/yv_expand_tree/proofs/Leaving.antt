@@ -10,10 +10,11 @@ use Rattle.yv_expand.specs.Tree.{Item, Node, Nodes, count}
 use Rattle.yv_expand_rounds.specs.Tree.{Tree, none, item, tree_list}
 use Rattle.yv_expand_rounds.specs.declared.row.ItemRow.{ItemRow}
 use Rattle.yv_expand_rounds.specs.Kinds.{is_uses}
-use Rattle.yv_expand_augments.specs.Kinds.{kind_of}
-use Rattle.yv_expand_augments.specs.Remains.{is_left, is_marked, is_some_uses, remains}
-use Rattle.yv_expand_augments.specs.Spots.{LayoutView, Whole, layout_of, laid_from, one_more, spot_of}
-use Rattle.yv_expand_augments.specs.declared.spot.Spot.{Spot}
+use Rattle.yv_expand_uses.specs.Kinds.{kind_of}
+use Rattle.yv_expand_augments.specs.Remains.{is_left, is_some_uses, remains}
+use Rattle.yv_expand_uses.specs.On.{is_marked}
+use Rattle.yv_expand_uses.specs.Spots.{LayoutView, Whole, layout_of, laid_from, one_more, spot_of}
+use Rattle.yv_expand_uses.specs.declared.spot.Spot.{Spot}
 use Rattle.yv_expand_tree.specs.Remains.{nodes_of}
 use Rattle.yv_expand_tree.proofs.Numbering.{among_first, among_second, apart_once, AreOnce, both_once, by_place, either, first_once, IsIn, nodes_numbers, numbers, one_place, rows_numbers, second_once}
 use Rattle.yv_expand_tree.proofs.Standing.{in_lists}

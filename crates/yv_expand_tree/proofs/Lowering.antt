@@ -10,7 +10,7 @@ use Rattle.yv_statement.specs.Selection.{Selected}
 use Rattle.yv_link_scopes.specs.Files.{Files}
 use Rattle.yv_link_scopes.specs.RowList.{rows_of}
 use Rattle.yv_link_scopes.specs.Rows.{Row}
-use Rattle.yv_link_definitions.specs.BuiltIn.{is_among}
+use Rattle.yv_statement.specs.Words.{is_among}
 use Rattle.yv_expand.specs.StatementBlocks.{block_of, numbers_from, stands_in, is_at, is_node_or_uses, those}
 use Rattle.yv_expand.proofs.UnitListing.{numbers_are}
 use Rattle.yv_expand.specs.Conformance.{Conform, gives_nodes, is_lowest as is_leaf, lowest}
@@ -23,9 +23,9 @@ use Rattle.yv_expand_rounds.specs.declared.statement_kind.StatementKind.{Stateme
 use Rattle.yv_expand_rounds.specs.declared.statement_kind.StatementKind.TheVariants as kind
 use Rattle.yv_expand_rounds.specs.declared.label.Label.{Label}
 use Rattle.yv_expand_rounds.specs.declared.row.ItemRow.{ItemRow}
-use Rattle.yv_expand_augments.specs.Kinds.{kind_at, kind_of}
-use Rattle.yv_expand_augments.specs.Spots.{labels_of}
-use Rattle.yv_expand_augments.specs.declared.spot.Spot.{Spot}
+use Rattle.yv_expand_uses.specs.Kinds.{kind_at, kind_of}
+use Rattle.yv_expand_uses.specs.Spots.{labels_of}
+use Rattle.yv_expand_uses.specs.declared.spot.Spot.{Spot}
 use Rattle.yv_expand_changes.specs.Truth.{Truth}
 use Rattle.yv_expand_tree.specs.Final.{Final, IsFinal, spots_of, whole_of}
 use Rattle.yv_expand_tree.specs.FileOrder.{marks_of, order_of}

@@ -14,9 +14,9 @@ use Rattle.yv_expand.specs.Origin.{number_of}
 use Rattle.yv_expand.specs.Tree.{Item, Tree, all_of, count, item, join, item_list, none}
 use Rattle.yv_expand.specs.Expansion.{AreAdded, AreTrees}
 use Rattle.yv_expand.specs.Expands.{Expands, node, nothing, operation, other, uses}
-use Rattle.yv_expand_augments.specs.Spots.{LayoutView, Whole, module_file_below, layout_of, laid_from, one_more, own_module_file, spot_at, spot_of}
-use Rattle.yv_expand_augments.specs.declared.spot.Spot.{Spot}
-use Rattle.yv_expand_augments.proofs.Bounds.{pushed_at}
+use Rattle.yv_expand_uses.specs.Spots.{LayoutView, Whole, module_file_below, layout_of, laid_from, one_more, own_module_file, spot_at, spot_of}
+use Rattle.yv_expand_uses.specs.declared.spot.Spot.{Spot}
+use Rattle.yv_expand_uses.proofs.Bounds.{pushed_at}
 use Rattle.yv_expand_tree.specs.Final.{Final, IsFinal, spots_of, whole_of}
 use Rattle.yv_expand_tree.specs.FileOrder.{HaveModuleFiles, is_given, marks_of, order_of}
 use Rattle.yv_expand_tree.proofs.Finals.{slice_get_absent}

@@ -13,7 +13,7 @@ use Rattle.yv_expand.specs.Limit.{TooMany}
 use Rattle.yv_expand_rounds.specs.Tree.{Tree, none, item}
 use Rattle.yv_expand_augments.specs.Refusals.{RefusesIf}
 use Rattle.yv_expand_augments.specs.MandatoryNodes.{Around, ImposesMandatory, MarksView, inside, nothing_around}
-use Rattle.yv_expand_augments.specs.declared.spot.Spot.{Spot}
+use Rattle.yv_expand_uses.specs.declared.spot.Spot.{Spot}
 use Rattle.yv_expand_changes.specs.Properties.{told_of}
 use Rattle.yv_expand_tree.specs.Refusals.{BadAugments, BadExpansion, BadFinal, BadStanding}
 use Rattle.yv_expand_tree.specs.Final.{Final, said_of, spots_of}

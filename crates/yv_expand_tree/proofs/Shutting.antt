@@ -19,7 +19,7 @@ use Rattle.yv_expand.specs.Expands.{Expands, node, nothing, operation, other, us
 use Rattle.yv_expand.proofs.Referring.{refers_word}
 use Rattle.yv_expand.proofs.Words.{operation_item, word_is}
 use Rattle.yv_expand_rounds.specs.declared.statement_kind.StatementKind.TheVariants as kind
-use Rattle.yv_expand_augments.specs.Kinds.{kind_at, kind_of}
+use Rattle.yv_expand_uses.specs.Kinds.{kind_at, kind_of}
 use Rattle.yv_expand_rounds.specs.Kinds.{kind_of_keyword}
 use Rattle.yv_expand_tree.specs.Lowest.{is_lowest}
 use Rattle.yv_expand_tree.proofs.Standing.{in_first, in_lists, in_second, listed_long}

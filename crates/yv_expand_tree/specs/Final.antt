@@ -12,9 +12,9 @@ use Rattle.yv_expand_rounds.specs.Turns.{State}
 use Rattle.yv_expand_rounds.specs.declared.row.ItemRow.{ItemRow}
 use Rattle.yv_expand_refines.specs.Targets.{RefineMeaning}
 use Rattle.yv_expand_augments.specs.Augmentation.{AreAugmented}
-use Rattle.yv_expand_augments.specs.RefineTargets.{refined_all}
-use Rattle.yv_expand_augments.specs.Spots.{Whole, labels_of, layout_of, whole}
-use Rattle.yv_expand_augments.specs.declared.spot.Spot.{Spot}
+use Rattle.yv_expand_augments.specs.RefineMeanings.{refined_all}
+use Rattle.yv_expand_uses.specs.Spots.{Whole, labels_of, layout_of, whole}
+use Rattle.yv_expand_uses.specs.declared.spot.Spot.{Spot}
 use Rattle.yv_expand_changes.specs.Changes.{all_changes}
 use Rattle.yv_node_properties.specs.declared.properties.StatedProperties.{StatedProperties}
 use Rattle.yv_expand_changes.specs.Properties.{said_of_all}

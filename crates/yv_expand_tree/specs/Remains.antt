@@ -5,8 +5,9 @@ use Rattle.yv_link_scopes.specs.RowList.{rows_of}
 use Rattle.yv_expand.specs.Tree.{Nodes}
 use Rattle.yv_expand.specs.Tree as nodes
 use Rattle.yv_expand_rounds.specs.Tree.{Tree, none, item}
-use Rattle.yv_expand_augments.specs.Remains.{is_left, is_marked, remains}
-use Rattle.yv_expand_augments.specs.On.{AreOn}
+use Rattle.yv_expand_augments.specs.Remains.{is_left, remains}
+use Rattle.yv_expand_uses.specs.On.{is_marked}
+use Rattle.yv_expand_uses.specs.On.{AreOn}
 use Rattle.yv_expand_changes.specs.Truth.{Truth}
 use Rattle.yv_expand_changes.specs.IfFeatures.{item_marks, statement_marks}
 use Rattle.yv_expand_tree.specs.Final.{Final, changes_of, spots_of}

@@ -10,8 +10,8 @@ ghost use Rattle.yv_expand.specs.StatementBlocks.{given_before};
 ghost use Rattle.yv_expand.specs.Weigh.{Weigh};
 ghost use Rattle.yv_expand.specs.Tree.{Item, Node, Nodes, count, item_list};
 ghost use Rattle.yv_expand_rounds.specs.Kinds.{is_uses};
-ghost use Rattle.yv_expand_augments.specs.Kinds.{kind_of};
-ghost use Rattle.yv_expand_augments.specs.declared.spot.Spot.{Spot};
+ghost use Rattle.yv_expand_uses.specs.Kinds.{kind_of};
+ghost use Rattle.yv_expand_uses.specs.declared.spot.Spot.{Spot};
 ghost use Rattle.yv_expand_changes.specs.Truth.{Truth};
 ghost use Rattle.yv_expand_tree.specs.Refusals.{BadExpansion};
 ghost use Rattle.yv_expand_tree.specs.Final.{Final, IsFinal, spots_of};
@@ -44,7 +44,7 @@ pub fn what_is_left_is_one()
         → IsFinal choice files f
         → AreLeft truth files f a → AreLeft truth files f b → a ≡ b }
 {
-    yv_expand_augments::laws::if_features_have_one_answer();
+    yv_expand_uses::laws::if_features_have_one_answer();
 }
 
 /// What is left of a final tree has no more nodes than units were counted for the files of the

@@ -4,7 +4,7 @@ ghost use Rattle.yv_expand_tree.specs.FinalTree.{source_at, source_of_spot, modu
 
 use std::marker::Model;
 use yv_expand::{Expansion, Origin, RemainingNode};
-use yv_expand_augments::Spot;
+use yv_expand_uses::Spot;
 use yv_expand_refines::Changes;
 
 /// The final tree of the files of implemented modules. Items go by their numbers in the expansion,

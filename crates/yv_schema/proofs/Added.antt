@@ -7,8 +7,8 @@ use Rattle.std.proofs.lemmas.List.{map-append}
 use Rattle.std.proofs.lemmas.Option.{same_Some, slice_get_past}
 use Rattle.yv_base_tables.specs.Families.{is_place, numbers_from}
 use Rattle.yv_expand.specs.Tree.{Item, Node, Nodes, count, item, item_list, none}
-use Rattle.yv_expand_augments.specs.Spots.{LayoutView, Whole, laid_from, layout_of, one_more, spot_of}
-use Rattle.yv_expand_augments.specs.declared.spot.Spot.{Spot}
+use Rattle.yv_expand_uses.specs.Spots.{LayoutView, Whole, laid_from, layout_of, one_more, spot_of}
+use Rattle.yv_expand_uses.specs.declared.spot.Spot.{Spot}
 use Rattle.yv_expand_tree.specs.FinalTree.{source_of_spot}
 use Rattle.yv_expand_laws.specs.Files.{giver_by}
 use Rattle.yv_expand_laws.specs.Schema.{shown_nodes}

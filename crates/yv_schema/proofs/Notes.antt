@@ -14,7 +14,7 @@ use Rattle.yv_link_scopes.specs.Rows.{Row}
 use Rattle.yv_link_features.specs.Refusals.{BadFeatures}
 use Rattle.yv_expand.specs.StatementBlocks.{augments_of}
 use Rattle.yv_expand.specs.Tree.{Node, Nodes, item_list}
-use Rattle.yv_expand_augments.specs.Spots.{whole}
+use Rattle.yv_expand_uses.specs.Spots.{whole}
 use Rattle.yv_expand_changes.specs.Truth.{Truth}
 use Rattle.yv_expand_tree.specs.Final.{Final, IsFinal, spots_of, whole_of}
 use Rattle.yv_expand_tree.specs.FileOrder.{marks_of}

@@ -7,8 +7,8 @@ use Rattle.yv_link_scopes.specs.Files.{Files}
 use Rattle.yv_link_scopes.specs.RowList.{rows_of, statements_of}
 use Rattle.yv_expand.specs.Tree.{Item, Node, Nodes, item_list}
 use Rattle.yv_expand_rounds.specs.Kinds.{is_uses}
-use Rattle.yv_expand_augments.specs.Kinds.{kind_of}
-use Rattle.yv_expand_augments.specs.declared.spot.Spot.{Spot}
+use Rattle.yv_expand_uses.specs.Kinds.{kind_of}
+use Rattle.yv_expand_uses.specs.declared.spot.Spot.{Spot}
 use Rattle.yv_expand_changes.specs.Truth.{Truth}
 use Rattle.yv_expand_tree.specs.Final.{Final, IsFinal, spots_of}
 use Rattle.yv_expand_tree.specs.FileOrder.{HaveModuleFiles, is_given}

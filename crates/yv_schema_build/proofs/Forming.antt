@@ -13,8 +13,8 @@ use Rattle.yv_nodes.specs.Tree.{Label}
 use Rattle.yv_schema_tables.specs.NodeNumbers.{AreFormed, AreModules, HasNoColon, IsFormed, IsNamed}
 use Rattle.yv_link_scopes.specs.RowList.{rows_of}
 use Rattle.yv_expand_rounds.specs.Kinds.{is_uses}
-use Rattle.yv_expand_augments.specs.Kinds.{kind_of}
-use Rattle.yv_expand_augments.specs.declared.spot.Spot.{Spot}
+use Rattle.yv_expand_uses.specs.Kinds.{kind_of}
+use Rattle.yv_expand_uses.specs.declared.spot.Spot.{Spot}
 use Rattle.yv_node_statements.specs.Definitions.{refined_definition}
 use Rattle.yv_expand_tree.specs.Final.{changes_of, spots_of}
 use Rattle.yv_expand_tree.specs.FileOrder.{is_given}

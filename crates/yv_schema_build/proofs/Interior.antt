@@ -23,7 +23,7 @@ use Rattle.yv_expand.specs.declared.origin.Origin.TheVariants as origin
 use Rattle.yv_expand.specs.Tree as items
 use Rattle.yv_expand.specs.Tree.{Item, Node, Nodes}
 use Rattle.yv_expand_rounds.specs.declared.statement_kind.StatementKind.TheVariants as given
-use Rattle.yv_expand_augments.specs.Kinds.{kind_at, kind_of as item_kind}
+use Rattle.yv_expand_uses.specs.Kinds.{kind_at, kind_of as item_kind}
 use Rattle.yv_expand_rounds.specs.Kinds.{kind_of_keyword}
 use Rattle.yv_expand_changes.specs.Truth.{Truth}
 use Rattle.yv_node_properties.specs.Statements.{no_statement, statement_at}

@@ -13,7 +13,7 @@ use Rattle.yv_link_scopes.specs.Files.{brief_of, module_file_at}
 use Rattle.yv_link_scopes.specs.RowList.{rows_of}
 use Rattle.yv_link_scopes.specs.Rows.{Row as Statement, name_in}
 use Rattle.yv_expand.specs.Tree.{Node}
-use Rattle.yv_expand_augments.specs.declared.spot.Spot.{Spot}
+use Rattle.yv_expand_uses.specs.declared.spot.Spot.{Spot}
 use Rattle.yv_expand_tree.specs.Final.{spots_of}
 use Rattle.yv_expand_tree.specs.FinalTree.{source_at, targets_of}
 use Rattle.yv_nodes.specs.declared.node.NodeId.{NodeId}

@@ -27,7 +27,7 @@ use Rattle.yv_node_properties.specs.Statements.{no_statement}
 use Rattle.yv_expand_rounds.specs.declared.statement_kind.StatementKind.{StatementKind}
 use Rattle.yv_expand_rounds.specs.declared.statement_kind.StatementKind.TheVariants as kind
 use Rattle.yv_expand_rounds.specs.Kinds.{is_uses, kind_of_keyword, kind_in, kinds}
-use Rattle.yv_expand_augments.specs.Kinds.{kind_of as item_kind, kind_at}
+use Rattle.yv_expand_uses.specs.Kinds.{kind_of as item_kind, kind_at}
 use Rattle.yv_schema_tables.specs.NodeNumbers.{HasNoColon}
 use Rattle.yv_link_scopes.specs.Files.{Files}
 use Rattle.yv_link_scopes.specs.Rows.{Row, is_extended}

@@ -1,8 +1,10 @@
 //! The built-in types, and the substatements that each takes.
 ghost use Rattle.std.specs.Prelude.{◌≡◌, map};
-ghost use Rattle.yv_link_definitions.specs.BuiltIn.{is_among, is_built_in};
+ghost use Rattle.yv_link_definitions.specs.BuiltIn.{is_built_in};
 ghost use Rattle.yv_type_chains.specs.Kinds.{has_kind, has_pair, is_of_built_in, is_foreign, needs, needs_any};
 ghost use Rattle.yv_type_chains.specs.InnerPairs.{pair};
+
+use yv_statement::is_among;
 
 // A built-in type and the keyword of a substatement.
 struct Pair {
@@ -85,18 +87,6 @@ static NEEDED: [Pair; 6] = pairs![
     "leafref" "path",
     "union" "type",
 ];
-
-// Whether one of the words is the name.
-fn is_among(words: &[&str], name: &str) -> bool
-    ensures { result ≡ is_among (map (λ w. w.now) words.now) name.now }
-{
-    for word in words {
-        if *word == name {
-            return true;
-        }
-    }
-    false
-}
 
 // Whether the two are a pair.
 fn has_pair(pairs: &[Pair], kind: &str, word: &str) -> bool

@@ -8,18 +8,19 @@ use Rattle.yv_expand_rounds.specs.Turns.{State}
 use Rattle.yv_expand_rounds.specs.Placements.{HaveEntered, StandOnce}
 use Rattle.yv_expand_rounds.specs.Rounds.{AreApplied}
 use Rattle.yv_expand_rounds.specs.InnerState.{IsAugmentation}
-use Rattle.yv_expand_augments.specs.Augmentation.{module_paths, placement}
-use Rattle.yv_expand_augments.specs.Spots.{LayoutView, Whole, labels_of, layout_of}
+use Rattle.yv_expand_uses.specs.Paths.{module_paths}
+use Rattle.yv_expand_augments.specs.Augmentation.{placement}
+use Rattle.yv_expand_uses.specs.Spots.{LayoutView, Whole, labels_of, layout_of}
 use Rattle.yv_expand_augments.specs.FinalItems.{AreAugmentedItems}
-use Rattle.yv_expand_augments.specs.InnerLayout.{AreLaid, laid_in}
-use Rattle.yv_expand_augments.specs.InnerPlan.{whole_in}
+use Rattle.yv_expand_uses.specs.InnerLayout.{AreLaid, laid_in}
+use Rattle.yv_expand_uses.specs.InnerPlan.{whole_in}
 use Rattle.yv_expand_augments.specs.declared.augmentation.AugmentedItems.{AugmentedItems}
-use Rattle.yv_expand_augments.specs.Ends.{end_at}
+use Rattle.yv_expand_uses.specs.Ends.{end_at}
 use Rattle.yv_expand_augments.specs.MissingTargets.{MissesAt}
-use Rattle.yv_expand_augments.specs.RefineTargets.{refine_meanings}
+use Rattle.yv_expand_augments.specs.RefineMeanings.{refine_meanings}
 use Rattle.yv_expand_augments.proofs.Meaning.{refined_same}
 use Rattle.yv_expand_augments.proofs.Missing.{missing_same}
-use Rattle.yv_expand_augments.proofs.Bounds.{laid_whole}
+use Rattle.yv_expand_uses.proofs.Bounds.{laid_whole}
 use Rattle.yv_expand_augments.proofs.Entering.{placed_ends, whole_entered}
 use Rattle.yv_expand_augments.proofs.augmentation.apply_augments.Goals as goal
 

@@ -1,5 +1,6 @@
-use Rattle.yv_expand_augments.specs.Augmentation.{module_paths, placement}
-use Rattle.yv_expand_augments.specs.Spots.{labels_of, layout_of}
+use Rattle.yv_expand_uses.specs.Paths.{module_paths}
+use Rattle.yv_expand_augments.specs.Augmentation.{placement}
+use Rattle.yv_expand_uses.specs.Spots.{labels_of, layout_of}
 use Rattle.yv_expand_augments.proofs.laws.augments_come_to_one.Goals as goal
 
 pub returns : goal.returns

@@ -1,6 +1,6 @@
-use Rattle.std.proofs.Common.{◌≡◌, ◌<◌, ℕ, List, Vec, Global, Some, get_or, length, refl, ◌∙◌, ap, subst, arith}
+use Rattle.std.proofs.Common.{◌≡◌, ◌<◌, ℕ, List, [], Vec, Global, Some, get_or, length, refl, sym, ◌∙◌, eqb-true, ap, subst, arith}
 use Rattle.std.specs.List.{slice_get}
-use Rattle.std.proofs.lemmas.List.{take_all}
+use Rattle.std.proofs.lemmas.List.{nil_from_length, take_all}
 use Rattle.std.proofs.lemmas.Option.{slice_get_read}
 use Rattle.yv_statement.specs.Order.{IsLeast}
 use Rattle.yv_link_scopes.specs.Views.{lent_in}
@@ -11,6 +11,13 @@ use Rattle.yv_expand_changes.specs.Refusals.{BadRefines}
 use Rattle.yv_expand_changes.specs.InnerRefusals.{AreJudged}
 use Rattle.yv_expand_changes.proofs.Judging.{copies_judged, none_judged}
 use Rattle.yv_expand_changes.proofs.refusals.first_wrong.Goals as goal
+
+pub returns-then-is_empty : goal.returns-then-is_empty
+returns-then-is_empty c =
+    let aims : List (Vec RefineTarget Global) = c.args.refinements.now.aims.items in
+    let uses : List RefinedUses = c.args.refinements.now.uses.items in
+    let none : uses ≡ [] = sym c.as_slice.ensures.value ∙ nil_from_length c.as_slice.result.now (eqb-true (length c.as_slice.result.now) 0 (sym c.is_empty.ensures ∙ c.if-is_empty.true)) in
+    none_judged (lent_in c.args.rows.now) c.args.spots.now c.args.tree.now (meant_from aims uses) (ap (meant_from aims) none)
 
 pub loop-uses-init : goal.loop-uses-init
 loop-uses-init c =

@@ -2,7 +2,7 @@ use Rattle.std.proofs.Common.{◌≡◌, ℕ, List, Option, map}
 use Rattle.yv_statement.specs.Order.{Among, IsLeast}
 use Rattle.yv_link_scopes.specs.Views.{lent_in}
 use Rattle.yv_expand_rounds.specs.declared.row.ItemRow.{ItemRow}
-use Rattle.yv_expand_augments.specs.declared.spot.Spot.{Spot}
+use Rattle.yv_expand_uses.specs.declared.spot.Spot.{Spot}
 use Rattle.yv_expand_refines.specs.Targets.{meaning_of}
 use Rattle.yv_expand_changes.specs.Refusals.{IsThere, IsWrong}
 use Rattle.yv_expand_changes.specs.InnerAlike.{ways_of}

@@ -1,6 +1,6 @@
 use Rattle.std.proofs.Common.{length, refl}
 use Rattle.yv_link_scopes.specs.Views.{files_in, rows_in}
-use Rattle.yv_expand_augments.specs.Spots.{whole}
+use Rattle.yv_expand_uses.specs.Spots.{whole}
 use Rattle.yv_expand_tree.proofs.whole.augmented_tree.Goals as goal
 
 pub returns : goal.returns

@@ -6,7 +6,7 @@ use Rattle.yv_expand.specs.Tree.{Item}
 use Rattle.yv_expand_rounds.specs.Turns.{State}
 use Rattle.yv_expand_augments.specs.Refusals.{HasNoTarget, RefusesIf}
 use Rattle.yv_expand_augments.specs.FinalItems.{AreAugmentedItems}
-use Rattle.yv_expand_augments.specs.Spots.{Whole}
+use Rattle.yv_expand_uses.specs.Spots.{Whole}
 use Rattle.yv_expand_augments.proofs.augmentation.AugmentedItems.first_without_target.Given as goal
 
 abbrev pub invariant-loop-place : goal.invariant-loop-place

@@ -1,7 +1,7 @@
 use Rattle.std.proofs.Common.{◌≡◌, ◌∙◌, ℕ, length, sym, subst}
 use Rattle.std.proofs.lemmas.List.{length-map}
 use Rattle.yv_expand_rounds.specs.Placements.{StandOnce}
-use Rattle.yv_expand_augments.specs.Spots.{labels_of, layout_of}
+use Rattle.yv_expand_uses.specs.Spots.{labels_of, layout_of}
 use Rattle.yv_expand_augments.proofs.augmentation.AugmentedItems.into_grown.Goals as goal
 
 pub returns : goal.returns

@@ -4,8 +4,8 @@ use Rattle.std.proofs.lemmas.Option.{slice_get-get_or}
 use Rattle.yv_statement.specs.Order.{Among, IsLeast}
 use Rattle.yv_statement.proofs.Least.{least_more}
 use Rattle.yv_expand_rounds.specs.declared.row.ItemRow.{ItemRow}
-use Rattle.yv_expand_augments.specs.Ends.{end_at}
-use Rattle.yv_expand_augments.specs.Spots.{layout_of}
+use Rattle.yv_expand_uses.specs.Ends.{end_at}
+use Rattle.yv_expand_uses.specs.Spots.{layout_of}
 use Rattle.yv_expand_augments.specs.MissingTargets.{MissesAt}
 use Rattle.yv_expand_augments.proofs.final_tree.AugmentedTree.first_untargeted.Goals as goal
 

@@ -2,9 +2,9 @@ use Rattle.std.proofs.Common.{List}
 use Rattle.yv_statement.specs.Order.{Among, IsLeast}
 use Rattle.yv_expand.specs.Tree.{Item}
 use Rattle.yv_expand_rounds.specs.Turns.{State}
-use Rattle.yv_expand_augments.specs.Ends.{end_at}
+use Rattle.yv_expand_uses.specs.Ends.{end_at}
 use Rattle.yv_expand_augments.specs.FinalItems.{AreAugmentedTree}
-use Rattle.yv_expand_augments.specs.Spots.{Whole, layout_of}
+use Rattle.yv_expand_uses.specs.Spots.{Whole, layout_of}
 use Rattle.yv_expand_augments.specs.MissingTargets.{MissesAt}
 use Rattle.yv_expand_augments.proofs.final_tree.AugmentedTree.first_untargeted.Given as goal
 

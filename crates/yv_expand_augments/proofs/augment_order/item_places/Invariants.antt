@@ -1,7 +1,0 @@
-use Rattle.std.proofs.Common.{◌≡◌, map, take, if◌then◌else◌, Some, None}
-use Rattle.yv_link_scopes.specs.Views.{rows_in}
-use Rattle.yv_expand_augments.specs.AugmentOrder.{is_node_or_uses}
-use Rattle.yv_expand_augments.proofs.augment_order.item_places.Given as goal
-
-abbrev pub invariant-loop-entry : goal.invariant-loop-entry
-invariant-loop-entry l = map (λ r. if is_node_or_uses r then Some r.scope else None) (take l.entry-index (rows_in l.rows)) ≡ l.places.items

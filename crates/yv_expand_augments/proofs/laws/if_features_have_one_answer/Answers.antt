@@ -1,5 +1,0 @@
-use Rattle.yv_expand_augments.proofs.Deciding.{marks_one}
-use Rattle.yv_expand_augments.proofs.laws.if_features_have_one_answer.Goals as goal
-
-pub returns : goal.returns
-returns c = marks_one

@@ -1,6 +1,0 @@
-use Rattle.std.proofs.Common.{◌≡◌, map, take}
-use Rattle.yv_expand_augments.specs.InnerLeadingPaths.{place_aim}
-use Rattle.yv_expand_augments.proofs.leading_paths.place_aims.Given as goal
-
-abbrev pub invariant-loop-aim : goal.invariant-loop-aim
-invariant-loop-aim l = l.placed.items ≡ map (place_aim l.paths) (take l.aim-index l.aims)

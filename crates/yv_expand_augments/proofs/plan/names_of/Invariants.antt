@@ -1,6 +1,0 @@
-use Rattle.std.proofs.Common.{◌≡◌, map, take}
-use Rattle.yv_expand_augments.specs.Augmentation.{step_name}
-use Rattle.yv_expand_augments.proofs.plan.names_of.Given as goal
-
-abbrev pub invariant-loop-step : goal.invariant-loop-step
-invariant-loop-step l = l.names.items ≡ map (step_name l.module_file) (take l.step-index l.steps)

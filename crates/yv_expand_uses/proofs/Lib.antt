@@ -1,0 +1,10 @@
+pub mod Reading
+pub mod Counting
+pub mod Bounds
+pub mod Asking
+pub mod Ending
+pub mod Pushing
+pub mod Leading
+pub mod Aiming
+pub mod Keeping
+pub mod Deciding

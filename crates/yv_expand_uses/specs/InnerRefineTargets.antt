@@ -1,0 +1,64 @@
+-- Inner definitions: what the refines of `uses` statements aim at, made once for all copies in one
+-- module that are alike. Public clauses cite `AreRefineTargets` alone.
+use Rattle.std.specs.Prelude.{◌≡◌, ℕ, ◌<◌, List, length, map, Option, Some, slice_get}
+use Rattle.std.specs.Ordering.{nat_cmp, ordering_then}
+use Rattle.std.specs.declared.cmp.Ordering.{Ordering}
+use Rattle.std.specs.BTreeMap.{get}
+use Rattle.yv_base_tables.specs.InnerTree.{IsPathTree}
+use Rattle.yv_expand_refines.specs.Targets.{targets_at}
+use Rattle.yv_expand_refines.specs.declared.targets.RefineTarget.{RefineTarget}
+use Rattle.yv_expand_refines.specs.declared.targets.RefinedUses.{RefinedUses}
+use Rattle.yv_expand_uses.specs.Paths.{path_in}
+use Rattle.yv_expand_uses.specs.InnerLeadingPaths.{place_aim}
+use Rattle.yv_expand_uses.specs.RefineTargets.{refines_in}
+use Rattle.yv_expand_uses.specs.Spots.{Whole}
+use Rattle.yv_expand_uses.specs.declared.refine_targets.UsesTargets.{UsesTargets}
+use Rattle.yv_expand_uses.specs.declared.refine_targets.RefineTargets.{RefineTargets}
+use Rattle.yv_expand_uses.specs.declared.refine_targets.KeptTargets.{KeptTargets}
+
+-- these are the refines of a block in order, each with the number of the path that it has in the
+-- module of the file `module_file`
+pub record AreTargets (w : Whole) (statement module_file : ℕ) (aims : List RefineTarget) (paths : List (List ℕ)) : Type 0 where
+  pub refines : map (λ a. a.refine) aims ≡ refines_in w.rows statement
+  pub each : map (λ a. slice_get paths a.path) aims ≡ map (λ k. Some (path_in w module_file k)) (refines_in w.rows statement)
+
+-- the same, where the paths are those of a tree
+pub record IsUsesTargets (w : Whole) (statement module_file : ℕ) (aimed : UsesTargets) : Type 0 where
+  pub all : List (List ℕ)
+  pub tree : IsPathTree all aimed.paths
+  pub aims : AreTargets w statement module_file aimed.aims.items all
+
+-- the number of a `uses`, and the file of a module
+abbrev pub Key : Type 0
+Key = ℕ × ℕ
+
+abbrev pub key_cmp : Key → Key → Ordering
+key_cmp j k = ordering_then (nat_cmp j.0 k.0) (nat_cmp j.1 k.1)
+
+-- the number that is known
+abbrev pub number_in : RefineTargets → (statement module_file : ℕ) → Option ℕ
+number_in aims statement module_file = get key_cmp aims.known (statement, module_file)
+
+-- what the refines of a `uses` aim at in a module has this number
+pub record HasNumber (w : Whole) (aims : RefineTargets) (statement module_file number : ℕ) : Type 0 where
+  pub aimed : UsesTargets
+  pub at : slice_get aims.aimed.items number ≡ Some aimed
+  pub is : IsUsesTargets w statement module_file aimed
+
+-- the aims of this number stand at this place, for copies where these paths lead to nodes
+pub record IsPlaced (aims : RefineTargets) (number : ℕ) (paths : List ℕ) (place : ℕ) : Type 0 where
+  pub within : place < length aims.refinements.aims.items
+  pub stand : (aimed : UsesTargets) → slice_get aims.aimed.items number ≡ Some aimed
+      → targets_at aims.refinements.aims.items place ≡ map (place_aim paths) aimed.aims.items
+
+-- the aims of each copy stand at one of so many places
+abbrev pub StandWithin : (places : ℕ) → List RefinedUses → Type 0
+StandWithin places us = (k : ℕ) (u : RefinedUses) → slice_get us k ≡ Some u → u.aims < places
+
+-- the aims that are known have their numbers, those that are kept stand at their places, and those
+-- of each copy do
+pub record AreRefineTargets (w : Whole) (aims : RefineTargets) : Type 0 where
+  pub known : (statement module_file number : ℕ) → number_in aims statement module_file ≡ Some number → HasNumber w aims statement module_file number
+  pub each : length aims.kept.items ≡ length aims.aimed.items
+  pub kept : (number : ℕ) (k : KeptTargets) → slice_get aims.kept.items number ≡ Some (Some k) → IsPlaced aims number k.paths.items k.place
+  pub uses : StandWithin (length aims.refinements.aims.items) aims.refinements.uses.items

@@ -1,0 +1,14 @@
+pub mod Kinds
+pub mod AugmentOrder
+pub mod Spots
+pub mod Paths
+pub mod RefineTargets
+pub mod Ends
+pub mod On
+pub mod InnerPlan
+pub mod InnerCounts
+pub mod InnerLayout
+pub mod InnerEnds
+pub mod InnerPaths
+pub mod InnerLeadingPaths
+pub mod InnerRefineTargets
