@@ -4,3 +4,4 @@ pub mod Bad
 pub mod InnerSpots
 pub mod InnerAncestry
 pub mod InnerBelow
+pub mod InnerNamesakes

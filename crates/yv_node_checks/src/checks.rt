@@ -25,6 +25,6 @@ pub fn least_in_tree(alloc: Global, nodes: &Nodes) -> Result<Option<Refusal>, Al
     let _count = nodes.len();
     let rows = nodes.all();
     let above = least_by_above(alloc, rows)?;
-    let default = least_by_default(alloc, rows)?;
+    let default = least_by_default(alloc, nodes)?;
     Ok(lesser(above, default))
 }

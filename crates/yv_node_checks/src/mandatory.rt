@@ -1,5 +1,5 @@
 //! Mandatory nodes, and what is wrong with defaults.
-ghost use Rattle.std.specs.Prelude.{◌≡◌, ℕ, Some, IfOk, slice_get};
+ghost use Rattle.std.specs.Prelude.{◌≡◌, ℕ, Some, IfOk, IfSome, length, slice_get, ◌<◌};
 ghost use Rattle.std.specs.List.{find, list_any};
 ghost use Rattle.yv_statement.specs.Order.{IsLeast};
 ghost use Rattle.yv_node_definition.specs.Definition.{own_default};
@@ -8,24 +8,28 @@ ghost use Rattle.yv_nodes.specs.Places.{Place, places};
 ghost use Rattle.yv_node_checks.specs.Mandatory.{BadByDefault, BadOfDefault, forbids_default_as, has_unfit_default, has_values, is_caseless, is_crowded, has_duplicate_default, is_illegible, is_needed, is_overruled};
 ghost use Rattle.yv_node_checks.specs.InnerSpots.{AreRows};
 ghost use Rattle.yv_node_checks.specs.InnerBelow.{AreBelow, case_among, is_named_at, is_needed_at, is_undone_at, kept_at};
+ghost use Rattle.yv_node_checks.specs.InnerNamesakes.{AreCases, HaveName, NamesDefault, case_at};
 
 use std::alloc::{AllocError, Global};
 use yv_node_definition::NodeKind;
-use yv_nodes::{Node, NodeId};
+use yv_nodes::{Node, NodeId, Nodes};
 use yv_statement::{Code, Refusal, lesser};
 use yv_values::Defaults;
 
 /// The least refusal of the defaults of a choice, a leaf or a leaf-list, or of `mandatory true` or
 /// `min-elements` beside a default.
-pub(crate) fn least_by_default(alloc: Global, nodes: &[Node]) -> Result<Option<Refusal>, AllocError>
-    ensures { (ts : Forest) → AreRows nodes.now ts
+pub(crate) fn least_by_default(alloc: Global, nodes: &Nodes) -> Result<Option<Refusal>, AllocError>
+    ensures { (ts : Forest) → AreRows nodes.now.rows ts
         → IfOk result (λ least. IsLeast (BadByDefault ts) least) }
 {
-    let below = mandatory_below(alloc, nodes)?;
+    let below = mandatory_below(alloc, nodes.all())?;
+    let mut cases = Vec::with_capacity(alloc, nodes.len() as usize)?;
     let mut least = None;
-    for node in nodes {
-        let here = wrong_default(nodes, &below, node);
+    for number in 0..nodes.len() {
+        let case = next_case(nodes, &cases, NodeId(number));
+        let here = wrong_default(nodes.all(), &below, nodes.get(NodeId(number)), case);
         least = lesser(least, here);
+        cases.push(case)?;
     }
     Ok(least)
 }
@@ -97,33 +101,82 @@ fn is_named_at(nodes: &[Node], module_file: u32, name: &str, number: NodeId) -> 
     }
 }
 
-// Of these nodes the first that has this module and this name.
-fn first_named(nodes: &[Node], module_file: u32, name: &str, children: &[NodeId]) -> Option<NodeId>
-    ensures { result ≡ find (is_named_at nodes.now module_file name.now) children.now }
+// The same, where the namesake has this name, if there is one: then names are read only where it is
+// not known that the same is said of both nodes.
+fn is_named(
+    nodes: &Nodes,
+    module_file: u32,
+    name: &str,
+    namesake: Option<NodeId>,
+    number: NodeId,
+) -> bool
+    requires { HaveName nodes.now.rows name.now namesake }
+    ensures { result ≡ is_named_at nodes.now.rows module_file name.now number }
+{
+    match namesake {
+        Some(namesake) if number.number() < nodes.len() => {
+            nodes.get(number).module_file() == module_file && nodes.have_one_name(number, namesake)
+        }
+        _ => is_named_at(nodes.all(), module_file, name, number),
+    }
+}
+
+// Of these nodes the first that has this module and this name, which the namesake has, if there is
+// one.
+fn first_named(
+    nodes: &Nodes,
+    module_file: u32,
+    name: &str,
+    namesake: Option<NodeId>,
+    children: &[NodeId],
+) -> Option<NodeId>
+    requires { HaveName nodes.now.rows name.now namesake }
+    ensures { result ≡ find (is_named_at nodes.now.rows module_file name.now) children.now }
 {
     children
         .iter()
         .copied()
-        .find(|child| is_named_at(nodes, module_file, name, *child))
+        .find(|child| is_named(nodes, module_file, name, namesake, *child))
 }
 
-// The default case of a choice.
-fn default_case(nodes: &[Node], node: &Node) -> Option<NodeId>
+// The default case of a choice. The namesake has the name that its default says, if there is one.
+fn default_case(nodes: &Nodes, node: &Node, namesake: Option<NodeId>) -> Option<NodeId>
+    requires { NamesDefault nodes.now.rows (own_default node.now.label.defined) namesake }
     ensures { result
-        ≡ case_among nodes.now node.now.label.module_file (own_default node.now.label.defined)
+        ≡ case_among nodes.now.rows node.now.label.module_file (own_default node.now.label.defined)
         node.now.children }
 {
     match node.own_default() {
-        Some(written) => {
-            first_named(
-                nodes,
-                node.module_file(),
-                written.text.as_str(),
-                node.children(),
-            )
-        }
+        Some(written) => first_named(
+            nodes,
+            node.module_file(),
+            written.text.as_str(),
+            namesake,
+            node.children(),
+        ),
         None => None,
     }
+}
+
+// The default case of the node of a number, where these are known of the first nodes.
+fn kept_case(cases: &[Option<NodeId>], number: NodeId) -> Option<NodeId>
+    ensures { IfSome result (λ case. slice_get cases.now number.0 ≡ Some (Some case)) }
+{
+    match cases.get(number.number() as usize) {
+        Some(case) => *case,
+        None => None,
+    }
+}
+
+// The default case of the next node, where those of the nodes before it are known. That of an
+// earlier node of which the same is said shows which name is meant.
+fn next_case(nodes: &Nodes, cases: &[Option<NodeId>], next: NodeId) -> Option<NodeId>
+    requires within { next.0 < length nodes.now.rows }
+    requires cases { AreCases nodes.now.rows cases.now }
+    ensures { result ≡ case_at nodes.now.rows next.0 }
+{
+    let first = nodes.first_alike(next);
+    default_case(nodes, nodes.get(next), kept_case(cases, first))
 }
 
 // Whether a mandatory node stands directly under a case.
@@ -202,13 +255,19 @@ fn has_unfit_default(node: &Node) -> bool
     is_illegible(node) || is_crowded(node) || has_duplicate_default(node)
 }
 
-// What is wrong with a node's defaults.
-fn wrong_default(nodes: &[Node], below: &[bool], node: &Node) -> Option<Refusal>
+// What is wrong with a node's defaults, where this is its default case, if it has one.
+fn wrong_default(
+    nodes: &[Node],
+    below: &[bool],
+    node: &Node,
+    case: Option<NodeId>,
+) -> Option<Refusal>
     ensures { (ts : Forest) (i : ℕ) (p : Place) → AreRows nodes.now ts → AreBelow ts below.now 0
-        → slice_get nodes.now i ≡ Some node.now → slice_get (places ts) i ≡ Some p
+        → slice_get nodes.now i ≡ Some node.now → slice_get (places ts) i ≡ Some p → case
+        ≡ case_among nodes.now node.now.label.module_file (own_default node.now.label.defined)
+        node.now.children
         → IsLeast (BadOfDefault p) result }
 {
-    let case = default_case(nodes, node);
     let overruled = node.refusal_if(is_overruled(node), Code::BadMandatory);
     let undone = node.refusal_if(is_undone(nodes, below, case), Code::BadMandatory);
     let caseless = node.refusal_if(is_caseless(node, case.is_some()), Code::BadDefault);

@@ -11,7 +11,7 @@ use Rattle.yv_nodes.specs.declared.node.NodeId.{NodeId}
 use Rattle.yv_nodes.specs.Rows.{Row}
 use Rattle.yv_node_keys.specs.Numbers.{key_leaf_at, unique_leaf_at}
 use Rattle.yv_node_keys.specs.InnerSpots.{node_id}
-use Rattle.yv_node_keys.specs.InnerTargets.{AreLeafsOf, HasLeafs, IsKeptUpTo}
+use Rattle.yv_node_keys.specs.InnerTargets.{AreLeafsOf, HasLeafs, IsKeptUpTo, IsRight}
 use Rattle.yv_node_keys.specs.declared.targets.ListLeafs.{ListLeafs}
 use Rattle.yv_node_keys.proofs.Telling.{module_file_is}
 
@@ -48,6 +48,18 @@ module _ {V : Type 0} (at : ℕ → Option V) (Holds : ℕ → Option V → Type
     ];
     behind = λ k le. kept.behind k (omega (arith, le));
   }
+
+-- one more that is right
+pub right_more : {V : Type 0} (at new : ℕ → Option V) (Holds : ℕ → Option V → Type 0) (n : ℕ) (v : V) → ((k : ℕ) → new k ≡ cond (n == k) (Some v) (at k)) → Holds n (Some v)
+    → IsRight at Holds → IsRight new Holds
+right_more {V} at new Holds n v is here right k w found = by (n == k) refl
+  where
+    by : (b : Bool) → (n == k) ≡ b → Holds k (Some w)
+    by true e =
+        let same : n ≡ k = grind (arith, nat_tests, e) in
+        let own : Some v ≡ Some w = sym (is k ∙ ap (λ (b : Bool). cond b (Some v) (at k)) e) ∙ found in
+        subst (λ (x : V). Holds k (Some x)) (same_Some v w own) (subst (λ (m : ℕ). Holds m (Some v)) same here)
+    by false e = right k w (sym (is k ∙ ap (λ (b : Bool). cond b (Some v) (at k)) e) ∙ found)
 
 -- what a map has where a number was added
 pub put_number : {V : Type 0} (old new : BTreeMap ℕ V) (n : ℕ) (v : V) → UpdatesBy nat_cmp (nat_cmp n) old new (Some v) → (k : ℕ) → get_by (nat_cmp k) new ≡ cond (n == k) (Some v) (get_by (nat_cmp k) old)

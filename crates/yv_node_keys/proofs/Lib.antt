@@ -6,3 +6,4 @@ pub mod Leading
 pub mod Mixing
 pub mod Keeping
 pub mod Refusing
+mod Namesakes

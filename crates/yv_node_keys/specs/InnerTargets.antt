@@ -45,3 +45,12 @@ pub record IsKeptUpTo {V : Type 0} (at : ℕ → Option V) (Holds : ℕ → Opti
 pub record AreUpTo (rows : List Row) (targets : LeafTargets) (n : ℕ) : Type 0 where
   pub lists : IsKeptUpTo (lists_at targets.lists) (HasLeafs rows) n
   pub cases : IsKeptUpTo (cases_at targets.cases) (HasCase rows) n
+
+-- what is kept of a number is right
+abbrev pub IsRight : {V : Type 0} → (at : ℕ → Option V) → (Holds : ℕ → Option V → Type 0) → Type 0
+IsRight {V} at Holds = (k : ℕ) (v : V) → at k ≡ Some v → Holds k (Some v)
+
+-- what is kept is what nodes name, of whichever it is kept
+pub record AreRight (rows : List Row) (targets : LeafTargets) : Type 0 where
+  pub lists : IsRight (lists_at targets.lists) (HasLeafs rows)
+  pub cases : IsRight (cases_at targets.cases) (HasCase rows)

@@ -8,4 +8,5 @@ pub mod InnerIndex
 pub mod Bad
 pub mod LeafTargets
 pub mod LeafNames
+pub mod InnerNamesakes
 pub mod InnerTargets

@@ -4,10 +4,11 @@ ghost use Rattle.std.specs.List.{find};
 ghost use Rattle.std.specs.Option.{option_map};
 ghost use Rattle.yv_node_definition.specs.Definition.{written_of};
 ghost use Rattle.yv_node_keys.specs.Numbers.{children_at, default_of, default_case_at, is_called_at};
+ghost use Rattle.yv_node_keys.specs.InnerNamesakes.{HaveName, NamesDefault};
 
 use crate::node_numbers::{children_at, is_called_at, module_file_at, node_at};
 use yv_node_definition::{NodeKind, WrittenText};
-use yv_nodes::{Node, NodeId};
+use yv_nodes::{Node, NodeId, Nodes};
 
 // What the default of a choice says, where there is one.
 fn default_of(node: Option<&Node>) -> Option<&WrittenText>
@@ -20,31 +21,61 @@ fn default_of(node: Option<&Node>) -> Option<&WrittenText>
     }
 }
 
-/// Of these nodes the first that has this module and this name.
-pub(crate) fn first_called(
-    nodes: &[Node],
+// Whether the node of a number has this module and this name, which the namesake has, if there is
+// one: then names are read only where it is not known that the same is said of both nodes.
+fn is_named(
+    nodes: &Nodes,
+    number: NodeId,
     module_file: u32,
     name: &str,
+    namesake: Option<NodeId>,
+) -> bool
+    requires { HaveName nodes.now.rows name.now namesake }
+    ensures { result ≡ is_called_at nodes.now.rows module_file name.now number }
+{
+    match namesake {
+        Some(namesake) if number.number() < nodes.len() => {
+            nodes.get(number).module_file() == module_file && nodes.have_one_name(number, namesake)
+        }
+        _ => is_called_at(nodes.all(), number, module_file, name),
+    }
+}
+
+/// Of these nodes the first that has this module and this name, which the namesake has, if there is
+/// one.
+pub(crate) fn first_called(
+    nodes: &Nodes,
+    module_file: u32,
+    name: &str,
+    namesake: Option<NodeId>,
     children: &[NodeId],
 ) -> Option<NodeId>
-    ensures { result ≡ find (is_called_at nodes.now module_file name.now) children.now }
+    requires { HaveName nodes.now.rows name.now namesake }
+    ensures { result ≡ find (is_called_at nodes.now.rows module_file name.now) children.now }
 {
     children
         .iter()
         .copied()
-        .find(|child| is_called_at(nodes, *child, module_file, name))
+        .find(|child| is_named(nodes, *child, module_file, name, namesake))
 }
 
-/// The default case of a choice.
-pub(crate) fn default_case(nodes: &[Node], choice: NodeId) -> Option<NodeId>
-    ensures { result ≡ default_case_at nodes.now choice }
+/// The default case of a choice. A namesake of the case, if there is one, has the name that the
+/// default says.
+pub(crate) fn default_case(
+    nodes: &Nodes,
+    choice: NodeId,
+    namesake: Option<NodeId>,
+) -> Option<NodeId>
+    requires { NamesDefault nodes.now.rows choice.0 namesake }
+    ensures { result ≡ default_case_at nodes.now.rows choice }
 {
-    match default_of(node_at(nodes, choice)) {
+    match default_of(node_at(nodes.all(), choice)) {
         Some(written) => first_called(
             nodes,
-            module_file_at(nodes, choice),
+            module_file_at(nodes.all(), choice),
             written.text.as_str(),
-            children_at(nodes, choice),
+            namesake,
+            children_at(nodes.all(), choice),
         ),
         None => None,
     }

@@ -1,12 +1,14 @@
 //! The leafs that a key names.
 ghost use Rattle.std.specs.Prelude.{◌≡◌, ℕ, Some, not, map, slice_get, is_some, IfOk, IfSome};
 ghost use Rattle.std.specs.List.{list_any};
+ghost use Rattle.yv_node_definition.specs.Steps.{Step};
 ghost use Rattle.yv_nodes.specs.Tree.{Forest};
 ghost use Rattle.yv_nodes.specs.Places.{Place, places};
 ghost use Rattle.yv_nodes.specs.Numbers.{rows_from};
 ghost use Rattle.yv_node_keys.specs.Numbers.{child_at, children_at, key_leaf_at, tree_in};
 ghost use Rattle.yv_node_keys.specs.Refusals.{is_bad_key};
 ghost use Rattle.yv_node_keys.specs.InnerNames.{AreNamesIfKept};
+ghost use Rattle.yv_node_keys.specs.InnerNamesakes.{HaveName, HaveNames};
 
 use crate::cases::first_called;
 use crate::names::ChildNames;
@@ -37,58 +39,73 @@ fn names_for<'n>(
 
 // The first node directly below a list that has this module and this name, whatever its kind.
 fn child_called<'n>(
-    nodes: &[Node],
+    nodes: &Nodes,
     names: &Option<ChildNames<'n>>,
     list: NodeId,
     module_file: u32,
     name: &'n str,
+    namesake: Option<NodeId>,
 ) -> Option<NodeId>
-    ensures { AreNamesIfKept nodes.now (children_at nodes.now list) names.now
-        → result ≡ child_at nodes.now module_file name.now list }
+    requires { HaveName nodes.now.rows name.now namesake }
+    ensures { AreNamesIfKept nodes.now.rows (children_at nodes.now.rows list) names.now
+        → result ≡ child_at nodes.now.rows module_file name.now list }
 {
     match names {
         Some(names) => names.get(module_file, name),
-        None => first_called(nodes, module_file, name, children_at(nodes, list)),
+        None => first_called(
+            nodes,
+            module_file,
+            name,
+            namesake,
+            children_at(nodes.all(), list),
+        ),
     }
 }
 
 // The leaf directly below a list that a name in its key names, of those below it by these names.
 fn key_leaf<'n>(
-    nodes: &[Node],
+    nodes: &Nodes,
     names: &Option<ChildNames<'n>>,
     list: NodeId,
     key: &'n Option<PathStep>,
+    namesake: Option<NodeId>,
 ) -> Option<NodeId>
-    ensures { AreNamesIfKept nodes.now (children_at nodes.now list) names.now
-        → result ≡ key_leaf_at nodes.now list key.now }
+    requires { (s : Step) → key.now ≡ Some s → HaveName nodes.now.rows s.name namesake }
+    ensures { AreNamesIfKept nodes.now.rows (children_at nodes.now.rows list) names.now
+        → result ≡ key_leaf_at nodes.now.rows list key.now }
 {
     match key {
         Some(step) => {
-            let module_file = step.module_file().unwrap_or(module_file_at(nodes, list));
-            let child = child_called(nodes, names, list, module_file, step.name())?;
-            leaf_of(nodes, child)
+            let own = module_file_at(nodes.all(), list);
+            let module_file = step.module_file().unwrap_or(own);
+            let child = child_called(nodes, names, list, module_file, step.name(), namesake)?;
+            leaf_of(nodes.all(), child)
         }
         None => None,
     }
 }
 
-// Those that all names name, of the nodes by these names.
+// Those that all names name, of the nodes by these names. Nodes are known that have the first of
+// the names.
 fn leafs_by<'n>(
     alloc: Global,
-    nodes: &[Node],
+    nodes: &Nodes,
     names: &Option<ChildNames<'n>>,
     list: NodeId,
     keys: &'n [Option<PathStep>],
+    namesakes: &[NodeId],
 ) -> Result<Option<Vec<NodeId>>, AllocError>
-    requires { AreNamesIfKept nodes.now (children_at nodes.now list) names.now }
+    requires names { AreNamesIfKept nodes.now.rows (children_at nodes.now.rows list) names.now }
+    requires namesakes { HaveNames nodes.now.rows keys.now namesakes.now }
     ensures lacks { IfOk result (λ leafs. is_some leafs
-        ≡ not (list_any (λ key. not (is_some (key_leaf_at nodes.now list key))) keys.now)) }
+        ≡ not (list_any (λ key. not (is_some (key_leaf_at nodes.now.rows list key))) keys.now)) }
     ensures numbers { IfOk result (λ leafs. IfSome leafs (λ numbers.
-        map (λ n. Some n) numbers.items ≡ map (key_leaf_at nodes.now list) keys.now)) }
+        map (λ n. Some n) numbers.items ≡ map (key_leaf_at nodes.now.rows list) keys.now)) }
 {
     let mut leafs = Vec::new(alloc);
-    for key in keys {
-        match key_leaf(nodes, names, list, key) {
+    for (place, key) in keys.iter().enumerate() {
+        let namesake = namesakes.get(place).copied();
+        match key_leaf(nodes, names, list, key, namesake) {
             Some(leaf) => leafs.push(leaf)?,
             None => return Ok(None),
         }
@@ -96,20 +113,42 @@ fn leafs_by<'n>(
     Ok(Some(leafs))
 }
 
-// Those that all names name.
+// Those that all names name. Nodes are known that have the first of the names.
 fn key_leafs_in<'n>(
     alloc: Global,
-    nodes: &'n [Node],
+    nodes: &'n Nodes,
     list: NodeId,
     keys: &'n [Option<PathStep>],
+    namesakes: &[NodeId],
 ) -> Result<Option<Vec<NodeId>>, AllocError>
+    requires { HaveNames nodes.now.rows keys.now namesakes.now }
     ensures lacks { IfOk result (λ leafs. is_some leafs
-        ≡ not (list_any (λ key. not (is_some (key_leaf_at nodes.now list key))) keys.now)) }
+        ≡ not (list_any (λ key. not (is_some (key_leaf_at nodes.now.rows list key))) keys.now)) }
     ensures numbers { IfOk result (λ leafs. IfSome leafs (λ numbers.
-        map (λ n. Some n) numbers.items ≡ map (key_leaf_at nodes.now list) keys.now)) }
+        map (λ n. Some n) numbers.items ≡ map (key_leaf_at nodes.now.rows list) keys.now)) }
 {
-    let names = names_for(alloc, nodes, list, keys)?;
-    leafs_by(alloc, nodes, &names, list, keys)
+    let names = names_for(alloc, nodes.all(), list, keys)?;
+    leafs_by(alloc, nodes, &names, list, keys, namesakes)
+}
+
+/// The same as `key_leafs`, where nodes are known that have the first of the names: they need not
+/// be read where it is known that the same is said of such a node as of one below the list.
+pub(crate) fn key_leafs_like<'n>(
+    alloc: Global,
+    nodes: &'n Nodes,
+    list: NodeId,
+    keys: &'n [Option<PathStep>],
+    namesakes: &[NodeId],
+) -> Result<Option<Vec<NodeId>>, AllocError>
+    requires { HaveNames nodes.now.rows keys.now namesakes.now }
+    ensures refuses { (ts : Forest) → nodes.now.rows ≡ rows_from 0 ts → (p : Place)
+        → slice_get (places ts) list.0 ≡ Some p
+        → IfOk result (λ leafs. is_some leafs ≡ not (is_bad_key (tree_in p) keys.now)) }
+    ensures numbers { IfOk result (λ leafs. IfSome leafs (λ numbers.
+        map (λ n. Some n) numbers.items ≡ map (key_leaf_at nodes.now.rows list) keys.now)) }
+{
+    let leafs = key_leafs_in(alloc, nodes, list, keys, namesakes)?;
+    Ok(leafs)
 }
 
 /// The numbers of the leafs that the names of a list's key name, in order (RFC 7950, section
@@ -129,6 +168,5 @@ pub fn key_leafs<'n>(
     ensures numbers { IfOk result (λ leafs. IfSome leafs (λ numbers.
         map (λ n. Some n) numbers.items ≡ map (key_leaf_at nodes.now.rows list) keys.now)) }
 {
-    let leafs = key_leafs_in(alloc, nodes.all(), list, keys)?;
-    Ok(leafs)
+    key_leafs_like(alloc, nodes, list, keys, &[])
 }

@@ -10,10 +10,10 @@ ghost use Rattle.yv_nodes.specs.Numbers.{rows_from};
 ghost use Rattle.yv_node_keys.specs.Numbers.{default_case_at, key_leaf_at, unique_leaf_at};
 ghost use Rattle.yv_node_keys.specs.Bad.{BadLeafs, BadOfLeafs};
 ghost use Rattle.yv_node_keys.specs.LeafTargets.{AreLeafTargets};
-ghost use Rattle.yv_node_keys.specs.InnerTargets.{AreUpTo, HasCase, HasLeafs, IsKeptUpTo, cases_at, lists_at};
+ghost use Rattle.yv_node_keys.specs.InnerTargets.{AreRight, AreUpTo, HasCase, HasLeafs, IsKeptUpTo, IsRight, cases_at, keys_in, lists_at};
 
 use crate::cases::default_case;
-use crate::keys::key_leafs;
+use crate::keys::key_leafs_like;
 use crate::unique::unique_leafs;
 use std::alloc::{AllocError, Global};
 use std::collections::BTreeMap;
@@ -47,7 +47,8 @@ pub struct FoundTargets {
 impl LeafTargets {
     // Nothing.
     fn new(alloc: Global) -> LeafTargets
-        ensures { (rows : List Row) → AreUpTo rows result 0 }
+        ensures up_to { (rows : List Row) → AreUpTo rows result 0 }
+        ensures right { (rows : List Row) → AreRight rows result }
     {
         LeafTargets {
             lists: BTreeMap::new(alloc),
@@ -62,10 +63,7 @@ impl LeafTargets {
             → slice_get rows list.0 ≡ Some r
             → map (λ n. Some n) result.now ≡ map (key_leaf_at rows list) r.label.defined.keys }
     {
-        match self.lists.get(&list.number()) {
-            Some(leafs) => leafs.keys.as_slice(),
-            None => &[],
-        }
+        self.kept_keys(list)
     }
 
     /// For each of a list's `unique` statements the numbers of the leafs that its paths name, in
@@ -87,17 +85,37 @@ impl LeafTargets {
         ensures { (rows : List Row) → AreLeafTargets rows self.now → choice.0 < length rows → result
             ≡ default_case_at rows choice }
     {
+        self.kept_case(choice)
+    }
+
+    // The leafs that are kept of the names of a list's key.
+    fn kept_keys(&self, list: NodeId) -> &[NodeId]
+        ensures { result.now ≡ keys_in (lists_at self.now.lists list.0) }
+    {
+        match self.lists.get(&list.number()) {
+            Some(leafs) => leafs.keys.as_slice(),
+            None => &[],
+        }
+    }
+
+    // The default case that is kept of a choice.
+    fn kept_case(&self, choice: NodeId) -> Option<NodeId>
+        ensures { result ≡ cases_at self.now.cases choice.0 }
+    {
         self.cases.get(&choice.number()).copied()
     }
 
-    // Meets the node of a number, and gives what it is refused for.
+    // Meets the node of a number, and gives what it is refused for. What an earlier node names of
+    // which the same is said shows which names this one means.
     fn meet(
         &mut self,
         alloc: Global,
         nodes: &Nodes,
         number: NodeId,
     ) -> Result<Option<Refusal>, AllocError>
-        requires { number.0 < length nodes.now.rows }
+        requires within { number.0 < length nodes.now.rows }
+        requires right { AreRight nodes.now.rows self.old }
+        ensures right { OnOk result (AreRight nodes.now.rows self.new) }
         ensures keeps { IfOk result
             (λ here. here ≡ None → AreUpTo nodes.now.rows self.old number.0
             → AreUpTo nodes.now.rows self.new (number.0 + 1)) }
@@ -106,12 +124,14 @@ impl LeafTargets {
             → IfOk result (λ here. IsLeast (BadOfLeafs p) here) }
     {
         let node = nodes.get(number);
-        let keys = key_leafs(alloc, nodes, number, node.keys())?;
+        let first = nodes.first_alike(number);
+        let keys = key_leafs_like(alloc, nodes, number, node.keys(), self.kept_keys(first))?;
         let uniques = unique_leafs(alloc, nodes, number, node.uniques())?;
         let bad_key = node.refusal_if(keys.is_none(), Code::BadKey);
         let bad_unique = node.refusal_if(uniques.is_none(), Code::BadUnique);
         keep_both(&mut self.lists, number, keys, uniques)?;
-        keep_case(&mut self.cases, number, default_case(nodes.all(), number))?;
+        let case = default_case(nodes, number, self.kept_case(first));
+        keep_case(&mut self.cases, number, case)?;
         Ok(lesser(bad_key, bad_unique))
     }
 }
@@ -123,7 +143,13 @@ fn keep_both(
     keys: Option<Vec<NodeId>>,
     uniques: Option<Vec<Vec<NodeId>>>,
 ) -> Result<(), AllocError>
-    ensures { (rows : List Row) (ks : Vec NodeId Global) (us : Vec (Vec NodeId Global) Global)
+    ensures right { (rows : List Row)
+        → ((ks : Vec NodeId Global) (us : Vec (Vec NodeId Global) Global)
+        → keys ≡ Some ks → uniques ≡ Some us
+        → HasLeafs rows list.0 (Some (record { keys = ks; uniques = us })))
+        → IsRight (lists_at lists.old) (HasLeafs rows)
+        → OnOk result (IsRight (lists_at lists.new) (HasLeafs rows)) }
+    ensures up_to { (rows : List Row) (ks : Vec NodeId Global) (us : Vec (Vec NodeId Global) Global)
         → keys ≡ Some ks → uniques ≡ Some us
         → HasLeafs rows list.0 (Some (record { keys = ks; uniques = us }))
         → IsKeptUpTo (lists_at lists.old) (HasLeafs rows) list.0
@@ -141,7 +167,10 @@ fn keep_leafs(
     list: NodeId,
     leafs: ListLeafs,
 ) -> Result<(), AllocError>
-    ensures { (rows : List Row) → HasLeafs rows list.0 (Some leafs)
+    ensures right { (rows : List Row) → HasLeafs rows list.0 (Some leafs)
+        → IsRight (lists_at lists.old) (HasLeafs rows)
+        → OnOk result (IsRight (lists_at lists.new) (HasLeafs rows)) }
+    ensures up_to { (rows : List Row) → HasLeafs rows list.0 (Some leafs)
         → IsKeptUpTo (lists_at lists.old) (HasLeafs rows) list.0
         → OnOk result (IsKeptUpTo (lists_at lists.new) (HasLeafs rows) (list.0 + 1)) }
 {
@@ -158,7 +187,10 @@ fn keep_case(
     choice: NodeId,
     case: Option<NodeId>,
 ) -> Result<(), AllocError>
-    ensures { (rows : List Row) → HasCase rows choice.0 case
+    ensures right { (rows : List Row) → HasCase rows choice.0 case
+        → IsRight (cases_at cases.old) (HasCase rows)
+        → OnOk result (IsRight (cases_at cases.new) (HasCase rows)) }
+    ensures up_to { (rows : List Row) → HasCase rows choice.0 case
         → IsKeptUpTo (cases_at cases.old) (HasCase rows) choice.0
         → OnOk result (IsKeptUpTo (cases_at cases.new) (HasCase rows) (choice.0 + 1)) }
 {

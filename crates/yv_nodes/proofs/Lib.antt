@@ -1,3 +1,4 @@
 mod Retyping
 pub mod Behind
 mod Keyed
+mod Firsts

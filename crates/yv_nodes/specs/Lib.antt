@@ -7,6 +7,8 @@ pub mod Member
 pub mod Refusals
 pub mod Defaults
 pub mod NodeTypes
+pub mod Alike
+pub mod InnerAlike
 pub mod InnerTypes
 pub mod Labels
 pub mod Above

@@ -73,12 +73,24 @@ impl Above {
             ≡ label_of definition.now module_file module_name ls) }
     {
         let is_key = self.is_key(definition, module_file)?;
-        Ok(NodePlace {
+        Ok(self.place_with(definition, module_file, is_key))
+    }
+
+    /// The same, where it is known whether the node is a key of the list just above. No name is
+    /// read.
+    pub fn place_with(&self, definition: &Definition, module_file: u32, is_key: bool) -> NodePlace
+        ensures { (ls : List Label) → self.now ≡ seen_of ls → is_key
+            ≡ (is_leaf definition.now.kind && has_key_called ls module_file definition.now.name)
+            → (module_name : List ℕ) (parent : NodeId) (children : List NodeId)
+            → (row_with definition.now module_file module_name result parent children).label
+            ≡ label_of definition.now module_file module_name ls }
+    {
+        NodePlace {
             is_qualified: self.is_qualified(module_file),
             is_config: self.is_configuration(definition),
             is_key,
             is_input: self.is_input(definition),
-        })
+        }
     }
 
     // Whether a JSON member of a node of this module has the module's name in front.

@@ -396,6 +396,17 @@ impl Node {
         self.definition.set_types(types);
     }
 
+    /// The same node, over the texts and lists of another of which the same is said.
+    pub(crate) fn share_with(self, other: &Node) -> Result<Node, AllocError>
+        ensures same { other.now.label.defined ≡ self.label.defined
+            → IfOk result (λ node. node ≡ self) }
+        ensures said { IfOk result (λ node. node.label.defined ≡ other.now.label.defined) }
+        ensures parent { IfOk result (λ node. node.parent ≡ self.parent) }
+    {
+        let definition = other.definition.share()?;
+        Ok(Node { definition, ..self })
+    }
+
     /// The number of the node above it, or that of the root.
     pub fn parent(&self) -> NodeId
         ensures { result ≡ self.now.parent }

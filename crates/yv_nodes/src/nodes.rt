@@ -1,5 +1,5 @@
 //! Numbered nodes.
-ghost use Rattle.std.specs.Prelude.{◌≡◌, ◌≢◌, ◌<◌, ◌≤◌, All, ℕ, [], ◌∷◌, ◌++◌, length, map, slice_get, IfErr, IfOk, OnErr, OnOk};
+ghost use Rattle.std.specs.Prelude.{◌≡◌, ◌≢◌, ◌<◌, ◌≤◌, ◌+◌, All, ℕ, [], ◌∷◌, ◌++◌, length, map, slice_get, IfErr, IfOk, OnErr, OnOk};
 ghost use Rattle.std.specs.Option.{option_map};
 ghost use Rattle.yv_nodes.specs.NodeTypes.{typed_row, types_at};
 ghost use Rattle.yv_nodes.specs.InnerTypes.{with_own_types, types_in};
@@ -60,22 +60,28 @@ fn retype(nodes: &mut Vec<Node>, number: usize, types: RcSlice<PlainType>)
 pub struct Nodes {
     limit: u32,
     nodes: Vec<Node>,
+    // Of each node the number of the first that is known to be said the same of.
+    firsts: Vec<u32>,
 }
 
 impl Model for Nodes {
-    ghost use Rattle.std.specs.Prelude.{◌≤◌, length, vec_capacity};
+    ghost use Rattle.std.specs.Prelude.{◌≤◌, length, min, vec_capacity};
+    ghost use Rattle.yv_nodes.specs.InnerAlike.{AreFirsts};
     ghost use Rattle.yv_nodes.specs.Rows.{WithinLimit, StandBehind};
 
     ghost Value = { WithinLimit };
 
-    ghost view = { λ a. record { limit = a.limit; capacity = vec_capacity a.nodes; rows = a.nodes.items } };
+    ghost view = { λ a. record { limit = a.limit; capacity = min (vec_capacity a.nodes) (vec_capacity a.firsts); rows = a.nodes.items } };
 
-    ghost invariant = { λ a. (length a.nodes.items ≤ a.limit) × StandBehind a.nodes.items };
+    ghost invariant = { λ a. (length a.nodes.items ≤ a.limit) × StandBehind a.nodes.items × AreFirsts a.nodes.items a.firsts.items };
 }
 
 impl Nodes {
     ghost use Rattle.std.specs.List.{slice_index_or};
     ghost use Rattle.yv_nodes.specs.Rows.{StandBehind, blank_row, rank};
+    ghost use Rattle.std.specs.Str.{bytes_eq};
+    ghost use Rattle.yv_nodes.specs.Alike.{untyped_at};
+    ghost use Rattle.yv_nodes.specs.InnerAlike.{IsFirst};
     ghost use Rattle.yv_nodes.specs.NodeTypes.{typed_rows, types_from};
 
     /// No nodes.
@@ -86,6 +92,7 @@ impl Nodes {
         Nodes {
             limit,
             nodes: Vec::new(alloc),
+            firsts: Vec::new(alloc),
         }
     }
 
@@ -117,7 +124,43 @@ impl Nodes {
         ensures full { OnErr result (self.old.capacity ≤ length self.old.rows) }
         ensures limit { self.new.limit ≡ self.old.limit }
     {
-        self.nodes.push(node)?;
+        let first = self.nodes.len() as u32;
+        self.add(node, first)
+    }
+
+    /// The same of a node of which the same is said as of an earlier one: the two share it, and
+    /// `first_alike` tells that they are alike.
+    pub fn push_alike(&mut self, node: Node, earlier: NodeId) -> Result<(), AllocError>
+        requires room { length self.old.rows < self.old.limit }
+        requires parent { rank node.parent ≤ length self.old.rows }
+        requires earlier { earlier.0 < length self.old.rows }
+        ensures rows { (slice_index_or self.old.rows earlier.0 blank_row).label.defined
+            ≡ node.label.defined
+            → OnOk result (self.new.rows ≡ self.old.rows ++ node ∷ []) }
+        ensures count { OnOk result (length self.new.rows ≡ length self.old.rows + 1) }
+        ensures limit { self.new.limit ≡ self.old.limit }
+    {
+        let first = self.firsts[earlier.0 as usize];
+        let node = node.share_with(&self.nodes[earlier.0 as usize])?;
+        self.add(node, first)
+    }
+
+    // Adds a node, and the number of the first of which the same is said: its own, where it is the
+    // first itself.
+    fn add(&mut self, node: Node, first: u32) -> Result<(), AllocError>
+        requires room { length self.old.rows < self.old.limit }
+        requires parent { rank node.parent ≤ length self.old.rows }
+        requires first { IsFirst (self.old.rows ++ node ∷ []) (length self.old.rows) first }
+        ensures rows { OnOk result (self.new.rows ≡ self.old.rows ++ node ∷ []) }
+        ensures keeps { OnErr result (self.new.rows ≡ self.old.rows) }
+        ensures full { OnErr result (self.old.capacity ≤ length self.old.rows) }
+        ensures limit { self.new.limit ≡ self.old.limit }
+    {
+        self.firsts.push(first)?;
+        if let Err(failed) = self.nodes.push(node) {
+            let _ = self.firsts.pop();
+            return Err(failed.into());
+        }
         Ok(())
     }
 
@@ -143,6 +186,31 @@ impl Nodes {
         ensures { result.now ≡ slice_index_or self.now.rows id.0 blank_row }
     {
         &self.nodes[id.0 as usize]
+    }
+
+    /// The first node of which, as is known, the same is said as of the node of this number, but
+    /// for their types: it may be this node.
+    pub fn first_alike(&self, id: NodeId) -> NodeId
+        requires { id.0 < length self.now.rows }
+        ensures before { result.0 ≤ id.0 }
+        ensures alike { untyped_at self.now.rows result.0 ≡ untyped_at self.now.rows id.0 }
+    {
+        NodeId(self.firsts[id.0 as usize])
+    }
+
+    /// Whether two nodes have one name, whatever their modules. Names are read only where it is not
+    /// known that the same is said of both.
+    pub fn have_one_name(&self, one: NodeId, other: NodeId) -> bool
+        requires one { one.0 < length self.now.rows }
+        requires other { other.0 < length self.now.rows }
+        ensures { result
+            ≡ bytes_eq (untyped_at self.now.rows one.0).name
+            (untyped_at self.now.rows other.0).name }
+    {
+        if self.first_alike(one) == self.first_alike(other) {
+            return true;
+        }
+        self.get(one).name() == self.get(other).name()
     }
 
     /// The nodes, in the order of their numbers.

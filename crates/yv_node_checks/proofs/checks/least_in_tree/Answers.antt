@@ -8,4 +8,4 @@ use Rattle.yv_node_checks.proofs.checks.least_in_tree.Goals as goal
 pub returns : goal.returns
 returns c = λ ts are.
     let rows : AreRows c.all-rows.result.now ts = c.all-rows.ensures ∙ are in
-    least_lesser (BadByAbove ts) (BadByDefault ts) _ _ _ c.lesser.ensures (c.in_ok-above.ensures ts rows) (c.in_ok-default.ensures ts rows)
+    least_lesser (BadByAbove ts) (BadByDefault ts) _ _ _ c.lesser.ensures (c.in_ok-above.ensures ts rows) (c.in_ok-default.ensures ts are)

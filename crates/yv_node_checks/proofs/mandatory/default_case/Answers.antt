@@ -7,7 +7,7 @@ use Rattle.yv_node_checks.proofs.mandatory.default_case.Goals as goal
 
 pub returns-in-Some : goal.returns-in-Some
 returns-in-Some c =
-    let rows = c.args.nodes.now in
+    let rows = c.args.nodes.now.rows in
     let r = c.args.node.now in
     let module_file = r.label.module_file in
     let w : TextInFile = written_of c.in-Some.written.now in

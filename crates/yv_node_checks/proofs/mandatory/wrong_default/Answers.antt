@@ -18,15 +18,15 @@ use Rattle.yv_node_checks.proofs.Below.{found_by}
 use Rattle.yv_node_checks.proofs.mandatory.wrong_default.Goals as goal
 
 pub returns : goal.returns
-returns c = λ ts i p are known at there.
+returns c = λ ts i p are known at there its.
     let rows = c.args.nodes.now in
     let row : IsNumbered ts i c.args.node.now = is_numbered ts i c.args.node.now (ap (λ (rs : List Row). slice_get rs i) (sym are) ∙ at) in
     let same : row.spot.place ≡ p = let e = row.at_place in cc (e, there) in
     let label : c.args.node.now.label ≡ p.label = ap (λ (r : Row). r.label) row.is ∙ ap (λ (q : Place). q.label) same in
     let l : Label = row.spot.place.label in
     let inner = found_by rows ts c.args.below.now 0 are known l.module_file (own_default l.defined) (i + 1) row.spot.place.kids (omega arith) row.known.sit in
-    let case_is : c.default_case-case.result ≡ case_among rows l.module_file (own_default l.defined) (numbers_from (i + 1) row.spot.place.kids) =
-    c.default_case-case.ensures ∙ ap (λ (r : Row). case_among rows r.label.module_file (own_default r.label.defined) r.children) row.is
+    let case_is : c.args.case ≡ case_among rows l.module_file (own_default l.defined) (numbers_from (i + 1) row.spot.place.kids) =
+    its ∙ ap (λ (r : Row). case_among rows r.label.module_file (own_default r.label.defined) r.children) row.is
     ∙ ap (case_among rows l.module_file (own_default l.defined)) row.known.children in
     let present = ap is_some case_is ∙ inner.present ∙ ap (λ (q : Place). is_some (default_case q)) same in
     let undone_is = c.is_undone.ensures ∙ ap (is_undone_at rows c.args.below.now) case_is ∙ inner.undone ∙ ap (λ (q : Place). is_needed_in (default_case q)) same in

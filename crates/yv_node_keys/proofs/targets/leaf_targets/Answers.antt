@@ -13,7 +13,8 @@ use Rattle.yv_node_keys.proofs.targets.leaf_targets.Goals as goal
 
 pub loop-number-init : goal.loop-number-init
 loop-number-init c = record {
-  known = λ none. c.new-targets.ensures c.args.nodes.now.rows;
+  right = c.new-targets.ensures.right c.args.nodes.now.rows;
+  known = λ none. c.new-targets.ensures.up_to c.args.nodes.now.rows;
   least = λ ts are. least_start (places ts) (λ k. BadOfLeafs);
 }
 
@@ -23,6 +24,7 @@ loop-number-preserved c =
     let n = c.loop-number.number in
     let at = slice_get-get_or rows n blank_row (omega arith) in
     record {
+      right = c.in_ok-here.ensures.right;
       known = λ none.
           let clear = both_none c.loop-number.fault c.in_ok-here.here c.lesser-fault.result c.lesser-fault.ensures none in
           c.in_ok-here.ensures.keeps clear.1 (c.loop-number.invariant.known clear.0);

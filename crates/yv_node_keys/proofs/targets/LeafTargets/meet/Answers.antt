@@ -1,4 +1,4 @@
-use Rattle.std.proofs.Common.{◌≡◌, Bool, true, Some, None, Option, IfSome, List, map, not, is_some, sym, ap, ◌∙◌, subst, Vec, Global}
+use Rattle.std.proofs.Common.{◌≡◌, ℕ, arith, Bool, true, Some, None, Option, IfSome, List, map, not, is_some, sym, ap, ◌∙◌, subst, Vec, Global}
 use Rattle.std.specs.List.{slice_get}
 use Rattle.std.proofs.lemmas.Option.{slice_get-get_or}
 use Rattle.yv_statement.specs.declared.refusal.Code.TheVariants as code
@@ -12,6 +12,11 @@ use Rattle.yv_nodes.specs.Refusals.{refusal_of}
 use Rattle.yv_node_definition.specs.Steps.{Step}
 use Rattle.yv_node_keys.specs.Numbers.{default_case_at, key_leaf_at, tree_in, unique_leaf_at}
 use Rattle.yv_node_keys.specs.Refusals.{is_bad_key, is_bad_unique}
+use Rattle.yv_nodes.specs.Alike.{untyped, untyped_at}
+use Rattle.yv_node_definition.specs.Definition.{Definition}
+use Rattle.yv_node_keys.specs.InnerNamesakes.{HaveNames, NamesDefault}
+use Rattle.yv_node_keys.specs.InnerTargets.{AreLeafsOf, lists_at, cases_at}
+use Rattle.yv_node_keys.proofs.Namesakes.{case_called, has_both, leafs_called}
 use Rattle.yv_node_keys.proofs.Keeping.{IsBoth, both}
 use Rattle.yv_node_keys.proofs.Refusing.{both_none, label_at, least_here, not_refused, same_not, there}
 use Rattle.yv_node_keys.proofs.targets.LeafTargets.meet.Goals as goal
@@ -21,7 +26,7 @@ returns-clause-keeps c = λ none before.
     let rows : List Row = c.args.nodes.now.rows in
     let n = c.args.number.0 in
     let r : Row = c.get-node.result.now in
-    let at : slice_get rows n ≡ Some r = slice_get-get_or rows n blank_row c.requires ∙ ap Some (sym c.get-node.ensures) in
+    let at : slice_get rows n ≡ Some r = slice_get-get_or rows n blank_row c.requires.within ∙ ap Some (sym c.get-node.ensures) in
     let clear = both_none c.refusal_if-bad_key.result c.refusal_if-bad_unique.result c.lesser.result c.lesser.ensures none in
     let keyed : is_some c.in_ok-keys.keys ≡ true = there (is_some c.in_ok-keys.keys) c.is_none.result c.is_none.ensures (not_refused _ _ _ c.refusal_if-bad_key.ensures clear.0) in
     let unique : is_some c.in_ok-uniques.uniques ≡ true = there (is_some c.in_ok-uniques.uniques) c.is_none-2.result c.is_none-2.ensures (not_refused _ _ _ c.refusal_if-bad_unique.ensures clear.1) in
@@ -30,8 +35,8 @@ returns-clause-keeps c = λ none before.
     let found : IsBoth rows n c.in_ok-keys.keys c.in_ok-uniques.uniques =
     both rows n r at c.in_ok-keys.keys c.in_ok-uniques.uniques keyed unique (subst P c.keys.ensures c.in_ok-keys.ensures.numbers) (subst Q c.uniques.ensures c.in_ok-uniques.ensures.numbers) in
     record {
-      lists = c.in_ok-keep_both.ensures rows found.key_leafs found.unique_leafs found.keys_are found.uniques_are found.has before.lists;
-      cases = c.in_ok-keep_case.ensures rows (c.default_case.ensures ∙ ap (λ (rs : List Row). default_case_at rs c.args.number) c.all.ensures) before.cases;
+      lists = c.in_ok-keep_both.ensures.up_to rows found.key_leafs found.unique_leafs found.keys_are found.uniques_are found.has before.lists;
+      cases = c.in_ok-keep_case.ensures.up_to rows c.default_case-case.ensures before.cases;
     }
 
 pub returns-clause-fault : goal.returns-clause-fault
@@ -39,7 +44,7 @@ returns-clause-fault c = λ ts are p here.
     let rows : List Row = c.args.nodes.now.rows in
     let n = c.args.number.0 in
     let r : Row = c.get-node.result.now in
-    let at : slice_get rows n ≡ Some r = slice_get-get_or rows n blank_row c.requires ∙ ap Some (sym c.get-node.ensures) in
+    let at : slice_get rows n ≡ Some r = slice_get-get_or rows n blank_row c.requires.within ∙ ap Some (sym c.get-node.ensures) in
     let label : r.label ≡ p.label = label_at ts n r p (ap (λ (rs : List Row). slice_get rs n) (sym are) ∙ at) here in
     let keyless : c.is_none.result ≡ is_bad_key (tree_in p) p.label.defined.keys =
     same_not c.is_none.result (is_bad_key (tree_in p) p.label.defined.keys)
@@ -51,3 +56,37 @@ returns-clause-fault c = λ ts are p here.
     let second = least_here code.BadUnique _ p.label _ _ _ c.refusal_if-bad_unique.ensures label misled in
     least_lesser (λ (f : Refusal). Stands (is_bad_key (tree_in p) p.label.defined.keys ≡ true) (refusal_of code.BadKey p.label) f)
     (λ (f : Refusal). Stands (is_bad_unique (tree_in p) p.label.defined.uniques ≡ true) (refusal_of code.BadUnique p.label) f) _ _ _ c.lesser.ensures first second
+
+pub key_leafs_like-requires : goal.key_leafs_like-requires
+key_leafs_like-requires c =
+    let rows : List Row = c.args.nodes.now.rows in
+    let first : ℕ = c.first_alike-first.result.0 in
+    let keys : List (Option Step) = c.keys.result.now in
+    let same : keys ≡ (untyped_at rows first).keys = c.keys.ensures ∙ ap (λ (r : Row). r.label.defined.keys) c.get-node.ensures ∙ ap (λ (d : Definition). d.keys) (sym c.first_alike-first.ensures.alike) in
+    subst (HaveNames rows keys) (sym c.kept_keys.ensures)
+    (leafs_called rows first (lists_at c.args.self.now.lists first) keys (omega (arith, c.first_alike-first.ensures.before, c.requires.within)) (λ leafs. c.requires.right.lists first leafs) same)
+
+pub default_case-case-requires : goal.default_case-case-requires
+default_case-case-requires c =
+    let rows : List Row = c.args.nodes.now.rows in
+    let first : ℕ = c.first_alike-first.result.0 in
+    subst (NamesDefault rows c.args.number.0) (sym c.kept_case.ensures)
+    (case_called rows first c.args.number.0 (cases_at c.args.self.now.cases first) (omega (arith, c.first_alike-first.ensures.before, c.requires.within)) c.requires.within (λ case. c.requires.right.cases first case)
+    c.first_alike-first.ensures.alike)
+
+pub returns-clause-right : goal.returns-clause-right
+returns-clause-right c =
+    let rows : List Row = c.args.nodes.now.rows in
+    let n = c.args.number.0 in
+    let r : Row = c.get-node.result.now in
+    let at : slice_get rows n ≡ Some r = slice_get-get_or rows n blank_row c.requires.within ∙ ap Some (sym c.get-node.ensures) in
+    let P : List (Option Step) → Option (Vec NodeId Global) → Type 0 = λ steps o. IfSome o (λ ns. map (λ n. Some n) ns.items ≡ map (key_leaf_at rows c.args.number) steps) in
+    let Q : List (List (List (Option Step))) → Option (Vec (Vec NodeId Global) Global) → Type 0 = λ statements o. IfSome o (λ found. map (λ ns. map (λ n. Some n) ns.items) found.items ≡ map (map (unique_leaf_at rows c.args.number)) statements) in
+    let p : P r.label.defined.keys c.in_ok-keys.keys = subst (λ (steps : List (Option Step)). P steps c.in_ok-keys.keys) c.keys.ensures c.in_ok-keys.ensures.numbers in
+    let q : Q r.label.defined.uniques c.in_ok-uniques.uniques = subst (λ (us : List (List (List (Option Step)))). Q us c.in_ok-uniques.uniques) c.uniques.ensures c.in_ok-uniques.ensures.numbers in
+    record {
+      lists = c.in_ok-keep_both.ensures.right rows
+          (has_both rows n r at c.in_ok-keys.keys c.in_ok-uniques.uniques
+          (λ ks us e f. record { keys = subst (P r.label.defined.keys) e p; uniques = subst (Q r.label.defined.uniques) f q })) c.requires.right.lists;
+      cases = c.in_ok-keep_case.ensures.right rows c.default_case-case.ensures c.requires.right.cases;
+    }

@@ -6,6 +6,7 @@ use Rattle.yv_nodes.specs.Rows.{WithinLimit, Row}
 use Rattle.yv_nodes.specs.NodeTypes.{typed_rows, types_at, types_from}
 use Rattle.yv_nodes.specs.InnerTypes.{with_own_types, types_in}
 use Rattle.yv_nodes.proofs.Behind.{retyped_behind}
+use Rattle.yv_nodes.proofs.Firsts.{retyped_firsts}
 use Rattle.yv_nodes.proofs.Retyping.{by_number, told_by}
 use Rattle.yv_nodes.proofs.nodes.Nodes.resolve.Goals as goal
 
@@ -24,4 +25,8 @@ pub invariant_of-self : goal.invariant_of-self
 invariant_of-self c =
     let rows : List Row = c.self.inside.nodes.items in
     let long : length c.set_types.new.nodes.items ≤ c.self.inside.limit = omega (arith, c.set_types.ensures.each, c.self.invariant.0) in
-    (long, retyped_behind (map types_in c.in_ok-types.types.items) rows c.set_types.new.nodes.items c.set_types.ensures.rows c.self.invariant.1)
+    let lists : List (List Plain) = map types_in c.in_ok-types.types.items in (
+      long,
+      retyped_behind lists rows c.set_types.new.nodes.items c.set_types.ensures.rows c.self.invariant.1,
+      retyped_firsts lists rows c.set_types.new.nodes.items c.self.inside.firsts.items c.set_types.ensures.each c.set_types.ensures.rows c.self.invariant.2,
+    )

@@ -8,7 +8,7 @@ use Rattle.yv_node_keys.specs.Numbers.{key_leaf_at, tree_at, tree_in}
 use Rattle.yv_node_keys.specs.Targets.{key_leaf}
 use Rattle.yv_node_keys.proofs.Listing.{any_same}
 use Rattle.yv_node_keys.proofs.Meeting.{both_there, key_is}
-use Rattle.yv_node_keys.proofs.keys.key_leafs.Goals as goal
+use Rattle.yv_node_keys.proofs.keys.key_leafs_like.Goals as goal
 
 pub returns-clause-refuses : goal.returns-clause-refuses
 returns-clause-refuses c = λ ts are p at.
@@ -18,5 +18,4 @@ returns-clause-refuses c = λ ts are p at.
     ap (λ (rs : List Row). not (is_some (key_leaf_at rs list s))) are
     ∙ ap not (both_there (tree_at ts) _ _ (key_is ts list (tree_in p) s (ap (option_map tree_in) at))) in
     c.in_ok-leafs.ensures.lacks
-    ∙ ap (λ (rs : List Row). not (list_any (λ key. not (is_some (key_leaf_at rs list key))) c.args.keys.now)) c.all.ensures
     ∙ ap not (any_same (λ s. not (is_some (key_leaf_at rows list s))) (λ s. not (is_some (key_leaf (tree_in p) s))) same c.args.keys.now)

@@ -1,0 +1,33 @@
+-- Only private clauses cite this: nodes that are known to have a name.
+use Rattle.std.specs.Prelude.{◌≡◌, ◌<◌, ℕ, List, length, Option, Some, None, slice_get}
+use Rattle.std.specs.List.{slice_index_or}
+use Rattle.yv_node_definition.specs.Definition.{TextInFile, own_default}
+use Rattle.yv_nodes.specs.declared.node.NodeId.{NodeId}
+use Rattle.yv_nodes.specs.Alike.{untyped_at}
+use Rattle.yv_nodes.specs.Rows.{Row, blank_row}
+use Rattle.yv_node_checks.specs.InnerBelow.{case_among}
+
+-- the node of this number has this name
+pub record HasName (rows : List Row) (name : List ℕ) (n : ℕ) : Type 0 where
+  pub within : n < length rows
+  pub is : (untyped_at rows n).name ≡ name
+
+-- it has, if there is one
+abbrev pub HaveName : List Row → (name : List ℕ) → Option NodeId → Type 0
+HaveName rows name None = Unit {0}
+HaveName rows name (Some n) = HasName rows name n.0
+
+-- it has the name that a default says
+abbrev pub NamesDefault : List Row → Option TextInFile → Option NodeId → Type 0
+NamesDefault rows default namesake = (written : TextInFile) → default ≡ Some written → HaveName rows written.text namesake
+
+abbrev pub case_of_row : List Row → Row → Option NodeId
+case_of_row rows r = case_among rows r.label.module_file (own_default r.label.defined) r.children
+
+-- the default case of the node of a number
+abbrev pub case_at : List Row → ℕ → Option NodeId
+case_at rows n = case_of_row rows (slice_index_or rows n blank_row)
+
+-- these are the default cases of the first nodes
+abbrev pub AreCases : List Row → List (Option NodeId) → Type 0
+AreCases rows cases = (k : ℕ) (case : NodeId) → slice_get cases k ≡ Some (Some case) → case_at rows k ≡ Some case

@@ -1,0 +1,26 @@
+-- Only private clauses cite this: nodes that are known to have a name.
+use Rattle.std.specs.Prelude.{◌≡◌, ◌<◌, ℕ, List, length, Option, Some, None, IfSome, slice_get}
+use Rattle.yv_node_definition.specs.Steps.{Step}
+use Rattle.yv_nodes.specs.declared.node.NodeId.{NodeId}
+use Rattle.yv_nodes.specs.Alike.{untyped_at}
+use Rattle.yv_nodes.specs.Rows.{Row}
+use Rattle.yv_node_definition.specs.Definition.{TextInFile}
+use Rattle.yv_node_keys.specs.Numbers.{default_of}
+
+-- the node of this number has this name
+pub record HasName (rows : List Row) (name : List ℕ) (n : ℕ) : Type 0 where
+  pub within : n < length rows
+  pub is : (untyped_at rows n).name ≡ name
+
+-- it has, if there is one
+abbrev pub HaveName : List Row → (name : List ℕ) → Option NodeId → Type 0
+HaveName rows name None = Unit {0}
+HaveName rows name (Some n) = HasName rows name n.0
+
+-- it has the name that the default of a choice says
+abbrev pub NamesDefault : List Row → (choice : ℕ) → Option NodeId → Type 0
+NamesDefault rows choice namesake = (written : TextInFile) → default_of (slice_get rows choice) ≡ Some written → HaveName rows written.text namesake
+
+-- the nodes at the places of names have these
+abbrev pub HaveNames : List Row → List (Option Step) → List NodeId → Type 0
+HaveNames rows keys namesakes = (i : ℕ) (s : Step) (n : NodeId) → slice_get keys i ≡ Some (Some s) → slice_get namesakes i ≡ Some n → HasName rows s.name n.0
