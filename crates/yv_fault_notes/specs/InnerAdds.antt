@@ -1,6 +1,6 @@
 -- Only private clauses cite this: sentences after others.
 use Rattle.std.specs.Prelude.{◌++◌, List, ℕ}
-use Rattle.yv_validate.specs.Flaw.{Flaw}
+use Rattle.yv_faults.specs.Flaw.{Flaw}
 use Rattle.yv_fault_notes.specs.Sentences.{AreSentences}
 
 -- sentences on these faults were put after those on others

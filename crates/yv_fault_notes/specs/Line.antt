@@ -1,8 +1,8 @@
 -- The sentence on one fault.
 use Rattle.std.specs.Prelude.{◌≡◌, ℕ, ◌==◌, ◌&&◌, List, [], ◌∷◌, ◌++◌, Bool, map, take, nat_le, codes, decimal, if◌then◌else◌}
-use Rattle.yv_validate.specs.Line.{kind_name, line_text, places_text}
+use Rattle.yv_faults.specs.Line.{kind_name, line_text, places_text}
 use Rattle.yv_leafref_values.specs.Place.{Place}
-use Rattle.yv_validate.specs.Flaw.{Flaw}
+use Rattle.yv_faults.specs.Flaw.{Flaw}
 
 -- a blank, or a visible ASCII character
 abbrev pub is_visible : ℕ → Bool

@@ -1,7 +1,7 @@
 -- The sentences for a person on the faults of a document.
 use Rattle.std.specs.Prelude.{◌≡◌, ℕ, ◌-◌, ◌==◌, ◌||◌, List, [], ◌++◌, Bool, length, take, nat_lt, codes, decimal, if◌then◌else◌}
 use Rattle.std.specs.List.{AllZip, flat_map, list_all}
-use Rattle.yv_validate.specs.Flaw.{Flaw}
+use Rattle.yv_faults.specs.Flaw.{Flaw}
 use Rattle.yv_fault_notes.specs.Line.{IsSentence, cleared_line, is_visible}
 
 abbrev pub join_lines : List (List ℕ) → List ℕ

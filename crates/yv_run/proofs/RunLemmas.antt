@@ -8,7 +8,7 @@ use Rattle.yv_statement.specs.declared.refusal.Refusal.{Refusal}
 use Rattle.yv_job.specs.Jobs.{CommandAsked, Compiles, Draws, Checks, Task}
 use Rattle.yv_statement.specs.declared.document_kind.Kind.{Kind}
 use Rattle.yv_nodes.specs.Rows.{Rows, whole}
-use Rattle.yv_validate.specs.Flaw.{Flaw}
+use Rattle.yv_faults.specs.Flaw.{Flaw}
 use Rattle.yv_streams.specs.Files.{File}
 use Rattle.yv_streams.specs.Stream.{TakesAtMost}
 use Rattle.yv_run.specs.Compiles.{FilesCompile, RefusedAt, HasSchema}

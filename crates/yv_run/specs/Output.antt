@@ -10,7 +10,7 @@ use Rattle.yv_nodes.specs.Rows.{Rows, whole}
 use Rattle.yv_statement.specs.declared.document_kind.Kind.{Kind}
 use Rattle.yv_tree.specs.Diagram.{diagram_of}
 use Rattle.yv_job.specs.Jobs.{CommandAsked, Compiles, Draws, Checks, Task}
-use Rattle.yv_validate.specs.Flaw.{Flaw}
+use Rattle.yv_faults.specs.Flaw.{Flaw}
 use Rattle.yv_validate.specs.Faults.{faults}
 use Rattle.yv_run.specs.Lines.{ended_line, faults_text}
 use Rattle.yv_run.specs.Compiles.{Compilation, RefusedAt, HasSchema, FilesCompile, GiveSchema}

@@ -4,7 +4,7 @@ use Rattle.std.specs.declared.option.Option.{Option}
 use Rattle.std.specs.declared.option.Option.TheVariants.{Some, None}
 use Rattle.yv_nodes.specs.Rows.{Rows}
 use Rattle.yv_statement.specs.declared.document_kind.Kind.{Kind}
-use Rattle.yv_validate.specs.Flaw.{Flaw}
+use Rattle.yv_faults.specs.Flaw.{Flaw}
 use Rattle.yv_validate.specs.Faults.{faults}
 use Rattle.yv_fault_notes.specs.Sentences.{Tells}
 use Rattle.yv_note_json.specs.Document.{SaysWhy, TellsLarge}

@@ -9,6 +9,7 @@ use Rattle.std.specs.Cmp.Lexicographic.{slice_cmp}
 use Rattle.std.specs.Rc.{rc_str_bytes}
 use Rattle.std.specs.declared.rc.RcStr.{RcStr}
 use Rattle.std.specs.declared.alloc.Global.{Global}
+use Rattle.yv_nodes.specs.Alike.{untyped_at}
 use Rattle.yv_nodes.specs.Rows.{Row, blank_row}
 use Rattle.yv_schema_tables.specs.declared.names.NameTable.{NameTable}
 
@@ -45,3 +46,7 @@ pub record AreOfNodes (rows : List Row) (numbers : List ℕ) : Type 0 where
   pub each : length numbers ≡ length rows
   pub gives : (i number : ℕ) → slice_get numbers i ≡ Some number
       → number_in (names_of rows) (slice_index_or rows i blank_row).label.defined.name ≡ Some number
+
+-- of the first nodes the numbers of their names among these
+abbrev pub AreNumbersOf : (names : List (List ℕ)) → List Row → (numbers : List ℕ) → Type 0
+AreNumbersOf names rows numbers = (i number : ℕ) → slice_get numbers i ≡ Some number → number_in names (untyped_at rows i).name ≡ Some number

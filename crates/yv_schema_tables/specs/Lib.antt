@@ -1,6 +1,7 @@
 pub mod Groups
 pub mod NodeNumbers
 pub mod DataChildren
+pub mod DataNodes
 pub mod DuplicateNodes
 pub mod Bad
 pub mod Sound

@@ -3,6 +3,7 @@
 #![tactic(auto)]
 
 mod data_children;
+mod data_nodes;
 mod directory;
 mod from_nodes;
 pub mod laws;
@@ -15,6 +16,7 @@ mod schema;
 mod table;
 mod tables;
 
+pub use data_nodes::DataNodes;
 pub use measures::Measures;
 pub use notes::{AugmentNote, Module};
 pub use schema::Schema;

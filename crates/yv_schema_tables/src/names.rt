@@ -1,11 +1,12 @@
 //! Numbers of names, in order of first use.
 ghost use Rattle.std.specs.Prelude.{◌≡◌, ◌<◌, ◌^◌, ◌+◌, ℕ, List, [], Some, length, IfOk, OnOk};
-ghost use Rattle.yv_schema_tables.specs.InnerNames.{HaveNumbers, AreOfNodes, get_by_name, names_of, number_in, with_name};
+ghost use Rattle.yv_nodes.specs.Alike.{untyped_at};
+ghost use Rattle.yv_schema_tables.specs.InnerNames.{HaveNumbers, AreNumbersOf, AreOfNodes, get_by_name, names_of, number_in, with_name};
 
 use std::alloc::{AllocError, Global};
 use std::collections::BTreeMap;
 use std::rc::RcStr;
-use yv_nodes::{Node, Nodes};
+use yv_nodes::{Node, NodeId, Nodes};
 
 /// Names of nodes, each with its number: how many others were used first before it. The map is an
 /// ordered one and hashes nothing, since strangers choose the names.
@@ -60,6 +61,33 @@ impl NameTable {
         self.count += 1;
         Ok(number)
     }
+
+    // The number of the name of the next node, where those before it have these: the name isn't
+    // read where it is known that the same is said of one of them.
+    fn number_next(
+        &mut self,
+        nodes: &Nodes,
+        of_nodes: &[u32],
+        next: NodeId,
+    ) -> Result<u32, AllocError>
+        requires few { self.old.count + 1 < 2 ^ 32 }
+        requires within { next.0 < length nodes.now.rows }
+        ensures names { (names : List (List ℕ)) → HaveNumbers names self.old
+            → AreNumbersOf names nodes.now.rows of_nodes.now
+            → OnOk result
+            (HaveNumbers (with_name names (untyped_at nodes.now.rows next.0).name) self.new) }
+        ensures number { (names : List (List ℕ)) → HaveNumbers names self.old
+            → AreNumbersOf names nodes.now.rows of_nodes.now
+            → IfOk result
+            (λ number. number_in (with_name names (untyped_at nodes.now.rows next.0).name)
+            (untyped_at nodes.now.rows next.0).name ≡ Some number) }
+    {
+        let first = nodes.first_alike(next);
+        if let Some(number) = of_nodes.get(first.number() as usize) {
+            return Ok(*number);
+        }
+        self.add(nodes.get(next))
+    }
 }
 
 /// Numbers the names of these nodes, each at its first use.
@@ -70,8 +98,9 @@ pub(crate) fn node_names(alloc: Global, nodes: &Nodes) -> Result<NodeNames, Allo
 {
     let mut names = NameTable::new(alloc);
     let mut of_nodes = Vec::with_capacity(alloc, nodes.len() as usize)?;
-    for node in nodes.all() {
-        of_nodes.push(names.add(node)?)?;
+    for number in 0..nodes.len() {
+        let name = names.number_next(nodes, &of_nodes, NodeId(number))?;
+        of_nodes.push(name)?;
     }
     Ok(NodeNames { names, of_nodes })
 }

@@ -2,6 +2,7 @@
 ghost use Rattle.std.specs.Prelude.{◌≡◌, ◌<◌, ◌≤◌, ◌==◌, ◌+◌, length, All, IfSome};
 ghost use Rattle.yv_values.specs.Count.{count_up};
 
+use crate::data_nodes::DataNodes;
 use crate::directory::Directory;
 use crate::member::Member;
 use crate::names::NameTable;
@@ -71,6 +72,7 @@ impl Schema {
     ghost use Rattle.yv_nodes.specs.Rows.{AreTrees, row_at, children_of, rank, whole};
     ghost use Rattle.yv_schema_tables.specs.Sound.{IsSound, IsChild, IsInside, IsNote, inside, is_known, member_named, object_trees};
     ghost use Rattle.yv_nodes.specs.declared.node.NodeId.{NodeId};
+    ghost use Rattle.yv_schema_tables.specs.DataNodes.{data_nodes_from};
     ghost use Rattle.yv_schema_tables.specs.InnerTables.{IsAnswering, directory_entry, module_file_named};
     ghost use Rattle.yv_schema_tables.specs.NodeNumbers.{HasNoColon};
 
@@ -105,6 +107,14 @@ impl Schema {
         ensures { result.now.rows ≡ self.now.nodes }
     {
         &self.nodes
+    }
+
+    /// The numbers of the data nodes, in order (RFC 7950, section 3).
+    pub fn data_nodes(&self) -> DataNodes<'_>
+        ensures { result ≡ data_nodes_from 0 self.now.nodes }
+    {
+        let _count = self.nodes.len();
+        DataNodes::of(self.nodes.all())
     }
 
     /// The node of this number.

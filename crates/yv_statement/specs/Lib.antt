@@ -3,7 +3,9 @@ pub mod Tree
 pub mod View
 pub mod Builder
 pub mod Codes
+pub mod RefusalText
 pub mod Order
 pub mod Keywords
 pub mod InnerKeywords
+pub mod Words
 pub mod Selection

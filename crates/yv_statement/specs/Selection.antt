@@ -6,6 +6,7 @@ use Rattle.std.specs.declared.string.String.{String}
 use Rattle.std.specs.declared.vec.Vec.{Vec}
 use Rattle.std.specs.declared.alloc.Global.{Global}
 use Rattle.yv_statement.specs.declared.selection.Selection.{Selection}
+use Rattle.yv_statement.specs.Words.{is_among}
 
 -- a module with some of its features
 pub record Entry : Type 0 where
@@ -26,10 +27,6 @@ selected_of s = record {
   support = map entry_of s.support.items;
   imports = map string_bytes s.import_only.items;
 }
-
--- the text is one of these
-abbrev pub is_among : List (List ℕ) → List ℕ → Bool
-is_among names text = list_any (λ name. bytes_eq name text) names
 
 -- every module is implemented but those that are there for their definitions alone
 abbrev pub is_implemented : Selected → List ℕ → Bool

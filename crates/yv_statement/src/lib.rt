@@ -9,6 +9,7 @@ mod legal;
 mod refusal;
 mod selection;
 mod statement;
+mod words;
 
 pub use document_kind::Kind;
 pub use keyword::Keyword;
@@ -16,3 +17,4 @@ pub use legal::{is_legal, is_legal_text};
 pub use refusal::{Code, Refusal, Stop, lesser, refusal_if};
 pub use selection::Selection;
 pub use statement::Statement;
+pub use words::is_among;

@@ -4,6 +4,7 @@ ghost use Rattle.yv_statement.specs.Order.{IsLesser, IsUpTo, refusal_at};
 
 use crate::statement::Statement;
 use std::alloc::{AllocError, AllocFailed};
+use std::fmt;
 
 /// Refusal codes, in the order in which the refusals at one place are ranked.
 #[derive(Clone, Copy, Debug, PartialEq, Eq)]
@@ -75,6 +76,54 @@ pub enum Stop {
     PatternBuild,
     NoMemory,
 }
+
+/// The name that a refusal's line ends with.
+impl fmt::Display for Code {
+    ghost use Rattle.std.specs.Prelude.{Some};
+    ghost use Rattle.yv_statement.specs.Codes.{name_of};
+
+    ghost output = { λ code. Some (name_of code) };
+
+    fn fmt<W: fmt::Write>(&self, f: &mut fmt::Formatter<W>) -> fmt::Result {
+        f.write_str(self.name())
+    }
+}
+
+/// The number of its file, its line, and its code, as in `file 0, line 12: UnknownType`.
+impl fmt::Display for Refusal {
+    ghost use Rattle.std.specs.Prelude.{Some};
+    ghost use Rattle.yv_statement.specs.RefusalText.{refusal_text};
+
+    ghost output = { λ refusal. Some (refusal_text refusal) };
+
+    fn fmt<W: fmt::Write>(&self, f: &mut fmt::Formatter<W>) -> fmt::Result {
+        write!(
+            f,
+            "file {}, line {}: {}",
+            self.file,
+            self.line,
+            self.code.name()
+        )
+    }
+}
+
+/// The refusal, or in a few words what else stopped the call.
+impl fmt::Display for Stop {
+    ghost use Rattle.std.specs.Prelude.{Some};
+    ghost use Rattle.yv_statement.specs.RefusalText.{stop_text};
+
+    ghost output = { λ stop. Some (stop_text stop) };
+
+    fn fmt<W: fmt::Write>(&self, f: &mut fmt::Formatter<W>) -> fmt::Result {
+        match self {
+            Stop::Fault(refusal) => write!(f, "{refusal}"),
+            Stop::PatternBuild => f.write_str("pattern not built"),
+            Stop::NoMemory => f.write_str("out of memory"),
+        }
+    }
+}
+
+impl std::error::Error for Stop {}
 
 impl From<AllocError> for Stop {
     ghost use Rattle.std.specs.Prelude.{◌≡◌};
@@ -212,7 +261,9 @@ impl Code {
 }
 
 impl Refusal {
-    // Whether this one comes first, or both are one.
+    // Whether this one comes first, or both are one. It is seldom asked, and stays a function of
+    // its own, so that `lesser` is small.
+    #[inline(never)]
     fn is_up_to(&self, other: &Refusal) -> bool
         ensures { IsTrue result ↔ IsUpTo self.now other.now }
     {
@@ -237,6 +288,7 @@ impl Refusal {
 }
 
 /// The lesser of two answers, by phase, file, offset and code.
+#[inline(always)]
 pub fn lesser(first: Option<Refusal>, second: Option<Refusal>) -> Option<Refusal>
     ensures { IsLesser first second result }
 {

@@ -1,4 +1,4 @@
-ghost use Rattle.std.specs.Prelude.{◌≡◌, OnOk, OnErr, string_bytes};
+ghost use Rattle.std.specs.Prelude.{◌≡◌, OnOk, OnErr};
 ghost use Rattle.std.specs.Cow.{cow_str_bytes};
 ghost use Rattle.std.specs.Option.{option_map};
 ghost use Rattle.yv_statement.specs.Keywords.{keyword_of};
@@ -56,13 +56,6 @@ impl<'a> Statement<'a> {
             line,
             offset,
         }
-    }
-
-    /// Gives it this argument, in place of one that it had.
-    pub fn give(&mut self, text: String)
-        ensures { self.new ≡ with_argument (string_bytes text) self.old }
-    {
-        self.argument = Some(CowStr::Owned(text));
     }
 
     /// Lends it this argument, a slice of its source, in place of one that it had.

@@ -1,11 +1,12 @@
 //! Reading the types of files.
-ghost use Rattle.std.specs.Prelude.{◌≡◌, Err, None, Some, IfOk, OnOk};
+ghost use Rattle.std.specs.Prelude.{◌≡◌, ◌⊎◌, Err, None, Some, IfOk, OnOk};
 ghost use Rattle.yv_statement.specs.Order.{IsLeast};
 ghost use Rattle.yv_statement.specs.declared.refusal.Refusal.{Refusal};
 ghost use Rattle.yv_statement.specs.declared.refusal.Stop.TheVariants.{Fault, PatternBuild};
 ghost use Rattle.yv_statement.specs.Selection.{Selected};
 ghost use Rattle.yv_link_scopes.specs.Files.{Files};
 ghost use Rattle.yv_link_definitions.specs.Meanings.{AreNames};
+ghost use Rattle.yv_link_definitions.specs.Refusals.{BadNames};
 ghost use Rattle.yv_type_restrictions.specs.Types.{HasTypePattern};
 ghost use Rattle.yv_link.specs.LinkedFiles.{AreLinked, truth_in};
 ghost use Rattle.yv_types.specs.Refusals.{BadTypes};
@@ -18,7 +19,7 @@ use crate::places::TypePlaces;
 use crate::type_table::Types;
 use std::alloc::Global;
 use yv_link::Linked;
-use yv_link_definitions::Names;
+use yv_link_definitions::{Names, names};
 use yv_statement::Stop;
 
 /// The plain types and the defaults of the types of linked files, and what they say as leafrefs,
@@ -60,4 +61,31 @@ pub fn types(alloc: Global, linked: &Linked<'_, '_>, names: &Names) -> Result<Ty
         leafrefs,
         places,
     })
+}
+
+/// The same, by the names of the linked files themselves, so that a caller cannot pass those of
+/// others. What types and uses mean is refused before what is wrong with the types.
+pub fn resolve_types(alloc: Global, linked: &Linked<'_, '_>) -> Result<Types, Stop>
+    ensures makes { IfOk result
+        (λ types. (files : Files) (choice : Selected) → AreLinked files choice linked.now
+        → AreTypes files choice (truth_in linked.now) types) }
+    ensures names { OnOk result
+        ((files : Files) (choice : Selected) → AreLinked files choice linked.now
+        → IsLeast (BadNames files) None) }
+    ensures clear { OnOk result
+        ((files : Files) (choice : Selected) → AreLinked files choice linked.now
+        → IsLeast (BadTypes files (truth_in linked.now)) None) }
+    ensures refusal { (r : Refusal) → result ≡ Err (Fault r)
+        → (files : Files) (choice : Selected) → AreLinked files choice linked.now
+        → IsLeast (BadNames files) (Some r)
+        ⊎ (IsLeast (BadNames files) None
+        × IsLeast (BadTypes files (truth_in linked.now)) (Some r)) }
+    ensures builds { result ≡ Err PatternBuild
+        → (files : Files) (choice : Selected) → AreLinked files choice linked.now
+        → HasTypePattern files }
+{
+    match names(alloc, linked.rows()) {
+        Ok(names) => types(alloc, linked, &names),
+        Err(stop) => Err(stop),
+    }
 }

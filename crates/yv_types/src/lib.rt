@@ -29,7 +29,7 @@ mod type_table;
 mod typedef_defaults;
 mod values;
 
-pub use build::types;
+pub use build::{resolve_types, types};
 pub use defaults::TypedefDefaults;
 pub use first::first_bad_type;
 pub use leafref_path::TypeLeafref;

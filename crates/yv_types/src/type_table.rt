@@ -20,6 +20,7 @@ use crate::table::{SharedTypes, get, list_at};
 use std::alloc::AllocError;
 use std::rc::RcSlice;
 use yv_node_definition::WrittenText;
+use yv_statement::Statement;
 use yv_values::PlainType;
 
 /// The plain types and the defaults of the types of files in which nothing is wrong with types, and
@@ -56,6 +57,25 @@ impl Types {
     {
         let number = self.places.get(file, offset)?;
         Some(get(&self.spaces, number)?.types.as_slice())
+    }
+
+    /// The same for a type statement of a file, by the place of its keyword.
+    pub fn plain_of(&self, file: u32, statement: &Statement<'_>) -> Option<&[PlainType]>
+        ensures tells { (files : Files) (choice : Selected) (truth : Truth)
+            → AreTypes files choice truth self.now
+            → IfSome result
+            (λ types. (k : ℕ)
+            × (number_at (rows_of files) (codes "type") file statement.now.head.offset ≡ Some k)
+            × Space files truth choice k (map plain_of types.now)) }
+        ensures none { (files : Files) (choice : Selected) (truth : Truth)
+            → AreTypes files choice truth self.now
+            → result ≡ None → (k : ℕ)
+            → number_at (rows_of files) (codes "type") file statement.now.head.offset ≡ Some k
+            → (types : List Plain) → Space files truth choice k types → ⊥ }
+        ensures same { option_map (λ types. map plain_of types.now) result
+            ≡ space_at self.now file statement.now.head.offset }
+    {
+        self.plain(file, statement.offset())
     }
 
     /// The same, as the list itself, which its types share.

@@ -19,8 +19,8 @@ use Rattle.yv_leafref_values.specs.declared.scope.RuleScope.{RuleScope}
 use Rattle.yv_leafref_values.specs.InUse.{is_asked}
 use Rattle.yv_leafref_values.specs.Meetings.{at, count_entered, entries_met, entry_met, found_of, kind_met, Meeting, meetings, at_node, Node, Spot}
 use Rattle.yv_validate.specs.Faults.{choice_faults, faults_at, flaw_if, kind_faults, node_faults, state_faults}
-use Rattle.yv_validate.specs.Flaw.{Flaw}
-use Rattle.yv_validate.specs.declared.fault.FaultKind.TheVariants.{State}
+use Rattle.yv_faults.specs.Flaw.{Flaw}
+use Rattle.yv_faults.specs.declared.fault.FaultKind.TheVariants.{State}
 use Rattle.yv_validate.specs.InnerWalk.{one_from, ones_met, scope_at}
 use Rattle.yv_quiet_nodes.proofs.Children.{rank_is, split_at, split_of, Splits, trees_behind}
 

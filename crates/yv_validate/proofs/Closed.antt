@@ -18,7 +18,7 @@ use Rattle.yv_leafref_values.specs.Findings.{Findings, Finds, first_of}
 use Rattle.yv_leafref_values.specs.InUse.{in_use, is_asked, is_empty_at, uses_defaults}
 use Rattle.yv_leafref_values.specs.Meetings.{Below, found_of, is_left, kind_met, Meeting, at_node, Node, Spot}
 use Rattle.yv_validate.specs.Faults.{array_faults, choice_faults, kind_faults, leaf_faults, state_faults}
-use Rattle.yv_validate.specs.Flaw.{Flaw}
+use Rattle.yv_faults.specs.Flaw.{Flaw}
 use Rattle.yv_validate.specs.InnerWalk.{below_from, cases_met, children_met, Closes, data_met, defaults_found, empty_found, Grows, GrowsWith, inside_at, leaf_at, leaf_list_at, node_at, one_met, ProgressView, Writes}
 use Rattle.yv_validate.proofs.Beneath.{choice_told, kind_same, quiet_faults}
 use Rattle.yv_validate.proofs.Grown.{asked_faults, Behind, closes, Defaults, entered_absent, entered_asked, grows_alone, grows_only, in_use_empty, in_use_items, in_use_other, in_use_unasked, in_use_written, left_written, Quiet, quiet_node, unasked_faults, with_as}

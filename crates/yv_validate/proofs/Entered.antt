@@ -15,7 +15,7 @@ use Rattle.yv_leafref_values.specs.Findings.{end_object, Findings, Finds, first_
 use Rattle.yv_leafref_values.specs.Meetings.{count_entered, in_container, in_no_object, Meeting, object_met, Spot, stand, Stand}
 use Rattle.yv_leafref_values.specs.Place.{Place}
 use Rattle.yv_validate.specs.Faults.{faults_at}
-use Rattle.yv_validate.specs.Flaw.{Flaw}
+use Rattle.yv_faults.specs.Flaw.{Flaw}
 use Rattle.yv_validate.specs.InnerWalk.{children_met, container_at, Grows, inside_at, next_of, ProgressView, unknowns}
 use Rattle.yv_validate.specs.Work.{work_at}
 use Rattle.yv_validate.proofs.Steps.{told_both}

@@ -21,9 +21,9 @@ use Rattle.yv_leafref_values.specs.Findings.{Findings, Finds, first_of, met_in, 
 use Rattle.yv_leafref_values.specs.InUse.{in_use, is_asked, is_empty_at, uses_defaults}
 use Rattle.yv_leafref_values.specs.Meetings.{all_met, count_entered, found_of, is_left, Meeting, at_node, Node}
 use Rattle.yv_validate.specs.Faults.{faults_at, kind_faults, state_faults}
-use Rattle.yv_validate.specs.Flaw.{Flaw}
+use Rattle.yv_faults.specs.Flaw.{Flaw}
 use Rattle.yv_validate.specs.InnerWalk.{Closes, Grows, GrowsWith, next_of, object_at, ProgressView}
-use Rattle.yv_validate.specs.declared.trail.Trail.{Root}
+use Rattle.yv_faults.specs.declared.trail.Trail.{Root}
 use Rattle.yv_validate.specs.Work.{work_at}
 use Rattle.yv_validate.proofs.Steps.{told_both}
 

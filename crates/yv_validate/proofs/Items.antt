@@ -17,9 +17,9 @@ use Rattle.yv_leafref_values.specs.InUse.{value_of}
 use Rattle.yv_leafref_values.specs.Meetings.{at, EntryEnd, at_end, count_entered, entry_met, Meeting, object_met, Spot, at_value, WrittenValue}
 use Rattle.yv_leafref_values.specs.Place.{Place, step_name}
 use Rattle.yv_leafref_values.specs.References.{number_of}
-use Rattle.yv_validate.specs.declared.fault.FaultKind.TheVariants.{Duplicate, Value as Unread}
+use Rattle.yv_faults.specs.declared.fault.FaultKind.TheVariants.{Duplicate, Value as Unread}
 use Rattle.yv_validate.specs.Faults.{end_faults, faults_at, flaw, Leafs, leafs_of, repeated_item, repeat_faults, unique_faults, value_faults}
-use Rattle.yv_validate.specs.Flaw.{Flaw}
+use Rattle.yv_faults.specs.Flaw.{Flaw}
 use Rattle.yv_validate.specs.InnerNotes.{list_tuple}
 use Rattle.yv_validate.specs.InnerWalk.{entries_at, Grows, inside_at, items_at, ProgressView, value_found, written_at}
 use Rattle.yv_validate.specs.Repeats.{repeat_of}

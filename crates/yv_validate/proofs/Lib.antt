@@ -12,6 +12,5 @@ pub mod Reading
 pub mod Each
 pub mod Closed
 pub mod Bound
-pub mod Spelled
 pub mod Silent
 pub mod Passing

@@ -32,9 +32,9 @@ use Rattle.yv_leafref_values.specs.Findings.{Findings, Finds, first_of, kept_at,
 use Rattle.yv_leafref_values.specs.InUse.{case_scope, enforces, enforces_beside, in_use, is_asked, is_empty_at, scope_in, uses_defaults}
 use Rattle.yv_leafref_values.specs.Values.{values_of_node}
 use Rattle.yv_leafref_values.specs.Meetings.{at, Below, container_met, count_entered, found_of, in_no_object, is_left, kind_met, Meeting, meetings, at_node, Node, node_met, Spot}
-use Rattle.yv_validate.specs.declared.fault.FaultKind.TheVariants.{Mandatory, Max, Min, MissingKey, State}
+use Rattle.yv_faults.specs.declared.fault.FaultKind.TheVariants.{Mandatory, Max, Min, MissingKey, State}
 use Rattle.yv_validate.specs.Faults.{choice_faults, count_faults, faults_at, flaw, flaw_if, kind_faults, leaf_faults, missing_fault, node_faults, state_faults}
-use Rattle.yv_validate.specs.Flaw.{Flaw}
+use Rattle.yv_faults.specs.Flaw.{Flaw}
 use Rattle.yv_validate.specs.InnerNotes.{Gains, GainsBy}
 use Rattle.yv_quiet_nodes.specs.NamedLeafs.{is_named, is_read}
 use Rattle.yv_quiet_nodes.specs.Quiet.{are_quiet, is_mute, is_quiet, is_unread, IsEmptied, IsPassed, tree_met}

@@ -18,9 +18,9 @@ use Rattle.yv_leafref_values.specs.InUse.{enforces, enforces_beside, is_asked, v
 use Rattle.yv_leafref_values.specs.Meetings.{all_met, at, EntryEnd, found_of, Meeting, stand, at_value, at_end, at_node, Node, Stand, WrittenValue}
 use Rattle.yv_leafref_values.specs.Place.{Place, under}
 use Rattle.yv_leafref_values.specs.References.{all_references, number_of}
-use Rattle.yv_validate.specs.declared.fault.FaultKind.{FaultKind}
-use Rattle.yv_validate.specs.declared.fault.FaultKind.TheVariants.{Unknown, Shape, Value, MissingKey, Duplicate, Unique, Mandatory, Min, Max, Choice, Reference, State}
-use Rattle.yv_validate.specs.Flaw.{Flaw}
+use Rattle.yv_faults.specs.declared.fault.FaultKind.{FaultKind}
+use Rattle.yv_faults.specs.declared.fault.FaultKind.TheVariants.{Unknown, Shape, Value, MissingKey, Duplicate, Unique, Mandatory, Min, Max, Choice, Reference, State}
+use Rattle.yv_faults.specs.Flaw.{Flaw}
 use Rattle.yv_validate.specs.Repeats.{repeat_of}
 use Rattle.yv_validate.specs.Values.{entry_tuple}
 use Rattle.yv_quiet_nodes.specs.NamedLeafs.{key_leafs, unique_leafs}

@@ -22,12 +22,12 @@ use Rattle.yv_leafref_values.specs.Meetings.{array_met, Below, container_met, co
 use Rattle.yv_leafref_values.specs.Place.{Place, under}
 use Rattle.serde_json.specs.Find.{get_member}
 use Rattle.yv_validate.specs.Faults.{faults_at, flaw}
-use Rattle.yv_validate.specs.Flaw.{Flaw}
-use Rattle.yv_validate.specs.InnerTrail.{places}
+use Rattle.yv_faults.specs.Flaw.{Flaw}
+use Rattle.yv_faults.specs.Trails.{places}
 use Rattle.yv_validate.specs.Work.{work_at}
-use Rattle.yv_validate.specs.declared.fault.FaultKind.TheVariants.{Unknown}
+use Rattle.yv_faults.specs.declared.fault.FaultKind.TheVariants.{Unknown}
 use Rattle.yv_validate.specs.declared.progress.Progress.{Progress}
-use Rattle.yv_validate.specs.declared.trail.Trail.{Trail}
+use Rattle.yv_faults.specs.declared.trail.Trail.{Trail}
 
 -- the node may be in the object
 pub record Meets (s : Rows) (c : Context) (n : NodeId) : Type 0 where

@@ -1,13 +1,8 @@
-pub mod Flaw
 pub mod Repeats
 pub mod Values
 pub mod Faults
 pub mod Work
 pub mod Size
-pub mod Line
-pub mod Part
-pub mod InnerTrail
-pub mod InnerPath
 pub mod InnerWalk
 pub mod InnerMemory
 pub mod InnerNotes

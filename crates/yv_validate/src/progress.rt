@@ -3,8 +3,8 @@ ghost use Rattle.std.specs.Prelude.{◌≡◌, [], IfOk, OnOk};
 ghost use Rattle.yv_leafref_values.specs.Findings.{Finds, none_found};
 ghost use Rattle.yv_validate.specs.InnerWalk.{value_found};
 
-use crate::faults::Faults;
 use std::alloc::{AllocError, Global};
+use yv_faults::Faults;
 use yv_leafref_values::Findings;
 use yv_nodes::NodeId;
 use yv_schema_tables::Schema;

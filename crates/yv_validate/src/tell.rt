@@ -1,16 +1,13 @@
 //! Faults as they are reported, with the way to their place.
 ghost use Rattle.std.specs.Prelude.{◌≡◌, ◌&&◌, ◌∷◌, [], ◌++◌, map, OnOk};
-ghost use Rattle.yv_validate.specs.InnerTrail.{places, IsWithin};
+ghost use Rattle.yv_faults.specs.Trails.{places, IsWithin};
 ghost use Rattle.yv_leafref_values.specs.InUse.{enforces};
 ghost use Rattle.yv_validate.specs.Faults.{flaw, flaw_if, reference_faults, repeat_faults};
 ghost use Rattle.yv_leafref_values.specs.Place.{under};
 
-use crate::fault::{Fault, FaultKind};
-use crate::faults::Faults;
-use crate::path::Path;
-use crate::trail::Trail;
 use crate::walk::Walk;
 use std::alloc::AllocError;
+use yv_faults::{Fault, FaultKind, Faults, Path, Trail};
 use yv_leafref_values::{RuleScope, ValuePath};
 use yv_nodes::Node;
 

@@ -6,18 +6,16 @@ ghost use Rattle.yv_values.specs.Count.{count_up};
 ghost use Rattle.yv_validate.specs.InnerMemory.{RemembersEach};
 ghost use Rattle.yv_quiet_nodes.specs.NamedLeafs.{uniques_at};
 ghost use Rattle.yv_validate.specs.InnerNotes.{HasTuples, list_tuple, tuple_in};
-ghost use Rattle.yv_validate.specs.InnerTrail.{places, IsWithin};
+ghost use Rattle.yv_faults.specs.Trails.{places, IsWithin};
 ghost use Rattle.yv_validate.specs.Faults.{unique_faults, unique_if};
 ghost use Rattle.yv_validate.specs.Work.{uniques_work};
 
-use crate::fault::{Fault, FaultKind};
-use crate::faults::Faults;
 use crate::memory::stood_before;
 use crate::notes::Notes;
-use crate::trail::Trail;
 use crate::walk::Walk;
 use serde_json::Value;
 use std::alloc::AllocError;
+use yv_faults::{Fault, FaultKind, Faults, Trail};
 use yv_nodes::NodeId;
 use yv_values::{Index, Meter, Tuple};
 

@@ -16,22 +16,21 @@ ghost use Rattle.yv_validate.specs.Faults.{array_faults, faults as all_faults, f
 ghost use Rattle.yv_validate.specs.InnerNotes.{GainsBy, HasTuples};
 ghost use Rattle.yv_quiet_nodes.specs.Quiet.{AreKnown, IsEmptied, IsPassed};
 ghost use Rattle.yv_quiet_nodes.specs.Runs.{HasRuns};
-ghost use Rattle.yv_validate.specs.InnerTrail.{places, IsWithin};
+ghost use Rattle.yv_faults.specs.Trails.{places, IsWithin};
 ghost use Rattle.yv_validate.specs.InnerWalk.{cases_met, children_met, ClosesAt, container_at, data_met, entries_at, Grows, GrowsAt, GrowsWithAt, list_at, Meets, MeetsBelow, next_of, node_at, object_at, one_met, plain_at, scope_at, progress_view, unknowns, with_node, Writes};
 ghost use Rattle.yv_validate.specs.Size.{size};
 ghost use Rattle.yv_validate.specs.Work.{work};
 
-use crate::fault::{FaultKind, Report};
-use crate::faults::Faults;
 use crate::laws::work_bound;
 use crate::memory::stood_before;
 use crate::nodes::count_of;
 use crate::notes::Notes;
 use crate::progress::Progress;
+use crate::report::Report;
 use crate::tell::tell_references;
-use crate::trail::Trail;
 use serde_json::{Map, Value};
 use std::alloc::{AllocError, Global};
+use yv_faults::{FaultKind, Faults, Trail};
 use yv_leafref_values::{RuleScope, answer, laws as found_laws};
 use yv_node_definition::NodeKind;
 use yv_nodes::NodeId;

@@ -2,8 +2,8 @@ use Rattle.std.proofs.Common.{◌≡◌, ◌++◌, List, ap, take, drop, sym, �
 use Rattle.std.proofs.lemmas.List.{take-append-drop}
 use Rattle.std.proofs.lemmas.Result.{IfOk-weaker}
 use mathlib.Core.List.{map-append}
-use Rattle.yv_validate.specs.Part.{part_of, steps_of}
-use Rattle.yv_validate.specs.declared.path.Part.{Part}
+use Rattle.yv_faults.specs.Part.{part_of, steps_of}
+use Rattle.yv_faults.specs.declared.path.Part.{Part}
 use Rattle.yv_fault_notes.specs.Line.{short, whole}
 use Rattle.yv_fault_notes.proofs.front.front_of.Goals as goal
 

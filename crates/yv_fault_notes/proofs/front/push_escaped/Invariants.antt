@@ -1,5 +1,5 @@
 use Rattle.std.proofs.Common.{◌≡◌, ◌++◌, drop, string_bytes}
-use Rattle.yv_validate.specs.Line.{escape}
+use Rattle.yv_faults.specs.Line.{escape}
 use Rattle.yv_fault_notes.proofs.front.push_escaped.Given as goal
 
 abbrev pub invariant-loop-byte : goal.invariant-loop-byte

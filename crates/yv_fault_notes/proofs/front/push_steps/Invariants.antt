@@ -1,6 +1,6 @@
 use Rattle.std.proofs.Common.{◌≡◌, ◌++◌, take, string_bytes}
-use Rattle.yv_validate.specs.Line.{places_text}
-use Rattle.yv_validate.specs.Part.{steps_of}
+use Rattle.yv_faults.specs.Line.{places_text}
+use Rattle.yv_faults.specs.Part.{steps_of}
 use Rattle.yv_fault_notes.proofs.front.push_steps.Given as goal
 
 abbrev pub invariant-loop-step : goal.invariant-loop-step

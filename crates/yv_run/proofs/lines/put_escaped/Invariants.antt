@@ -1,6 +1,6 @@
 use Rattle.std.proofs.Common.{take}
 use Rattle.yv_streams.specs.Stream.{has_failed, stream_failures, stream_inner}
-use Rattle.yv_validate.specs.Line.{escape}
+use Rattle.yv_faults.specs.Line.{escape}
 use Rattle.yv_streams.specs.Pages.{Adds, output_of}
 use Rattle.yv_run.proofs.lines.put_escaped.Given as goal
 

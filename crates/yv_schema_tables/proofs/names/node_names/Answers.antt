@@ -1,24 +1,25 @@
-use Rattle.std.proofs.Common.{◌≡◌, length, take, refl, ap, arith}
+use Rattle.std.proofs.Common.{◌≡◌, ℕ, ◌<◌, List, length, take, refl, sym, ap, subst, arith}
 use Rattle.std.proofs.lemmas.List.{length-take-le}
-use Rattle.std.proofs.lemmas.Option.{slice_get_read}
-use Rattle.yv_schema_tables.specs.InnerNames.{names_of}
+use Rattle.std.proofs.lemmas.Option.{slice_get-get_or}
+use Rattle.yv_nodes.specs.Rows.{blank_row}
+use Rattle.yv_schema_tables.specs.InnerNames.{AreNumbersOf, names_of}
 use Rattle.yv_schema_tables.proofs.Naming.{names_count}
 use Rattle.yv_schema_tables.proofs.Numbering.{names_next}
 use Rattle.yv_schema_tables.proofs.names.node_names.Goals as goal
 
-pub add-requires : goal.add-requires
-add-requires c =
+pub number_next-requires-clause-few : goal.number_next-requires-clause-few
+number_next-requires-clause-few c =
     let rows = c.args.nodes.now.rows in
-    let i = c.loop-node.node-index in
-    let few : length (take i rows) ≡ i = length-take-le i rows (omega (arith, c.loop-node-test.true, ap length c.all-node-items.ensures)) in
-    omega (arith, c.loop-node.invariant.named.counted, names_count (take i rows), few, c.loop-node-test.true, ap length c.all-node-items.ensures, c.requires)
+    let i = c.loop-number.number in
+    let few : length (take i rows) ≡ i = length-take-le i rows (omega arith) in
+    omega (arith, c.loop-number.invariant.named.counted, names_count (take i rows), few, c.requires)
 
-pub loop-node-preserved : goal.loop-node-preserved
-loop-node-preserved c =
+pub loop-number-preserved : goal.loop-number-preserved
+loop-number-preserved c =
     let rows = c.args.nodes.now.rows in
-    let i = c.loop-node.node-index in
-    let h = c.loop-node.invariant in
-    let at_item = slice_get_read c.all-node-items.result.now _ i c.node-item.result refl c.loop-node-test.true c.node-item.is in
-    let at = rw c.all-node-items.ensures at at_item in
-    names_next rows c.loop-node.names c.add.new.self c.loop-node.of_nodes.items c.push.new.self.items i c.in_ok-add.field-0 c.node-item.result h at
-    (c.in_ok-add.ensures.names (names_of (take i rows)) h.named) (c.in_ok-add.ensures.number (names_of (take i rows)) h.named) c.in_ok-push.ensures.items
+    let i = c.loop-number.number in
+    let h = c.loop-number.invariant in
+    let before : AreNumbersOf (names_of (take i rows)) rows c.deref.result.now = subst (AreNumbersOf (names_of (take i rows)) rows) (sym c.deref.ensures.value) h.gives in
+    let at = slice_get-get_or rows i blank_row (omega arith) in
+    names_next rows c.loop-number.names c.number_next.new.self c.loop-number.of_nodes.items c.push.new.self.items i c.in_ok-name.name _ h at
+    (c.in_ok-name.ensures.names (names_of (take i rows)) h.named before) (c.in_ok-name.ensures.number (names_of (take i rows)) h.named before) c.in_ok-push.ensures.items

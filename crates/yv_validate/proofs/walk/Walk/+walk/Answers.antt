@@ -21,13 +21,13 @@ use Rattle.yv_leafref_values.specs.Meetings.{at, count_entered, entry_met, found
 use Rattle.yv_leafref_values.specs.Place.{Place, step_name}
 use Rattle.yv_leafref_values.specs.declared.scope.RuleScope.{RuleScope}
 use Rattle.yv_leafref_values.specs.declared.scope.RuleScope.TheVariants.{Always, InCase, InDefault}
-use Rattle.yv_validate.specs.declared.fault.FaultKind.TheVariants.{State}
+use Rattle.yv_faults.specs.declared.fault.FaultKind.TheVariants.{State}
 use Rattle.yv_validate.specs.Faults.{array_faults, count_faults, end_faults, flaw_if, leafs_of, state_faults, unique_faults}
 use Rattle.yv_validate.specs.InnerMemory.{Remembers, RemembersEach}
 use Rattle.yv_quiet_nodes.specs.NamedLeafs.{is_named, keys_at, uniques_at}
 use Rattle.yv_validate.specs.InnerNotes.{GainsBy, list_tuple, noted_at, tuple_in}
 use Rattle.yv_quiet_nodes.specs.Quiet.{IsEmptied}
-use Rattle.yv_validate.specs.InnerTrail.{places}
+use Rattle.yv_faults.specs.Trails.{places}
 use Rattle.yv_validate.specs.InnerWalk.{cases_met, children_met, Closes, container_at, data_met, entries_at, Grows, GrowsWith, inside_at, leaf_at, list_at, next_of, node_at, object_at, one_met, ones_met, plain_at, scope_at, spot_at, ProgressView, progress_view, with_node}
 use Rattle.yv_validate.specs.Repeats.{repeat_of}
 use Rattle.yv_validate.specs.Values.{leaf_in}

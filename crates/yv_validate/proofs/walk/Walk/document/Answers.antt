@@ -7,7 +7,7 @@ use Rattle.yv_leafref_values.specs.Meetings.{all_met}
 use Rattle.yv_leafref_values.specs.Place.{Place}
 use Rattle.yv_leafref_values.specs.References.{lookups_at}
 use Rattle.yv_validate.specs.Faults.{faults_at, reference_faults}
-use Rattle.yv_validate.specs.Flaw.{Flaw}
+use Rattle.yv_faults.specs.Flaw.{Flaw}
 use Rattle.yv_validate.specs.InnerWalk.{progress_view}
 use Rattle.yv_validate.specs.Work.{work_at}
 use Rattle.yv_validate.proofs.Grown.{all_grown}

@@ -7,10 +7,10 @@ use Rattle.yv_nodes.specs.Rows.{row_at}
 use Rattle.yv_leafref_values.specs.Findings.{Finds}
 use Rattle.yv_leafref_values.specs.InUse.{value_of}
 use Rattle.yv_leafref_values.specs.Place.{Place, step_name}
-use Rattle.yv_validate.specs.declared.fault.FaultKind.TheVariants.{Duplicate, Value as Unread}
+use Rattle.yv_faults.specs.declared.fault.FaultKind.TheVariants.{Duplicate, Value as Unread}
 use Rattle.yv_validate.specs.Faults.{flaw, item_tuple, repeat_faults}
-use Rattle.yv_validate.specs.Flaw.{Flaw}
-use Rattle.yv_validate.specs.InnerTrail.{places}
+use Rattle.yv_faults.specs.Flaw.{Flaw}
+use Rattle.yv_faults.specs.Trails.{places}
 use Rattle.yv_validate.specs.InnerWalk.{spot_at, ProgressView, progress_view, value_found, written_at}
 use Rattle.yv_validate.specs.Repeats.{repeat_of}
 use Rattle.yv_validate.specs.Work.{tuple_work, value_work}

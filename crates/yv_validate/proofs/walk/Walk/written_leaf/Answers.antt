@@ -7,9 +7,9 @@ use Rattle.yv_leafref_values.specs.InUse.{value_of}
 use Rattle.yv_validate.specs.InnerWalk.{spot_at, progress_view, written_at}
 use Rattle.yv_validate.proofs.Items.{read_told, unread_told, writes}
 use Rattle.yv_leafref_values.specs.Place.{step_name}
-use Rattle.yv_validate.specs.declared.fault.FaultKind.TheVariants.{Value as Unread}
+use Rattle.yv_faults.specs.declared.fault.FaultKind.TheVariants.{Value as Unread}
 use Rattle.yv_validate.specs.Faults.{flaw}
-use Rattle.yv_validate.specs.InnerTrail.{places}
+use Rattle.yv_faults.specs.Trails.{places}
 use Rattle.yv_validate.specs.Work.{value_work}
 use Rattle.yv_validate.proofs.Noted.{gains_as, gains_none_at}
 use Rattle.yv_validate.proofs.Steps.{plus_none}
