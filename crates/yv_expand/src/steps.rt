@@ -7,8 +7,8 @@ ghost use Rattle.yv_base_graph.specs.Graph.{IsGraph, IsOrder, HasNoCycle};
 ghost use Rattle.yv_link_definitions.specs.Meanings.{AreNames};
 ghost use Rattle.yv_expand.specs.InnerSteps.{IsUsed, AreSteps};
 
-use crate::unit_keywords::own_units;
 use crate::lists::{WantedFiles, of_blocks};
+use crate::unit_keywords::own_units;
 use std::alloc::{AllocError, Global};
 use yv_base_graph::{Ranking, rank};
 use yv_link_definitions::Names;

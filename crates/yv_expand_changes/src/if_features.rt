@@ -13,8 +13,8 @@ ghost use Rattle.yv_expand_changes.specs.InnerSequences.{known_of};
 
 use crate::sequences::known_of;
 use std::alloc::{AllocError, Global};
-use yv_expand_uses::Spot;
 use yv_expand_refines::Changes;
+use yv_expand_uses::Spot;
 use yv_link::Linked;
 use yv_link_scopes::{Rows, name_of};
 use yv_statement::Statement;

@@ -9,8 +9,8 @@ ghost use Rattle.yv_expand_changes.specs.InnerRuns.{AreKnown};
 
 use crate::known_runs::KnownRuns;
 use std::alloc::{AllocError, Global};
-use yv_expand_uses::Spot;
 use yv_expand_refines::{Changes, RefineTarget, RefinedUses, Refinements};
+use yv_expand_uses::Spot;
 use yv_link_scopes::Rows;
 
 // Nothing is known of so many uses.

@@ -11,8 +11,8 @@ ghost use Rattle.yv_expand_changes.specs.InnerLists.{lists_of};
 use crate::runs::read_runs;
 use crate::ways::{Way, is_same, read_ways};
 use std::alloc::{AllocError, Global};
-use yv_expand_uses::Spot;
 use yv_expand_refines::{Changes, RefineTarget, RefinedUses};
+use yv_expand_uses::Spot;
 use yv_link_scopes::Rows;
 
 /// The numbers of the runs of refines that change items at those copies of a `uses` that are alike,

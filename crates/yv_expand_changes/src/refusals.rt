@@ -15,9 +15,9 @@ use crate::runs::way_at;
 use crate::ways::{Way, is_same, read_ways};
 use std::alloc::{AllocError, Global};
 use std::collections::BTreeSet;
-use yv_expand_uses::Spot;
 use yv_expand_refines::{RefineTarget, RefinedUses, Refinements};
 use yv_expand_rounds::ItemRow;
+use yv_expand_uses::Spot;
 use yv_link_scopes::Rows;
 use yv_statement::{Code, Refusal, lesser, refusal_if};
 

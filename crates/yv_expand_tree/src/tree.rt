@@ -4,8 +4,8 @@ ghost use Rattle.yv_expand_tree.specs.FinalTree.{source_at, source_of_spot, modu
 
 use std::marker::Model;
 use yv_expand::{Expansion, Origin, RemainingNode};
-use yv_expand_uses::Spot;
 use yv_expand_refines::Changes;
+use yv_expand_uses::Spot;
 
 /// The final tree of the files of implemented modules. Items go by their numbers in the expansion,
 /// and nodes, which are the items that are left, by their places in the order of the schema.

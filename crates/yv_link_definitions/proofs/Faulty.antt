@@ -60,10 +60,12 @@ lead_falls g ranks r {a} {b} (graph.by_edge e) = r.falls a b e
 lead_falls g ranks r {a} (graph.by_way {b = b} e w) = let x = r.falls a b e in let y = lead_falls g ranks r w in omega arith
 
 pub none_marked : (files : Briefs) (rows : List Row) (g : Graph) (ranks : List ℕ) (marks : List Bool) → AreSteps files rows g → AreRanks g ranks → marks ≡ [] → AreDefinitionCycles files rows marks
-none_marked files rows g ranks marks s r none = record { exact = λ a. (
-  λ m. absurd (false≢true (ap (λ ms. slice_index_or ms a false) (sym none) ∙ m)),
-  λ w. let falls : slice_index ranks a < slice_index ranks a = lead_falls g ranks r (way_of files rows g s w) in absurd (omega arith),
-) }
+none_marked files rows g ranks marks s r none = record {
+  exact = λ a. (
+    λ m. absurd (false≢true (ap (λ ms. slice_index_or ms a false) (sym none) ∙ m)),
+    λ w. let falls : slice_index ranks a < slice_index ranks a = lead_falls g ranks r (way_of files rows g s w) in absurd (omega arith),
+  );
+}
 
 pub ranks_read : (g h : Graph) (ranked : Ranking) (ranks order : Vec ℕ Global) → h ≡ g → ranked ≡ Ranks ranks order → IfRanks ranked (λ xs ys. AreRanks h xs) → AreRanks g ranks.items
 ranks_read g h ranked ranks order e is given =

@@ -46,15 +46,18 @@ module _ (files : Files) (meanings : List (Option ℕ)) (meant : AreMeant (map b
 
   -- one that means something isn't
   pub unknown_some : (kind : NameKind) (d : ℕ) → ((o p : Option ℕ) → MeansIn (map brief_of files) (rows_of files) kind k (name_in r) o → MeansIn (map brief_of files) (rows_of files) kind k (name_in r) p → o ≡ p) → meant_at meanings k ≡ Some d → IsTrue false ↔ IsUnknown (map brief_of files) (rows_of files) kind k r
-  unknown_some kind d one is = (λ h. absurd (false≢true h), λ u.
-      let found : RefersTo (map brief_of files) (rows_of files) k d = (meant.exact k d).0 is in
-      let same : found.1.statement ≡ r = same_Some found.1.statement r (sym found.1.at ∙ at) in
-      let named : names_definition found.0 r ≡ true = ap (names_definition found.0) (sym same) ∙ found.1.names in
-      let kinds : found.0 ≡ kind = sym (kind_named found.0 r named) ∙ kind_named kind r u.0 in
-      let means : MeansIn (map brief_of files) (rows_of files) kind k (name_in r) (Some d) =
-          subst (λ (n : NameKind). MeansIn (map brief_of files) (rows_of files) n k (name_in r) (Some d)) kinds
-          (subst (λ (x : Row). MeansIn (map brief_of files) (rows_of files) found.0 k (name_in x) (Some d)) same found.1.means) in
-      absurd (none_some d (one None (Some d) u.1 means)))
+  unknown_some kind d one is = (
+    λ h. absurd (false≢true h),
+    λ u.
+        let found : RefersTo (map brief_of files) (rows_of files) k d = (meant.exact k d).0 is in
+        let same : found.1.statement ≡ r = same_Some found.1.statement r (sym found.1.at ∙ at) in
+        let named : names_definition found.0 r ≡ true = ap (names_definition found.0) (sym same) ∙ found.1.names in
+        let kinds : found.0 ≡ kind = sym (kind_named found.0 r named) ∙ kind_named kind r u.0 in
+        let means : MeansIn (map brief_of files) (rows_of files) kind k (name_in r) (Some d) =
+        subst (λ (n : NameKind). MeansIn (map brief_of files) (rows_of files) n k (name_in r) (Some d)) kinds
+        (subst (λ (x : Row). MeansIn (map brief_of files) (rows_of files) found.0 k (name_in x) (Some d)) same found.1.means) in
+        absurd (none_some d (one None (Some d) u.1 means)),
+  )
 
   pub unknown_read : (kind : NameKind) (flag : Bool) → ((o p : Option ℕ) → MeansIn (map brief_of files) (rows_of files) kind k (name_in r) o → MeansIn (map brief_of files) (rows_of files) kind k (name_in r) p → o ≡ p) → (o : Option ℕ) → o ≡ meant_at meanings k → is_some o ≡ not flag → flag ≡ false → IsTrue flag ↔ IsUnknown (map brief_of files) (rows_of files) kind k r
   unknown_read kind flag one None is some unset = absurd (false≢true (some ∙ ap not unset))

@@ -55,7 +55,7 @@ cases_more rows cases new n one long are is grown = λ k case at.
     let now : slice_get (cases ++ one ∷ []) k ≡ Some (Some case) = ap (λ (cs : List (Option NodeId)). slice_get cs k) (sym grown) ∙ at in
     let P : ℕ → Type 0 = λ k. slice_get (cases ++ one ∷ []) k ≡ Some (Some case) → case_at rows k ≡ Some case in
     let last : P (length cases) = λ e. ap (case_at rows) long ∙ sym is ∙ same_Some one (Some case) (sym (slice_get-get_or (cases ++ one ∷ []) (length cases) one (omega (arith, length-append cases (one ∷ [])))
-        ∙ ap (λ (o : Option NodeId). Some o) (get_or_at cases one [] one (length cases) refl)) ∙ e) in
+    ∙ ap (λ (o : Option NodeId). Some o) (get_or_at cases one [] one (length cases) refl)) ∙ e) in
     let each : (k : ℕ) → k < length cases → P k = λ k lt e. are k case (slice_get-get_or cases k one lt ∙ ap (λ (o : Option NodeId). Some o) (sym (get_or_append_left cases (one ∷ []) one k lt))
-        ∙ sym (slice_get-get_or (cases ++ one ∷ []) k one (omega (arith, lt, length-append cases (one ∷ [])))) ∙ e) in
+    ∙ sym (slice_get-get_or (cases ++ one ∷ []) k one (omega (arith, lt, length-append cases (one ∷ [])))) ∙ e) in
     below_more P (length cases) each last k (omega (arith, slice_get_within (cases ++ one ∷ []) k (Some case) now, length-append cases (one ∷ []))) now

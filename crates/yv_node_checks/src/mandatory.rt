@@ -133,10 +133,7 @@ fn first_named(
     requires { HaveName nodes.now.rows name.now namesake }
     ensures { result ≡ find (is_named_at nodes.now.rows module_file name.now) children.now }
 {
-    children
-        .iter()
-        .copied()
-        .find(|child| is_named(nodes, module_file, name, namesake, *child))
+    children.iter().copied().find(|child| is_named(nodes, module_file, name, namesake, *child))
 }
 
 // The default case of a choice. The namesake has the name that its default says, if there is one.

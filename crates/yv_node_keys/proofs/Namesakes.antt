@@ -52,9 +52,11 @@ leaf_called rows list s n e = by (child_at rows module_file s.name list) refl e
   where
     module_file : ℕ
     module_file = module_file_of (module_file_at rows list) s
+
     leaf_is : (b : Bool) (c : NodeId) → cond b (Some c) None ≡ Some n → c ≡ n
     leaf_is true c e = same_Some c n e
     leaf_is false c e = absurd (let bad : None ≡ Some n = e in cc)
+
     by : (o : Option NodeId) → child_at rows module_file s.name list ≡ o → option_and_then (leaf_of rows) o ≡ Some n → HasName rows s.name n.0
     by None is e = absurd (let bad : None ≡ Some n = e in cc)
     by (Some c) is e = child_called rows module_file s.name list n (is ∙ ap (λ (m : NodeId). Some m) (leaf_is (is_kind_at rows is_leaf c) c e))

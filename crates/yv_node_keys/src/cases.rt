@@ -53,10 +53,7 @@ pub(crate) fn first_called(
     requires { HaveName nodes.now.rows name.now namesake }
     ensures { result ≡ find (is_called_at nodes.now.rows module_file name.now) children.now }
 {
-    children
-        .iter()
-        .copied()
-        .find(|child| is_named(nodes, *child, module_file, name, namesake))
+    children.iter().copied().find(|child| is_named(nodes, *child, module_file, name, namesake))
 }
 
 /// The default case of a choice. A namesake of the case, if there is one, has the name that the

@@ -33,12 +33,15 @@ before_apart module_file called i j less is = by (is_identity module_file called
     equal Less h = absurd (cc)
     equal Equal h = refl
     equal Greater h = absurd (cc)
+
     same : (k : Id) → is_identity module_file called k ≡ true → k ≡ record { module_file = module_file; name = called }
     same k h = same_id module_file called k (equal (id_cmp k record { module_file = module_file; name = called }) (sym (compared module_file called k) ∙ h))
+
     never : (o : Ordering) → o ≡ ordering_reverse o → o ≡ Less → ⊥
     never Less e h = cc
     never Equal e h = cc
     never Greater e h = cc
+
     by : (b : Bool) → is_identity module_file called j ≡ b → b ≡ false
     by false h = refl
     by true h =
@@ -83,6 +86,7 @@ module _ (module_file called : List ℕ) (q : NumberedId → Bool) where
     where
       here : is_identity module_file called x.id ≡ true
       here = ap (λ (y : NumberedId). is_identity module_file called y.id) is ∙ one
+
       by : (a : Bool) → q x ≡ a → list_any (is_identity module_file called) (ids_of (cond a (x ∷ filter q xs) (filter q xs))) ≡ q e
       by true t = ap (λ c. c || list_any (is_identity module_file called) (ids_of (filter q xs))) here ∙ sym t ∙ ap q is
       by false t = none_left xs (none_after x.id xs here up.0) ∙ sym t ∙ ap q is
@@ -90,6 +94,7 @@ module _ (module_file called : List ℕ) (q : NumberedId → Bool) where
     where
       off : is_identity module_file called x.id ≡ false
       off = apart_before x.id e.id (from_order x.id xs at e up.0 (omega (arith, b)) is) one
+
       by : (a : Bool) → list_any (is_identity module_file called) (ids_of (filter q xs)) ≡ q e → list_any (is_identity module_file called) (ids_of (cond a (x ∷ filter q xs) (filter q xs))) ≡ q e
       by true h = ap (λ c. c || list_any (is_identity module_file called) (ids_of (filter q xs))) off ∙ h
       by false h = h
@@ -113,6 +118,7 @@ part_rises q (x ∷ xs) up = by (q x) (left xs up.0) (part_rises q xs up.1)
         keep : (b : Bool) → id_cmp x.id y.id ≡ Less → AllByRecursion (λ k. id_cmp x.id k ≡ Less) (ids_of (filter q ys)) → AllByRecursion (λ k. id_cmp x.id k ≡ Less) (ids_of (cond b (y ∷ filter q ys) (filter q ys)))
         keep true e h = (e, h)
         keep false e h = h
+
     by : (b : Bool) → AllByRecursion (λ k. id_cmp x.id k ≡ Less) (ids_of (filter q xs)) → RiseById (ids_of (filter q xs)) → RiseById (ids_of (cond b (x ∷ filter q xs) (filter q xs)))
     by true h r = (h, r)
     by false h r = r
@@ -137,6 +143,7 @@ part-append low high (x ∷ xs) ys = by (is_between low high x.number) (part-app
   where
     left : List NumberedId → List NumberedId
     left all = filter (λ (e : NumberedId). is_between low high e.number) all
+
     by : (b : Bool) → part low high (xs ++ ys) ≡ part low high xs ++ part low high ys
         → ids_of (cond b (numbered_of x ∷ left (map numbered_of (xs ++ ys))) (left (map numbered_of (xs ++ ys)))) ≡ ids_of (cond b (numbered_of x ∷ left (map numbered_of xs)) (left (map numbered_of xs))) ++ part low high ys
     by true h = ap (λ (ids : List Id). id_of x.member ∷ ids) h

@@ -9,7 +9,7 @@ loop-byte-preserved g c = λ plain.
     let bytes : List ℕ = c.as_bytes-byte-items.result.now in
     let i : ℕ = c.loop-byte.byte-index in
     let left : drop i bytes ≡ get_or bytes i 0 ∷ drop (i + 1) bytes =
-        subst (λ k. drop i bytes ≡ get_or bytes i 0 ∷ drop k bytes) (sym (add-one i)) (drop-cons bytes i 0 c.loop-byte-test.true) in (
+    subst (λ k. drop i bytes ≡ get_or bytes i 0 ∷ drop k bytes) (sym (add-one i)) (drop-cons bytes i 0 c.loop-byte-test.true) in (
       now.0 ++ escaped_byte (get_or bytes i 0),
       has_written_append _ _ _ _ _ _ now.1 (search rules),
       append_assoc now.0 (escaped_byte (get_or bytes i 0)) _ ∙ ap (λ l. now.0 ++ escape l) (sym left) ∙ now.2,

@@ -15,7 +15,7 @@ order-requires c = meanings_read (files_in c.in_ok-draft.draft.rows.now) (rows_i
 pub returns-clause-makes : goal.returns-clause-makes
 returns-clause-makes c =
     let told : TellFirst (files_in c.args.rows.now) (rows_in c.args.rows.now) (length (rows_in c.args.rows.now)) c.in_ok-answers.answers =
-        subst (λ (x : Rows). TellFirst (files_in x) (rows_in x) (length (rows_in x)) c.in_ok-answers.answers) c.in_ok-draft.ensures c.in_ok-answers.ensures in
+    subst (λ (x : Rows). TellFirst (files_in x) (rows_in x) (length (rows_in x)) c.in_ok-answers.answers) c.in_ok-draft.ensures c.in_ok-answers.ensures in
     record {
       meant = (meanings_told (files_in c.args.rows.now) (rows_in c.args.rows.now) c.in_ok-answers.answers told).exact;
       refs = refs_told (files_in c.args.rows.now) (rows_in c.args.rows.now) c.in_ok-answers.answers told;

@@ -28,9 +28,11 @@ returns-in-Ok-clause-clear c = follows c.types.result (λ clear files choice lin
 
 pub returns-in-Ok-clause-refusal : goal.returns-in-Ok-clause-refusal
 returns-in-Ok-clause-refusal c = λ r e files choice linked.
-    inr (λ s bad. c.in-Ok.ensures.clear s (subst (λ fs. BadNames fs s) (sym (c.rows.ensures files choice linked)) bad),
-    c.types.ensures.refusal r e files choice linked
-    (subst (λ fs. AreNames fs c.in-Ok.names) (c.rows.ensures files choice linked) c.in-Ok.ensures.makes))
+    inr (
+      λ s bad. c.in-Ok.ensures.clear s (subst (λ fs. BadNames fs s) (sym (c.rows.ensures files choice linked)) bad),
+      c.types.ensures.refusal r e files choice linked
+          (subst (λ fs. AreNames fs c.in-Ok.names) (c.rows.ensures files choice linked) c.in-Ok.ensures.makes),
+    )
 
 pub returns-in-Err-clause-refusal : goal.returns-in-Err-clause-refusal
 returns-in-Err-clause-refusal c = λ r e files choice linked.
