@@ -2,7 +2,7 @@
 //!
 //! Words that fill a table on the stack are sorted there, the words after them are looked up among
 //! them, and so on. So n words cost about n * n / (2 * N) searches by a table of N words: 4 MiB of
-//! different short words fill the largest table five times, and take half a second.
+//! different short words fill the largest table six times, and take half a second.
 ghost use Rattle.std.specs.Prelude.{◌≡◌, ◌≤◌, ◌<◌, ℕ, [], ◌++◌, length, map, take};
 ghost use Rattle.std.specs.List.{list_any};
 ghost use Rattle.std.specs.List.Sorted.{IsSorted};
