@@ -7,6 +7,7 @@ use Rattle.std.specs.declared.cmp.Ordering.TheVariants.{Less, Equal, Greater}
 use Rattle.std.specs.Cmp.{Equal-is, nat_cmp_is}
 use Rattle.std.specs.BTreeMap.{BTreeMap, UpdatesBy}
 use Rattle.std.specs.List.{slice_get}
+use Rattle.std.specs.Option.{unwrap_or}
 use Rattle.std.proofs.lemmas.List.{map-append}
 use Rattle.std.proofs.lemmas.Map.Lookups.{exact_unsigned}
 use Rattle.yv_link_scopes.specs.Files.{has_word}
@@ -37,16 +38,18 @@ both false b h = cc
 pub same_place : (file f offset o : ℕ) → ((file == f) && (offset == o)) ≡ true → (file ≡ f) × (offset ≡ o)
 same_place file f offset o h = let p = both (file == f) (offset == o) h in (eqb-true file f p.0, eqb-true offset o p.1)
 
-chosen : (b : Bool) (old : Option ℕ) (node : ℕ) → (b ≡ true → old ≡ None) → cond b (Some node) old ≡ first_some old (cond b (Some node) None)
-chosen true old node h = ap (λ o. first_some o (Some node)) (sym (h refl))
-chosen false None node h = refl
-chosen false (Some x) node h = refl
+chosen : (b : Bool) (old there : Option ℕ) (number given : ℕ) → (b ≡ true → old ≡ there) → given ≡ unwrap_or there number → cond b (Some given) old ≡ first_some old (cond b (Some number) None)
+chosen true old None number given h is = ap (λ n. Some n) is ∙ ap (λ o. first_some o (Some number)) (sym (h refl))
+chosen true old (Some x) number given h is = ap (λ n. Some n) is ∙ ap (λ o. first_some o (Some number)) (sym (h refl))
+chosen false None there number given h is = refl
+chosen false (Some x) there number given h is = refl
 
-pub kept_new : (old new : BTreeMap (ℕ × ℕ) ℕ) (file offset number : ℕ) → lookup_in old file offset ≡ None → UpdatesBy (λ x y. ordering_then (nat_cmp x.0 y.0) (nat_cmp x.1 y.1)) (λ y. ordering_then (nat_cmp file y.0) (nat_cmp offset y.1)) old new (Some number) → (f o : ℕ) → lookup_in new f o ≡ keep_first (lookup_in old) file offset number f o
-kept_new old new file offset number none u f o =
+-- a place gets a number, or keeps the one that it has
+pub kept : (old new : BTreeMap (ℕ × ℕ) ℕ) (file offset number given : ℕ) → given ≡ unwrap_or (lookup_in old file offset) number → UpdatesBy (λ x y. ordering_then (nat_cmp x.0 y.0) (nat_cmp x.1 y.1)) (λ y. ordering_then (nat_cmp file y.0) (nat_cmp offset y.1)) old new (Some given) → (f o : ℕ) → lookup_in new f o ≡ keep_first (lookup_in old) file offset number f o
+kept old new file offset number given is u f o =
     u.0 (f, o)
-    ∙ ap (λ b. cond b (Some number) (lookup_in old f o)) (test_is file f offset o)
-    ∙ chosen ((file == f) && (offset == o)) (lookup_in old f o) number (λ h. let p = same_place file f offset o h in ap (λ k. lookup_in old k o) (sym p.0) ∙ ap (lookup_in old file) (sym p.1) ∙ none)
+    ∙ ap (λ b. cond b (Some given) (lookup_in old f o)) (test_is file f offset o)
+    ∙ chosen ((file == f) && (offset == o)) (lookup_in old f o) (lookup_in old file offset) number given (λ h. let p = same_place file f offset o h in ap (λ k. lookup_in old k o) (sym p.0) ∙ ap (lookup_in old file) (sym p.1)) is
 
 -- one more statement of the keyword
 pub places_more : (rows : List Row) (word : List ℕ) (i : ℕ) (r : Row) (old new : ℕ → ℕ → Option ℕ) → slice_get rows i ≡ Some r → has_word word r.head ≡ true → ((f o : ℕ) → old f o ≡ number_at (take i rows) word f o) → ((f o : ℕ) → new f o ≡ keep_first old r.file r.head.offset i f o) → (f o : ℕ) → new f o ≡ number_at (take (i + 1) rows) word f o

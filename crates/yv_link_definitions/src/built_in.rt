@@ -4,7 +4,8 @@ ghost use Rattle.yv_link_definitions.specs.BuiltIn.{is_built_in};
 
 use yv_statement::is_among;
 
-static BUILT_INS: [&str; 19] = [
+/// The names of the built-in types.
+pub static BUILT_INS: [&str; 19] = [
     "binary",
     "bits",
     "boolean",
@@ -28,7 +29,7 @@ static BUILT_INS: [&str; 19] = [
 
 /// Whether a name is that of a built-in type.
 #[tactic(auto, unfolding(crate::specs::BuiltIn::is_built_in))]
-pub(crate) fn is_built_in(name: &str) -> bool
+pub fn is_built_in(name: &str) -> bool
     ensures { result ≡ is_built_in name.now }
 {
     is_among(&BUILT_INS, name)

@@ -17,5 +17,6 @@ mod references;
 mod refusals;
 
 pub use build::names;
+pub use built_in::{BUILT_INS, is_built_in};
 pub use meaning_table::Names;
 pub use references::DefRef;

@@ -79,9 +79,8 @@ impl References {
         ensures { OnOk result ((f o : ℕ)
             → placed_in self.new f o ≡ keep_first (placed_in self.old) file offset number f o) }
     {
-        if self.get(file, offset).is_none() {
-            self.map.insert((file, offset), number)?;
-        }
+        // A place is searched for once.
+        self.map.entry((file, offset))?.or_insert(number);
         Ok(())
     }
 }

@@ -1,5 +1,6 @@
 //! The files, and the modules to which they belong.
-ghost use Rattle.std.specs.Prelude.{◌≡◌, ℕ, List, map, IfOk};
+ghost use Rattle.std.specs.Prelude.{◌≡◌, ℕ, List, map, slice_get, IfOk};
+ghost use Rattle.std.specs.Option.{unwrap_or};
 ghost use Rattle.yv_link_scopes.specs.Tables.{table_of};
 ghost use Rattle.yv_link_scopes.specs.Files.{brief, brief_of, module_file_at, is_module, module_name, file_named};
 
@@ -92,4 +93,22 @@ pub(crate) fn module_file<'a>(
         return number;
     }
     names.get(0, file.module_file).unwrap_or(number)
+}
+
+/// For each file that of its module. A name is looked up once for a file, and not for each of its
+/// statements: the names may be long.
+pub(crate) fn module_files<'a>(
+    alloc: Global,
+    files: &[File<'a, '_>],
+    names: &NamePlaces<'a>,
+) -> Result<Vec<usize>, AllocError>
+    requires { (name : List ℕ) → table_of names.now 0 name ≡ file_named (map brief files.now) name }
+    ensures { IfOk result (λ module_files. (n : ℕ)
+        → unwrap_or (slice_get module_files.items n) n ≡ module_file_at (map brief files.now) n) }
+{
+    let mut module_files = Vec::with_capacity(alloc, files.len())?;
+    for number in 0..files.len() {
+        module_files.push(module_file(files, names, number))?;
+    }
+    Ok(module_files)
 }

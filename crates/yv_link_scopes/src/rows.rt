@@ -1,6 +1,6 @@
 //! The statements of the files, and what prefixes and names in them mean.
 ghost use Rattle.std.specs.Prelude.{◌≡◌, ◌<◌, ◌≤◌, ℕ, List, map, length, slice_get, IfOk, IsErr};
-ghost use Rattle.std.specs.Option.{option_map};
+ghost use Rattle.std.specs.Option.{option_map, unwrap_or};
 ghost use Rattle.yv_link_scopes.specs.Tables.{table_of, first_of};
 ghost use Rattle.yv_link_scopes.specs.Files.{brief, brief_of, file_named, module_file_at};
 ghost use Rattle.yv_link_scopes.specs.Rows.{row, tree};
@@ -9,7 +9,7 @@ ghost use Rattle.yv_link_scopes.specs.declared.kind.NameKind.{NameKind};
 ghost use Rattle.yv_link_scopes.specs.declared.kind.NameKind.TheVariants.{Prefix};
 
 use crate::entries::{Entry, read_entries};
-use crate::files::{File, file_places, module_file, read_files};
+use crate::files::{File, file_places, module_files, read_files};
 use crate::kind::{NameKind, first_entries};
 use crate::names::{local, name_of, prefix_of};
 use crate::places::NamePlaces;
@@ -28,6 +28,7 @@ pub struct Rows<'a, 'b> {
     files: Vec<File<'a, 'b>>,
     entries: Vec<Entry<'a, 'b>>,
     names: NamePlaces<'a>,
+    module_files: Vec<usize>,
     prefixes: NamePlaces<'a>,
     ghost few: { length roots.now ≤ 4294967296 },
     ghost few_rows: { length entries.items ≤ 4294967293 },
@@ -35,6 +36,7 @@ pub struct Rows<'a, 'b> {
     ghost listed: { map row entries.items ≡ rows_of roots.now },
     ghost told: { map tree entries.items ≡ statements_of roots.now },
     ghost named_so: { (name : List ℕ) → table_of names 0 name ≡ file_named (map brief files.items) name },
+    ghost belong_so: { (n : ℕ) → unwrap_or (slice_get module_files.items n) n ≡ module_file_at (map brief files.items) n },
     ghost declared_so: { (s : ℕ) (n : List ℕ) → table_of prefixes s n ≡ first_of Prefix (map row entries.items) s n },
 }
 
@@ -55,6 +57,7 @@ impl<'a, 'b> Rows<'a, 'b> {
         }
         let files = read_files(alloc, roots)?;
         let names = file_places(alloc, &files)?;
+        let module_files = module_files(alloc, &files, &names)?;
         let entries = read_entries(alloc, roots, &files, &names)?;
         if entries.len() > MOST_STATEMENTS {
             return Err(AllocError);
@@ -65,6 +68,7 @@ impl<'a, 'b> Rows<'a, 'b> {
             files,
             entries,
             names,
+            module_files,
             prefixes,
         })
     }
@@ -115,11 +119,11 @@ impl<'a, 'b> Rows<'a, 'b> {
     }
 
     /// The number of the file of the module to which a file belongs, its own where that module
-    /// isn't there.
+    /// isn't there. Takes constant time.
     pub fn module_file(&self, file: usize) -> usize
         ensures { result ≡ module_file_at (files_in self.now) file }
     {
-        module_file(&self.files, &self.names, file)
+        self.module_files.get(file).copied().unwrap_or(file)
     }
 
     /// The number of the file of the module that a prefix identifies in a file.

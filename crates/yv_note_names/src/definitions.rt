@@ -1,32 +1,12 @@
 //! Names that are defined twice, or not at all.
 use std::alloc::{AllocError, Global};
+use yv_link_definitions::{BUILT_INS, is_built_in};
 use yv_note_statements::{
     Guess, Message, Site, definition, is_among, nearest_definition, nearest_word, prefix_of_module,
     say_guess, words_of,
 };
 use yv_note_text::Likeness;
 use yv_statement::Code;
-
-static BUILT_IN_TYPES: &[&str] = &[
-    "binary",
-    "bits",
-    "boolean",
-    "decimal64",
-    "empty",
-    "enumeration",
-    "identityref",
-    "int8",
-    "int16",
-    "int32",
-    "int64",
-    "leafref",
-    "string",
-    "uint8",
-    "uint16",
-    "uint32",
-    "uint64",
-    "union",
-];
 
 // What other languages call a type, and what YANG calls it.
 static OTHER_NAMES: &[(&str, &str)] = &[
@@ -111,7 +91,7 @@ pub fn tell_second_module<'a>(telling: &mut Message<'a>, site: &Site<'_, 'a>) {
 
 /// Adds that the name of a definition is taken.
 pub fn tell_second_name<'a>(telling: &mut Message<'a>, site: &Site<'_, 'a>) {
-    if site.is("typedef") && is_among(site.argument(), BUILT_IN_TYPES) {
+    if site.is("typedef") && is_built_in(site.argument()) {
         telling.subject("", " is the name of a built-in type; choose another one.");
     } else {
         telling.subject_statement(site, " is defined in this scope already.");
@@ -178,7 +158,7 @@ pub fn tell_type_name<'a>(telling: &mut Message<'a>, site: &Site<'_, 'a>) {
         telling.quote(" Did you mean ", meant, "?");
         return;
     }
-    let built_in = nearest_word(site.argument(), BUILT_IN_TYPES);
+    let built_in = nearest_word(site.argument(), &BUILT_INS);
     let typedef = nearest_definition(site.entries, "typedef", site.argument());
     say_meant(telling, site, Guess::nearer(built_in, typedef));
 }

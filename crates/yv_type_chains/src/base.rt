@@ -8,9 +8,9 @@ ghost use Rattle.yv_type_chains.specs.InnerTables.{AreBased, AreFollowed, at};
 
 use crate::draft::Draft;
 use crate::inside::is_type;
-use crate::kinds::is_built_in;
 use crate::slots::{get, no_numbers, put};
 use std::alloc::{AllocError, Global};
+use yv_link_definitions::is_built_in;
 use yv_link_scopes::name_of;
 
 impl Draft<'_, '_, '_> {

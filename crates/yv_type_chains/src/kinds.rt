@@ -1,6 +1,5 @@
 //! The built-in types, and the substatements that each takes.
 ghost use Rattle.std.specs.Prelude.{◌≡◌, map};
-ghost use Rattle.yv_link_definitions.specs.BuiltIn.{is_built_in};
 ghost use Rattle.yv_type_chains.specs.Kinds.{has_kind, has_pair, is_of_built_in, is_foreign, needs, needs_any};
 ghost use Rattle.yv_type_chains.specs.InnerPairs.{pair};
 
@@ -18,28 +17,6 @@ macro_rules! pairs {
         [$(Pair { kind: $kind, word: $word }),*]
     };
 }
-
-static BUILT_INS: [&str; 19] = [
-    "binary",
-    "bits",
-    "boolean",
-    "decimal64",
-    "empty",
-    "enumeration",
-    "identityref",
-    "instance-identifier",
-    "int8",
-    "int16",
-    "int32",
-    "int64",
-    "leafref",
-    "string",
-    "uint8",
-    "uint16",
-    "uint32",
-    "uint64",
-    "union",
-];
 
 static RESTRICTIONS: [&str; 10] = [
     "range",
@@ -110,14 +87,6 @@ fn has_kind(pairs: &[Pair], kind: &str) -> bool
         }
     }
     false
-}
-
-/// Whether a name is that of a built-in type.
-#[tactic(auto, unfolding(yv_link_definitions::specs::BuiltIn::is_built_in))]
-pub(crate) fn is_built_in(name: &str) -> bool
-    ensures { result ≡ is_built_in name.now }
-{
-    is_among(&BUILT_INS, name)
 }
 
 /// Whether a substatement is a restriction that the built-in type doesn't take.

@@ -11,9 +11,10 @@ ghost use Rattle.yv_type_chains.specs.InnerMarks.{IsForeign, IsInherited, IsJoin
 
 use crate::draft::Draft;
 use crate::inside::is_type;
-use crate::kinds::{is_built_in, is_foreign, is_of_built_in, needs};
+use crate::kinds::{is_foreign, is_of_built_in, needs};
 use crate::slots::get;
 use crate::steps::is_kind;
+use yv_link_definitions::is_built_in;
 use yv_link_scopes::{Entry, name_of};
 
 // Whether a statement is a type that names a typedef.
