@@ -11,7 +11,7 @@ use Rattle.yv_link_scopes.specs.Scopes.{MeansIn}
 use Rattle.yv_link_scopes.specs.declared.kind.NameKind.{NameKind}
 use Rattle.yv_link_scopes.specs.declared.kind.NameKind.TheVariants.{Typedef, Grouping}
 use Rattle.yv_link_definitions.specs.BuiltIn.{is_built_in}
-use Rattle.yv_link_definitions.specs.Refers.{IsUnknown, Refers, RefersTo, is_type, is_uses, names_definition}
+use Rattle.yv_link_definitions.specs.Refers.{IsUnknown, Refers, RefersTo, is_type, names_definition}
 use Rattle.yv_link_definitions.specs.Leads.{CountsFor, Joins}
 use Rattle.yv_link_definitions.specs.InnerAnswers.{AreMeant, meant_at}
 use Rattle.yv_link_definitions.proofs.Words.{not_true, word_once}

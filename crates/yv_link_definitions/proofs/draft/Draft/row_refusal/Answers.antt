@@ -1,4 +1,4 @@
-use Rattle.std.proofs.Common.{◌≡◌, ◌||◌, false, List, sym, ◌∙◌}
+use Rattle.std.proofs.Common.{List, sym, ◌∙◌}
 use Rattle.yv_statement.specs.Order.{refusal_at}
 use Rattle.yv_statement.specs.declared.refusal.Code.TheVariants as code
 use Rattle.yv_statement.proofs.Least.{least_lesser}
