@@ -24,3 +24,4 @@ pub mod Pending
 pub mod Stacking
 pub mod Expanding
 pub mod Ordered
+pub mod KeywordKinds

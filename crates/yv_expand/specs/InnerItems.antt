@@ -1,7 +1,7 @@
 -- Inner definitions, which only private clauses cite: items by the block or the file in which they
 -- stand, and what they give.
 use Rattle.std.specs.Prelude.{◌≡◌, ℕ, zero, suc, ◌<◌, ◌==◌, ◌&&◌, not, Bool, true, false, List, [], ◌∷◌, ◌++◌, length, map, if◌then◌else◌, Option, Some, None, slice_get, slice_index_or}
-use Rattle.std.specs.Option.{is_some, unwrap_or}
+use Rattle.std.specs.Option.{is_some}
 use Rattle.std.specs.declared.vec.Vec.{Vec}
 use Rattle.std.specs.declared.alloc.Global.{Global}
 use Rattle.yv_link_scopes.specs.Files.{Briefs, module_file_at}
@@ -35,10 +35,6 @@ is_wanted Counted r = counts r
 -- the block in which a statement stands that passes a test
 abbrev pub block_place : (Row → Bool) → ℕ → Row → Option ℕ
 block_place test k r = if test r && not (r.scope == k) then Some r.scope else None
-
--- for each file that of its module; a file past the last is its own
-abbrev pub AreModuleFiles : Briefs → List ℕ → Type 0
-AreModuleFiles files module_files = (n : ℕ) → unwrap_or (slice_get module_files n) n ≡ module_file_at files n
 
 -- the file at whose top a statement stands that passes a test
 abbrev pub top_place : (Row → Bool) → Briefs → ℕ → Row → Option ℕ

@@ -8,7 +8,7 @@ use Rattle.yv_link_scopes.specs.Rows.{Row}
 use Rattle.yv_expand.specs.Units.{saturate}
 use Rattle.yv_expand.specs.InnerItems.{block_place}
 use Rattle.yv_expand.specs.InnerItems.{top_place as top_place_of}
-pub use Rattle.yv_expand.specs.InnerItems.{Lists, counts, AreModuleFiles, is_place, placed_from, AreEmpty, ArePlaced}
+pub use Rattle.yv_expand.specs.InnerItems.{Lists, counts, is_place, placed_from, AreEmpty, ArePlaced}
 
 -- the block in which a statement counts, if it does
 abbrev pub part_place : ℕ → Row → Option ℕ

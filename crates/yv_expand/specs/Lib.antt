@@ -12,3 +12,4 @@ pub mod Expands
 pub mod Expansion
 pub mod InnerItems
 pub mod StatementBlocks
+pub mod InnerKeywords

@@ -1,10 +1,9 @@
 //! Statements by the block or by the file that contains them.
 ghost use Rattle.std.specs.Prelude.{◌≡◌, false, length, if◌then◌else◌, slice_index_or, IfOk};
 ghost use Rattle.std.specs.List.{flat_map};
-ghost use Rattle.yv_link_scopes.specs.Files.{Briefs};
 ghost use Rattle.yv_link_scopes.specs.Rows.{row};
 ghost use Rattle.yv_link_scopes.specs.Views.{files_in, rows_in};
-ghost use Rattle.yv_expand.specs.InnerItems.{AreEmpty, AreModuleFiles, ArePlaced, block_place, is_wanted, top_place, numbers_at, top_at, tops_before};
+ghost use Rattle.yv_expand.specs.InnerItems.{AreEmpty, ArePlaced, block_place, is_wanted, top_place, numbers_at, top_at, tops_before};
 
 use crate::own::is_node_or_uses;
 use crate::unit_keywords::own_units;
@@ -15,7 +14,7 @@ use yv_link_scopes::{Entry, Rows};
 fn no_lists(alloc: Global, count: usize) -> Result<Vec<Vec<usize>>, AllocError>
     ensures { IfOk result (λ lists. (length lists.items ≡ count) × AreEmpty lists.items) }
 {
-    let mut lists = Vec::new(alloc);
+    let mut lists = Vec::with_capacity(alloc, count)?;
     for _ in 0..count {
         lists.push(Vec::new(alloc))?;
     }
@@ -58,31 +57,18 @@ fn block_place(wanted: WantedFiles, number: usize, entry: &Entry<'_, '_>) -> Opt
     }
 }
 
-// For each file that of its module. A name is looked up once for a file, and not for each statement
-// at its top: the names may be long.
-fn module_files(alloc: Global, rows: &Rows<'_, '_>) -> Result<Vec<usize>, AllocError>
-    ensures { IfOk result (λ module_files. AreModuleFiles (files_in rows.now) module_files.items) }
-{
-    let mut module_files = Vec::new(alloc);
-    for number in 0..rows.files().len() {
-        module_files.push(rows.module_file(number))?;
-    }
-    Ok(module_files)
-}
-
 // The file at whose top a statement stands that is wanted.
 fn top_place(
+    rows: &Rows<'_, '_>,
     wanted: WantedFiles,
-    module_files: &[usize],
     number: usize,
     entry: &Entry<'_, '_>,
 ) -> Option<usize>
-    ensures { (files : Briefs) → AreModuleFiles files module_files.now → result
-        ≡ top_place (is_wanted wanted) files number (row entry.now) }
+    ensures { result
+        ≡ top_place (is_wanted wanted) (files_in rows.now) number (row entry.now) }
 {
     let file = entry.file as usize;
-    let module_file = module_files.get(file).copied().unwrap_or(file);
-    if is_wanted(wanted, entry) && entry.scope == module_file && entry.scope != number {
+    if is_wanted(wanted, entry) && entry.scope == rows.module_file(file) && entry.scope != number {
         Some(file)
     } else {
         None
@@ -121,10 +107,9 @@ pub(crate) fn of_files(
         (length (files_in rows.now)) lists.items) }
 {
     yv_link_scopes::laws::roots_come_first();
-    let module_files = module_files(alloc, rows)?;
     let mut lists = no_lists(alloc, rows.files().len())?;
     for (number, entry) in rows.entries().iter().enumerate() {
-        if let Some(place) = top_place(wanted, &module_files, number, entry) {
+        if let Some(place) = top_place(rows, wanted, number, entry) {
             lists[place].push(number)?;
         }
     }

@@ -3,7 +3,7 @@ ghost use Rattle.std.specs.Prelude.{◌≡◌};
 ghost use Rattle.yv_link_scopes.specs.Rows.{row};
 ghost use Rattle.yv_expand.specs.Units.{units_of};
 
-use crate::own::{NODES, OPERATIONS};
+use crate::own::{NODES, OPERATIONS, may_count};
 use yv_link_scopes::Entry;
 use yv_statement::is_among;
 
@@ -29,5 +29,9 @@ fn units_of(keyword: &str) -> Option<u64>
 pub(crate) fn own_units(entry: &Entry<'_, '_>) -> Option<u64>
     ensures { result ≡ units_of (row entry.now).head.keyword }
 {
-    units_of(entry.statement.keyword())
+    if may_count(entry.statement.kind()) {
+        units_of(entry.statement.keyword())
+    } else {
+        None
+    }
 }

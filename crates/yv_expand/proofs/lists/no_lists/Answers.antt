@@ -4,7 +4,7 @@ use Rattle.yv_expand.proofs.Placing.{empty_none, empty_more}
 use Rattle.yv_expand.proofs.lists.no_lists.Goals as goal
 
 pub loop-init : goal.loop-init
-loop-init c = record { each = ap length c.new-lists.ensures.items; none = empty_none _ c.new-lists.ensures.items }
+loop-init c = record { each = ap length c.in_ok-lists.ensures.items; none = empty_none _ c.in_ok-lists.ensures.items }
 
 pub loop-preserved : goal.loop-preserved
 loop-preserved c = record {
