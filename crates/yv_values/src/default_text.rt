@@ -3,16 +3,12 @@ ghost use Rattle.std.specs.Prelude.{◌≡◌, ◌==◌, IfOk, position};
 ghost use Rattle.yv_values.specs.Scopes.{text_value, place_of, truth_of, identity_in_scope};
 ghost use Rattle.yv_values.specs.Types.{plain_of};
 
-use crate::binary::binary_in;
-use crate::bits::bits_in;
-use crate::decimal::decimal_in;
 use crate::identity::{colon, identity_in};
 use crate::members::Members;
-use crate::name::name_in;
 use crate::plain::PlainType;
 use crate::scope::{Scope, module_of};
-use crate::text::text_in;
 use crate::value::Value;
+use crate::value_check::string_in;
 use crate::whole::whole_among;
 use std::alloc::{AllocError, Global};
 use yv_base_numbers::based_integer_of;
@@ -45,14 +41,10 @@ pub fn read_text_with<'t>(
 {
     match plain {
         PlainType::Whole(whole) => Ok(whole_among(whole, based_integer_of(text.as_bytes()))),
-        PlainType::Decimal(decimal) => Ok(decimal_in(decimal, text.as_bytes())),
-        PlainType::Text(plain) => text_in(alloc, matchers, plain, text),
         PlainType::Boolean => Ok(truth_of(text)),
-        PlainType::Enumeration(names) => name_in(names, text),
-        PlainType::Bits(names) => bits_in(alloc, names, text),
-        PlainType::Binary(lengths) => binary_in(alloc, lengths, text),
         PlainType::Identity(members) => identity_in_scope(alloc, members, scope, text.as_bytes()),
-        PlainType::Empty => Ok(None),
+        // The others read it as they read a text of JSON, whose module none of them asks for.
+        _ => string_in(alloc, matchers, plain, "", text),
     }
 }
 

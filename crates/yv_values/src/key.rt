@@ -14,6 +14,7 @@ use crate::value::Atom;
 use std::alloc::{AllocError, Global};
 use std::cmp::Ordering;
 use std::mem::replace;
+use yv_base_numbers::Integer;
 
 /// The values of a key, in a row. One takes no memory of its own, since most keys are of one leaf.
 /// Keys are compared by their values alone, however these are kept.
@@ -88,8 +89,15 @@ impl Ord for Key {
 
     ghost matches_eq = { λ x y. lists_ties cmp-value.it matches_eq-law (atoms_of x) (atoms_of y) };
 
+    // Numbers and texts, of which most keys are, are compared at once: a search of an index compares
+    // many.
     fn cmp(&self, other: &Key) -> Ordering {
         match (self, other) {
+            (
+                Key::One(Atom::Whole(Integer::Natural(one))),
+                Key::One(Atom::Whole(Integer::Natural(another))),
+            ) => one.cmp(another),
+            (Key::One(Atom::Text(one)), Key::One(Atom::Text(another))) => one.cmp(another),
             (Key::One(one), Key::One(another)) => one.cmp(another),
             _ => compare(self.as_slice(), other.as_slice()),
         }

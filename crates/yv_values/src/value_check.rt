@@ -128,7 +128,8 @@ fn string_of<'t>(
     }
 }
 
-fn string_in<'t>(
+/// The value of a text by a type that JSON writes as texts.
+pub(crate) fn string_in<'t>(
     alloc: Global,
     matchers: &mut Matchers<'t>,
     plain: &'t PlainType,
