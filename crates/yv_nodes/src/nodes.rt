@@ -138,6 +138,7 @@ impl Nodes {
             ≡ node.label.defined
             → OnOk result (self.new.rows ≡ self.old.rows ++ node ∷ []) }
         ensures count { OnOk result (length self.new.rows ≡ length self.old.rows + 1) }
+        ensures keeps { OnErr result (self.new.rows ≡ self.old.rows) }
         ensures limit { self.new.limit ≡ self.old.limit }
     {
         let first = self.firsts[earlier.0 as usize];
