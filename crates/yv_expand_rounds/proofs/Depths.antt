@@ -3,7 +3,7 @@
 use Rattle.std.proofs.Common.{◌≡◌, ℕ, ◌+◌, ◌≤◌, List, [], ◌∷◌, ◌++◌, length, reverse, sym, ◌∙◌, ap, subst, arith, length-append, Option, Some, None}
 use Rattle.std.proofs.lemmas.List.{reverse-append}
 use Rattle.yv_expand_rounds.specs.declared.row.ItemRow.{ItemRow}
-use Rattle.yv_expand_rounds.specs.InnerTreeList.{row, under}
+use Rattle.yv_expand_rounds.specs.InnerTreeList.{under}
 
 -- no row is deeper than this
 pub data NoDeeper (n : ℕ) : List ItemRow → Type 0 where

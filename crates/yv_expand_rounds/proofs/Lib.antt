@@ -1,3 +1,4 @@
+pub mod FirstNodeLemmas
 pub mod Least
 pub mod Grouped
 pub mod Empty

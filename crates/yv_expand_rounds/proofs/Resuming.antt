@@ -1,10 +1,10 @@
 -- How rounds go on, where the paths of augments that wait are followed on from where they were
 -- left.
-use Rattle.std.proofs.Common.{inl, inr, ◌≡◌, ◌≢◌, ◌⊎◌, ℕ, zero, suc, ◌+◌, ◌≤◌, ◌<◌, Bool, true, false, ◌||◌, if◌then◌else◌, List, [], ◌∷◌, ◌++◌, drop, get_or, set, replicate, length, refl, sym, ◌∙◌, ap, subst, arith, Option, Some, None}
+use Rattle.std.proofs.Common.{inl, inr, ◌≡◌, ◌≢◌, ◌⊎◌, ℕ, suc, ◌+◌, ◌≤◌, ◌<◌, Bool, true, false, ◌||◌, if◌then◌else◌, List, [], ◌++◌, drop, set, replicate, length, refl, sym, ◌∙◌, ap, subst, arith, Option, Some, None}
 use Rattle.std.specs.List.{slice_get}
 use Rattle.std.proofs.lemmas.Bool.{cases_eq, cases_lt}
 use Rattle.std.proofs.lemmas.List.{drop_all, get_or_past, get_or-set_other, get_or-set_same}
-use Rattle.std.proofs.lemmas.Option.{none-some, same_Some}
+use Rattle.std.proofs.lemmas.Option.{same_Some}
 use Rattle.yv_expand_rounds.specs.declared.label.Label.{Label}
 use Rattle.yv_expand_rounds.specs.declared.end.End.{End}
 use Rattle.yv_expand_rounds.specs.declared.end.End.TheVariants as end
@@ -14,14 +14,13 @@ use Rattle.yv_expand_rounds.specs.declared.augmentation.Augmentation.{Augmentati
 use Rattle.yv_expand_rounds.specs.Groups.{Groups, group_of_augment, members_of, move_items}
 use Rattle.yv_expand_rounds.specs.Turns.{State, give, is_applied, resolve, settle, target}
 use Rattle.yv_expand_rounds.specs.Rounds.{round, rounds, is_any, AreApplied}
-use Rattle.yv_expand_rounds.specs.InnerGroups.{IsOneOf}
-use Rattle.yv_expand_rounds.specs.InnerHiddenNodes.{Grow, IsClosed, IsCovered, Updates, is_hidden}
+use Rattle.yv_expand_rounds.specs.InnerHiddenNodes.{IsClosed, Updates, is_hidden}
 use Rattle.yv_expand_rounds.specs.InnerState.{IsAugmentation}
 use Rattle.yv_expand_rounds.specs.InnerPendingPaths.{AreWaiting, IsTrail, KeepFirst, StillLead}
 use Rattle.yv_expand_rounds.proofs.Grouped.{set_at}
 use Rattle.yv_expand_rounds.proofs.Going.{Going, turned, takes, going_none, going_more, going_all, one_more, idle_round}
 use Rattle.yv_expand_rounds.proofs.Following.{Displaces, trail_kept}
-use Rattle.yv_expand_rounds.proofs.Hiding.{covered_grows, none_closed}
+use Rattle.yv_expand_rounds.proofs.Hiding.{none_closed}
 use Rattle.yv_expand_rounds.proofs.Parents.{get_front}
 use Rattle.yv_expand_rounds.proofs.Targets.{target_is}
 

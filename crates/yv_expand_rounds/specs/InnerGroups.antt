@@ -1,10 +1,10 @@
 -- Inner definitions, which only private clauses cite: groups with the first node of each name.
-use Rattle.std.specs.Prelude.{◌≡◌, ◌⊎◌, ℕ, ◌<◌, ◌==◌, ◌+◌, Bool, true, List, length, if◌then◌else◌, Option, Some, None, slice_get}
-use Rattle.std.specs.Ordering.{is_lt, nat_cmp}
-use Rattle.std.specs.BTreeMap.{get}
+use Rattle.std.specs.Prelude.{◌≡◌, ◌⊎◌, ℕ, ◌<◌, ◌==◌, ◌+◌, true, List, length, if◌then◌else◌, Option, Some, None, slice_get}
+use Rattle.std.specs.Ordering.{is_lt}
 use Rattle.yv_expand_rounds.specs.declared.label.Label.{Label}
 use Rattle.yv_expand_rounds.specs.declared.group.Group.{Group}
 use Rattle.yv_expand_rounds.specs.declared.places.ItemPlaces.{ItemPlaces}
+use Rattle.yv_expand_rounds.specs.InnerFirstNodes.{node_of}
 use Rattle.yv_expand_rounds.specs.Labels.{is_named}
 use Rattle.yv_expand_rounds.specs.Groups.{Groups, members_of}
 use Rattle.yv_expand_rounds.specs.Order.{sibling_cmp}
@@ -12,7 +12,7 @@ use Rattle.yv_expand_rounds.specs.Paths.{first_named}
 
 -- the first node of a name
 abbrev pub first_in : Group → ℕ → Option ℕ
-first_in group name = get nat_cmp group.names name
+first_in group name = node_of group.names name
 
 -- the one that is kept, if an item comes before it
 abbrev pub displaced_item : List Label → Option ℕ → ℕ → Option ℕ

@@ -9,7 +9,7 @@ use Rattle.yv_expand_rounds.specs.declared.rounds.WaitingAugment.{WaitingAugment
 use Rattle.yv_expand_rounds.specs.Groups.{Groups, members_of}
 use Rattle.yv_expand_rounds.specs.Paths.{first_named, path_end}
 use Rattle.yv_expand_rounds.specs.InnerGroups.{IsOneOf}
-use Rattle.yv_expand_rounds.specs.InnerHiddenNodes.{Grow, IsClosed, is_hidden_at}
+use Rattle.yv_expand_rounds.specs.InnerHiddenNodes.{IsClosed, is_hidden_at}
 
 -- where a path from the top has come whose first steps lead there
 abbrev pub last_end : List End → End

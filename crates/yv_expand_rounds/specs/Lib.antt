@@ -8,6 +8,7 @@ pub mod Placements
 pub mod Tree
 pub mod MissingTargets
 pub mod Arrivals
+pub mod InnerFirstNodes
 pub mod InnerGroups
 pub mod InnerState
 pub mod InnerTreeList

@@ -3,16 +3,16 @@ ghost use Rattle.std.specs.Prelude.{◌≡◌, ◌<◌, ◌≤◌, ℕ, ◌++◌
 ghost use Rattle.yv_expand_rounds.specs.declared.label.Label.{Label};
 ghost use Rattle.yv_expand_rounds.specs.InnerGroups.{HaveBefore, IsBelowLast, IsGroup, Keep, KeepBut, displaced_item, earlier, first_in, keep_first, note_item};
 
+use crate::first_nodes::FirstNodes;
 use crate::label::Label;
 use crate::order::comes_before;
 use std::alloc::{AllocError, Global};
-use std::collections::BTreeMap;
 
 /// The numbers of the items in one place, and for each name the first node in order.
 #[derive(Drop)]
 pub(crate) struct Group {
     pub members: Vec<usize>,
-    pub names: BTreeMap<usize, usize>,
+    pub names: FirstNodes,
     // Whether each member is less than those before it: so it is where no augment gave one.
     pub descending: bool,
 }
@@ -50,7 +50,7 @@ impl Group {
     {
         Group {
             members: Vec::new(alloc),
-            names: BTreeMap::new(alloc),
+            names: FirstNodes::new(alloc),
             descending: true,
         }
     }
@@ -59,7 +59,7 @@ impl Group {
     pub(crate) fn first(&self, name: usize) -> Option<usize>
         ensures { result ≡ first_in self.now name }
     {
-        self.names.get(&name).copied()
+        self.names.get(name)
     }
 
     // Keeps an item for its name where none is yet, or one that comes later. Answers that one,
@@ -80,7 +80,7 @@ impl Group {
         ensures descends { self.new.descending ≡ self.old.descending }
     {
         let first = self.first(name);
-        self.names.insert(name, earlier(labels, first, item))?;
+        self.names.set(name, earlier(labels, first, item))?;
         Ok(displaced_item(labels, first, item))
     }
 

@@ -12,6 +12,7 @@
 mod arrivals;
 mod augmentation;
 mod end;
+mod first_nodes;
 mod group;
 mod hidden_nodes;
 mod label;

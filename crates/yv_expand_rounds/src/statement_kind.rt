@@ -30,45 +30,36 @@ impl StatementKind {
     pub(crate) fn is_node(self) -> bool
         ensures { result ≡ is_node self }
     {
-        match self {
-            StatementKind::Uses => false,
-            _ => true,
-        }
+        !matches!(self, StatementKind::Uses)
     }
 
     /// Whether it is a choice.
     pub(crate) fn is_choice(self) -> bool
         ensures { result ≡ is_choice self }
     {
-        match self {
-            StatementKind::Choice => true,
-            _ => false,
-        }
+        matches!(self, StatementKind::Choice)
     }
 
     /// Whether it is a case.
     pub(crate) fn is_case(self) -> bool
         ensures { result ≡ is_case self }
     {
-        match self {
-            StatementKind::Case => true,
-            _ => false,
-        }
+        matches!(self, StatementKind::Case)
     }
 
     /// Whether an augment may add nodes to it.
     pub(crate) fn may_be_target(self) -> bool
         ensures { result ≡ may_be_target self }
     {
-        match self {
+        matches!(
+            self,
             StatementKind::Container
-            | StatementKind::List
-            | StatementKind::Choice
-            | StatementKind::Case
-            | StatementKind::Input
-            | StatementKind::Output
-            | StatementKind::Notification => true,
-            _ => false,
-        }
+                | StatementKind::List
+                | StatementKind::Choice
+                | StatementKind::Case
+                | StatementKind::Input
+                | StatementKind::Output
+                | StatementKind::Notification
+        )
     }
 }

@@ -4,48 +4,74 @@ ghost use Rattle.yv_link_scopes.specs.Files.{Files};
 ghost use Rattle.yv_link_scopes.specs.Views.{lent_in};
 ghost use Rattle.yv_node_paths.specs.InnerPrefixes.{IsPrefixTable};
 ghost use Rattle.yv_node_paths.specs.InnerFirstWord.{name_in, path_in};
+ghost use Rattle.yv_node_paths.specs.Steps.{names_of, paths_of};
 
 use crate::first_word::cut;
-use crate::pieces::read_pieces;
-use crate::referral::{LeafrefPath, read_referral};
-use crate::steps::{read_path, read_step};
+use crate::referral::LeafrefPath;
+use crate::steps::PathReader;
 use std::alloc::{AllocError, Global};
 use yv_link_scopes::{PrefixTable, Rows};
 use yv_node_definition::{PathPiece, PathStep};
 
-// Adds the path that a text without blanks is. An empty one is none.
-fn push_path<'a>(
-    alloc: Global,
-    module_files: &PrefixTable<'a>,
-    file: usize,
-    paths: &mut Vec<Vec<Option<PathStep>>>,
-    piece: &'a str,
-) -> Result<(), AllocError>
-    ensures { (files : Files) → IsPrefixTable files module_files.now
-        → OnOk result (map (λ path. path.items) paths.new.items
-        ≡ map (λ path. path.items) paths.old.items ++ path_in files file piece.now) }
-{
-    if !piece.is_empty() {
-        paths.push(read_path(alloc, module_files, file, piece)?)?;
+impl<'a> PathReader<'_, 'a> {
+    // Adds the path that a text without blanks is. An empty one is none.
+    fn push_path(
+        &self,
+        paths: &mut Vec<Vec<Option<PathStep>>>,
+        piece: &'a str,
+    ) -> Result<(), AllocError>
+        ensures { (files : Files) → IsPrefixTable files self.now.module_files.now
+            → OnOk result (map (λ path. path.items) paths.new.items
+            ≡ map (λ path. path.items) paths.old.items ++ path_in files self.now.file piece.now) }
+    {
+        if !piece.is_empty() {
+            paths.push(self.path(piece)?)?;
+        }
+        Ok(())
     }
-    Ok(())
-}
 
-// Adds the name that a text without blanks is. An empty one is none.
-fn push_name<'a>(
-    alloc: Global,
-    module_files: &PrefixTable<'a>,
-    file: usize,
-    names: &mut Vec<Option<PathStep>>,
-    piece: &'a str,
-) -> Result<(), AllocError>
-    ensures { (files : Files) → IsPrefixTable files module_files.now
-        → OnOk result (names.new.items ≡ names.old.items ++ name_in files file piece.now) }
-{
-    if !piece.is_empty() {
-        names.push(read_step(alloc, module_files, file, piece)?)?;
+    // Adds the name that a text without blanks is. An empty one is none.
+    fn push_name(&self, names: &mut Vec<Option<PathStep>>, piece: &'a str) -> Result<(), AllocError>
+        ensures { (files : Files) → IsPrefixTable files self.now.module_files.now
+            → OnOk result
+            (names.new.items ≡ names.old.items ++ name_in files self.now.file piece.now) }
+    {
+        if !piece.is_empty() {
+            names.push(self.step(piece)?)?;
+        }
+        Ok(())
     }
-    Ok(())
+
+    // The paths in a text with blanks between.
+    fn paths(&self, text: &'a str) -> Result<Vec<Vec<Option<PathStep>>>, AllocError>
+        ensures { (files : Files) → IsPrefixTable files self.now.module_files.now
+            → IfOk result (λ paths. map (λ path. path.items) paths.items
+            ≡ paths_of files self.now.file text.now) }
+    {
+        let mut paths = Vec::new(self.alloc);
+        let mut rest = text;
+        while let Some((word, behind)) = cut(rest) {
+            self.push_path(&mut paths, word)?;
+            rest = behind;
+        }
+        self.push_path(&mut paths, rest)?;
+        Ok(paths)
+    }
+
+    // The names in a text with blanks between, each as the one step of a path.
+    fn names(&self, text: &'a str) -> Result<Vec<Option<PathStep>>, AllocError>
+        ensures { (files : Files) → IsPrefixTable files self.now.module_files.now
+            → IfOk result (λ names. names.items ≡ names_of files self.now.file text.now) }
+    {
+        let mut names = Vec::new(self.alloc);
+        let mut rest = text;
+        while let Some((word, behind)) = cut(rest) {
+            self.push_name(&mut names, word)?;
+            rest = behind;
+        }
+        self.push_name(&mut names, rest)?;
+        Ok(names)
+    }
 }
 
 /// Reads the paths of arguments: which modules the prefixes in files identify is found once for all
@@ -58,7 +84,6 @@ pub struct LeafPaths<'a> {
 impl<'a> LeafPaths<'a> {
     ghost use Rattle.yv_node_paths.specs.LeafPaths.{AreLeafPaths};
     ghost use Rattle.yv_node_paths.specs.Referral.{climbs_of, pieces_of, steps_in};
-    ghost use Rattle.yv_node_paths.specs.Steps.{names_of, paths_of};
 
     /// The prefixes that files declare, in time n log n and memory linear in the text. Err only if
     /// memory runs out.
@@ -67,6 +92,18 @@ impl<'a> LeafPaths<'a> {
     {
         let module_files = PrefixTable::read(alloc, rows)?;
         Ok(LeafPaths { module_files })
+    }
+
+    // What reads the paths in a file.
+    fn reader(&self, alloc: Global, file: usize) -> PathReader<'_, 'a>
+        ensures table { result.module_files.now ≡ self.now.module_files }
+        ensures file { result.file ≡ file }
+    {
+        PathReader {
+            alloc,
+            module_files: &self.module_files,
+            file,
+        }
     }
 
     /// The paths that the argument of a `unique` statement in a file has, with blanks between (RFC
@@ -82,14 +119,7 @@ impl<'a> LeafPaths<'a> {
             → IfOk result
             (λ paths. map (λ path. path.items) paths.items ≡ paths_of files file text.now) }
     {
-        let mut paths = Vec::new(alloc);
-        let mut rest = text;
-        while let Some((word, behind)) = cut(rest) {
-            push_path(alloc, &self.module_files, file, &mut paths, word)?;
-            rest = behind;
-        }
-        push_path(alloc, &self.module_files, file, &mut paths, rest)?;
-        Ok(paths)
+        self.reader(alloc, file).paths(text)
     }
 
     /// The names that the argument of a `key` statement in a file has, with blanks between, each as
@@ -104,14 +134,7 @@ impl<'a> LeafPaths<'a> {
         ensures { (files : Files) → AreLeafPaths files self.now
             → IfOk result (λ names. names.items ≡ names_of files file text.now) }
     {
-        let mut names = Vec::new(alloc);
-        let mut rest = text;
-        while let Some((word, behind)) = cut(rest) {
-            push_name(alloc, &self.module_files, file, &mut names, word)?;
-            rest = behind;
-        }
-        push_name(alloc, &self.module_files, file, &mut names, rest)?;
-        Ok(names)
+        self.reader(alloc, file).names(text)
     }
 
     /// The path that the argument of a `path` statement in a file is, in time and memory linear in
@@ -127,7 +150,7 @@ impl<'a> LeafPaths<'a> {
         ensures steps { (files : Files) → AreLeafPaths files self.now
             → IfOk result (λ path. path.steps.items ≡ steps_in files file text.now) }
     {
-        read_referral(alloc, &self.module_files, file, text)
+        self.reader(alloc, file).referral(text)
     }
 
     /// The pieces of the path that the argument of a `path` statement in a file is, as it is
@@ -142,6 +165,6 @@ impl<'a> LeafPaths<'a> {
         ensures { (files : Files) → AreLeafPaths files self.now
             → IfOk result (λ pieces. pieces.items ≡ pieces_of files file text.now) }
     {
-        read_pieces(alloc, &self.module_files, file, text)
+        self.reader(alloc, file).pieces(text)
     }
 }

@@ -6,9 +6,8 @@ ghost use Rattle.yv_node_paths.specs.InnerPrefixes.{IsPrefixTable};
 ghost use Rattle.yv_node_paths.specs.Referral.{climbs_of, is_absolute, is_up, names_behind, steps_in, ups_of};
 ghost use Rattle.yv_node_paths.specs.Steps.{path_of, step_of};
 
-use crate::steps::{read_path, read_steps, texts_of};
-use std::alloc::{AllocError, Global};
-use yv_link_scopes::PrefixTable;
+use crate::steps::{PathReader, texts_of};
+use std::alloc::AllocError;
 use yv_node_definition::PathStep;
 
 /// The path of a leafref (RFC 7950, section 9.9.2).
@@ -36,57 +35,44 @@ fn ups(texts: &[&str]) -> usize
     texts.iter().take_while(|text| **text == "..").count()
 }
 
-// The absolute path with these names.
-fn absolute<'a>(
-    alloc: Global,
-    module_files: &PrefixTable<'a>,
-    file: usize,
-    names: &'a str,
-) -> Result<LeafrefPath, AllocError>
-    ensures climbs { IfOk result (λ path. path.climbs ≡ None) }
-    ensures steps { (files : Files) → IsPrefixTable files module_files.now
-        → IfOk result (λ path. path.steps.items ≡ path_of files file names.now) }
-{
-    Ok(LeafrefPath {
-        climbs: None,
-        steps: read_path(alloc, module_files, file, names)?,
-    })
-}
+impl<'a> PathReader<'_, 'a> {
+    // The absolute path with these names.
+    fn absolute(&self, names: &'a str) -> Result<LeafrefPath, AllocError>
+        ensures climbs { IfOk result (λ path. path.climbs ≡ None) }
+        ensures steps { (files : Files) → IsPrefixTable files self.now.module_files.now
+            → IfOk result (λ path. path.steps.items ≡ path_of files self.now.file names.now) }
+    {
+        Ok(LeafrefPath {
+            climbs: None,
+            steps: self.path(names)?,
+        })
+    }
 
-// The relative path that is written so.
-fn relative<'a>(
-    alloc: Global,
-    module_files: &PrefixTable<'a>,
-    file: usize,
-    text: &'a str,
-) -> Result<LeafrefPath, AllocError>
-    ensures climbs { IfOk result (λ path. path.climbs ≡ Some (ups_of text.now)) }
-    ensures steps { (files : Files) → IsPrefixTable files module_files.now
-        → IfOk result
-        (λ path. path.steps.items ≡ map (step_of files file) (names_behind text.now)) }
-{
-    let texts = texts_of(alloc, text)?;
-    let ups = ups(&texts);
-    let steps = read_steps(alloc, module_files, file, &texts[ups..])?;
-    Ok(LeafrefPath {
-        climbs: Some(ups),
-        steps,
-    })
-}
+    // The relative path that is written so.
+    fn relative(&self, text: &'a str) -> Result<LeafrefPath, AllocError>
+        ensures climbs { IfOk result (λ path. path.climbs ≡ Some (ups_of text.now)) }
+        ensures steps { (files : Files) → IsPrefixTable files self.now.module_files.now
+            → IfOk result
+            (λ path. path.steps.items ≡ map (step_of files self.now.file) (names_behind text.now)) }
+    {
+        let texts = texts_of(self.alloc, text)?;
+        let ups = ups(&texts);
+        let steps = self.steps(&texts[ups..])?;
+        Ok(LeafrefPath {
+            climbs: Some(ups),
+            steps,
+        })
+    }
 
-/// The path of a leafref in a file that is written so.
-pub(crate) fn read_referral<'a>(
-    alloc: Global,
-    module_files: &PrefixTable<'a>,
-    file: usize,
-    text: &'a str,
-) -> Result<LeafrefPath, AllocError>
-    ensures climbs { IfOk result (λ path. path.climbs ≡ climbs_of text.now) }
-    ensures steps { (files : Files) → IsPrefixTable files module_files.now
-        → IfOk result (λ path. path.steps.items ≡ steps_in files file text.now) }
-{
-    match behind_root(text) {
-        Some(names) => absolute(alloc, module_files, file, names),
-        None => relative(alloc, module_files, file, text),
+    /// The path of a leafref that is written so.
+    pub(crate) fn referral(&self, text: &'a str) -> Result<LeafrefPath, AllocError>
+        ensures climbs { IfOk result (λ path. path.climbs ≡ climbs_of text.now) }
+        ensures steps { (files : Files) → IsPrefixTable files self.now.module_files.now
+            → IfOk result (λ path. path.steps.items ≡ steps_in files self.now.file text.now) }
+    {
+        match behind_root(text) {
+            Some(names) => self.absolute(names),
+            None => self.relative(text),
+        }
     }
 }

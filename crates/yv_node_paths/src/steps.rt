@@ -40,23 +40,6 @@ fn step_in(
     }
 }
 
-/// The step of a path in a file that is written so.
-pub(crate) fn read_step<'a>(
-    alloc: Global,
-    module_files: &PrefixTable<'a>,
-    file: usize,
-    text: &'a str,
-) -> Result<Option<PathStep>, AllocError>
-    ensures { (files : Files) → IsPrefixTable files module_files.now
-        → IfOk result (λ step. step ≡ step_of files file text.now) }
-{
-    let name = local(text);
-    match prefix_of(text) {
-        Some(prefix) => step_in(alloc, module_files.get(file, prefix), name),
-        None => Ok(Some(bare_step(alloc, name)?)),
-    }
-}
-
 /// The text of each step of a path.
 pub(crate) fn texts_of(alloc: Global, text: &str) -> Result<Vec<&str>, AllocError>
     ensures { IfOk result (λ texts. map (λ t. t.now) texts.items ≡ texts_of text.now) }
@@ -64,34 +47,45 @@ pub(crate) fn texts_of(alloc: Global, text: &str) -> Result<Vec<&str>, AllocErro
     text.split('/').collect(alloc)
 }
 
-/// The steps of a path in a file that are written so.
-pub(crate) fn read_steps<'a>(
-    alloc: Global,
-    module_files: &PrefixTable<'a>,
-    file: usize,
-    texts: &[&'a str],
-) -> Result<Vec<Option<PathStep>>, AllocError>
-    ensures { (files : Files) → IsPrefixTable files module_files.now
-        → IfOk result
-        (λ steps. steps.items ≡ map (step_of files file) (map (λ t. t.now) texts.now)) }
-{
-    let mut steps = Vec::new(alloc);
-    for text in texts {
-        steps.push(read_step(alloc, module_files, file, text)?)?;
-    }
-    Ok(steps)
+/// Reads paths as they are written in a file.
+#[derive(Clone, Copy)]
+pub(crate) struct PathReader<'p, 'a> {
+    pub(crate) alloc: Global,
+    pub(crate) module_files: &'p PrefixTable<'a>,
+    pub(crate) file: usize,
 }
 
-/// The path in a file that is written so.
-pub(crate) fn read_path<'a>(
-    alloc: Global,
-    module_files: &PrefixTable<'a>,
-    file: usize,
-    text: &'a str,
-) -> Result<Vec<Option<PathStep>>, AllocError>
-    ensures { (files : Files) → IsPrefixTable files module_files.now
-        → IfOk result (λ path. path.items ≡ path_of files file text.now) }
-{
-    let texts = texts_of(alloc, text)?;
-    read_steps(alloc, module_files, file, &texts)
+impl<'a> PathReader<'_, 'a> {
+    /// The step that is written so.
+    pub(crate) fn step(&self, text: &'a str) -> Result<Option<PathStep>, AllocError>
+        ensures { (files : Files) → IsPrefixTable files self.now.module_files.now
+            → IfOk result (λ step. step ≡ step_of files self.now.file text.now) }
+    {
+        let name = local(text);
+        match prefix_of(text) {
+            Some(prefix) => step_in(self.alloc, self.module_files.get(self.file, prefix), name),
+            None => Ok(Some(bare_step(self.alloc, name)?)),
+        }
+    }
+
+    /// The steps that are written so.
+    pub(crate) fn steps(&self, texts: &[&'a str]) -> Result<Vec<Option<PathStep>>, AllocError>
+        ensures { (files : Files) → IsPrefixTable files self.now.module_files.now
+            → IfOk result
+            (λ steps. steps.items ≡ map (step_of files self.now.file) (map (λ t. t.now) texts.now)) }
+    {
+        let mut steps = Vec::new(self.alloc);
+        for text in texts {
+            steps.push(self.step(text)?)?;
+        }
+        Ok(steps)
+    }
+
+    /// The path that is written so.
+    pub(crate) fn path(&self, text: &'a str) -> Result<Vec<Option<PathStep>>, AllocError>
+        ensures { (files : Files) → IsPrefixTable files self.now.module_files.now
+            → IfOk result (λ path. path.items ≡ path_of files self.now.file text.now) }
+    {
+        self.steps(&texts_of(self.alloc, text)?)
+    }
 }

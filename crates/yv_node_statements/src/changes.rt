@@ -5,14 +5,14 @@ ghost use Rattle.std.specs.Rc.{rc_slice_items};
 ghost use Rattle.yv_statement.specs.declared.keyword.Keyword.TheVariants as word;
 ghost use Rattle.yv_node_definition.specs.Definition.{written_of};
 ghost use Rattle.yv_node_statements.specs.InnerChanges.{change_of, apply_change, defaults_among};
-ghost use Rattle.yv_node_properties.specs.Properties.{defaults_of, elements_of, is_true, least_of, substatements_of, written_in};
+ghost use Rattle.yv_node_properties.specs.Properties.{defaults_of, elements_of, substatements_of, written_in};
 
 use crate::nothing::Nothing;
 use std::alloc::{AllocError, Global};
 use std::marker::Model;
 use std::rc::{RcSlice, RcStr};
 use yv_node_definition::{DefinitionDraft, WrittenText};
-use yv_node_properties::{elements, first_of, has, is_of, name_of};
+use yv_node_properties::{StatedProperties, elements, first_of, is_of, name_of};
 use yv_statement::Statement;
 use yv_text_grammar::Keyword;
 
@@ -20,10 +20,7 @@ use yv_text_grammar::Keyword;
 /// statement says it, and its defaults (RFC 7950, section 7.13.2).
 #[derive(Drop)]
 pub(crate) struct Changes {
-    pub(crate) config: Option<bool>,
-    pub(crate) mandatory: Option<bool>,
-    pub(crate) presence: bool,
-    pub(crate) min: Option<u32>,
+    pub(crate) stated: StatedProperties,
     // None within it is `unbounded`.
     pub(crate) max: Option<Option<u32>>,
     // Nothing where it gives none.
@@ -40,10 +37,10 @@ impl Model for Changes {
 
     ghost view = { λ c. record {
       properties = record {
-        config = c.config;
-        mandatory = c.mandatory;
-        presence = c.presence;
-        min = c.min;
+        config = c.stated.config;
+        mandatory = c.stated.mandatory;
+        presence = c.stated.presence;
+        min = c.stated.min;
         max = c.max;
       };
       defaults = map written_of (rc_slice_items c.defaults);
@@ -61,10 +58,7 @@ impl Changes {
         ensures { IfOk result (λ changes. changes ≡ change_of file statement.now) }
     {
         Ok(Changes {
-            config: truth_in(Keyword::Config, statement),
-            mandatory: truth_in(Keyword::Mandatory, statement),
-            presence: has(Keyword::Presence, statement),
-            min: least_in(statement),
+            stated: StatedProperties::read(statement),
             max: most_in(statement),
             defaults: defaults_in(alloc, nothing, file, statement)?,
         })
@@ -74,37 +68,15 @@ impl Changes {
     pub(crate) fn change(&self, definition: &mut DefinitionDraft) -> Result<(), AllocError>
         ensures { OnOk result (definition.new ≡ apply_change self.now definition.old) }
     {
-        definition.stated_config = self.config.or(definition.stated_config);
-        definition.is_mandatory = self.mandatory.unwrap_or(definition.is_mandatory);
-        definition.has_presence = self.presence || definition.has_presence;
-        definition.min = self.min.unwrap_or(definition.min);
+        definition.stated_config = self.stated.config.or(definition.stated_config);
+        definition.is_mandatory = self.stated.mandatory.unwrap_or(definition.is_mandatory);
+        definition.has_presence = self.stated.presence || definition.has_presence;
+        definition.min = self.stated.min.unwrap_or(definition.min);
         definition.max = self.max.unwrap_or(definition.max);
         if !self.defaults.is_empty() {
             definition.own_defaults = self.defaults.clone()?;
         }
         Ok(())
-    }
-}
-
-// What the first substatement of this keyword says, if there is one: true, or anything else.
-fn truth_in(keyword: Keyword, statement: &Statement<'_>) -> Option<bool>
-    ensures { (file : ℕ) → result
-        ≡ option_map is_true (substatements_of file statement.now keyword) }
-{
-    match first_of(keyword, statement) {
-        Some(found) => Some(name_of(found) == "true"),
-        None => None,
-    }
-}
-
-// The least number of entries, where that is said.
-fn least_in(statement: &Statement<'_>) -> Option<u32>
-    ensures { (file : ℕ) → result
-        ≡ option_map least_of (substatements_of file statement.now word.MinElements) }
-{
-    match first_of(Keyword::MinElements, statement) {
-        Some(found) => Some(elements(name_of(found)).unwrap_or(0)),
-        None => None,
     }
 }
 

@@ -1,4 +1,4 @@
-use Rattle.std.proofs.Common.{◌≡◌, ◌≤◌, ℕ, List, [], ◌∷◌, ◌++◌, take, Option, Some, None, append-nil, inl, ap, length, subst, sym, ◌∙◌, arith}
+use Rattle.std.proofs.Common.{◌≤◌, ℕ, List, ◌++◌, take, Option, append-nil, inl, ap, length, subst, sym, ◌∙◌, arith}
 use Rattle.std.proofs.lemmas.List.{take_all}
 use Rattle.yv_expand_rounds.specs.InnerGroups.{IsGroup, Keep, KeepBut, first_in}
 use Rattle.yv_expand_rounds.proofs.Grouped.{joined_more}

@@ -2,8 +2,8 @@ use Rattle.std.proofs.Common.{◌≡◌, map, take}
 use Rattle.yv_link_scopes.specs.Files.{Files}
 use Rattle.yv_node_paths.specs.Referral.{piece_of}
 use Rattle.yv_node_paths.specs.InnerPrefixes.{IsPrefixTable}
-use Rattle.yv_node_paths.proofs.pieces.read_each.Given as goal
+use Rattle.yv_node_paths.proofs.steps.PathReader.pieces_in.Given as goal
 
 abbrev pub invariant-loop-text : goal.invariant-loop-text
-invariant-loop-text l = (files : Files) → IsPrefixTable files l.module_files
-    → map (piece_of files l.file) (take l.text-index (map (λ w. w.now) l.texts)) ≡ l.pieces.items
+invariant-loop-text l = (files : Files) → IsPrefixTable files l.self.module_files.now
+    → map (piece_of files l.self.file) (take l.text-index (map (λ w. w.now) l.texts)) ≡ l.pieces.items
