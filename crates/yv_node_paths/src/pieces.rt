@@ -35,7 +35,8 @@ impl<'a> PathReader<'_, 'a> {
     fn pieces_in(&self, texts: &[&'a str]) -> Result<Vec<PathPiece>, AllocError>
         ensures { (files : Files) → IsPrefixTable files self.now.module_files.now
             → IfOk result
-            (λ pieces. pieces.items ≡ map (piece_of files self.now.file) (map (λ t. t.now) texts.now)) }
+            (λ pieces. pieces.items
+            ≡ map (piece_of files self.now.file) (map (λ t. t.now) texts.now)) }
     {
         let mut pieces = Vec::new(self.alloc);
         for text in texts {

@@ -72,7 +72,8 @@ impl<'a> PathReader<'_, 'a> {
     pub(crate) fn steps(&self, texts: &[&'a str]) -> Result<Vec<Option<PathStep>>, AllocError>
         ensures { (files : Files) → IsPrefixTable files self.now.module_files.now
             → IfOk result
-            (λ steps. steps.items ≡ map (step_of files self.now.file) (map (λ t. t.now) texts.now)) }
+            (λ steps. steps.items
+            ≡ map (step_of files self.now.file) (map (λ t. t.now) texts.now)) }
     {
         let mut steps = Vec::new(self.alloc);
         for text in texts {

@@ -89,8 +89,8 @@ impl Ord for Key {
 
     ghost matches_eq = { λ x y. lists_ties cmp-value.it matches_eq-law (atoms_of x) (atoms_of y) };
 
-    // Numbers and texts, of which most keys are, are compared at once: a search of an index compares
-    // many.
+    // Numbers and texts, of which most keys are, are compared at once: a search of an index
+    // compares many.
     fn cmp(&self, other: &Key) -> Ordering {
         match (self, other) {
             (
