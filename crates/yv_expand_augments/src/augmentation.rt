@@ -1,7 +1,9 @@
 //! Where items are once all augments are applied.
-ghost use Rattle.std.specs.Prelude.{◌≡◌, ◌≤◌, ◌<◌, ◌==◌, ◌+◌, ◌^◌, ◌&&◌, not, ℕ, List, length, map, None, replicate, set, slice_index_or, IfOk, OnOk};
+ghost use Rattle.std.specs.Prelude.{◌≡◌, ◌≤◌, ◌<◌, ◌==◌, ◌+◌, ◌^◌, ◌&&◌, not, ℕ, List, [], length, map, None, replicate, set, slice_index_or, IfOk, OnOk};
 ghost use Rattle.yv_statement.specs.Order.{IsLeast};
 ghost use Rattle.yv_statement.specs.declared.refusal.Code.TheVariants.{AugmentTarget};
+ghost use Rattle.yv_link_scopes.specs.Files.{Briefs};
+ghost use Rattle.yv_link_scopes.specs.Rows.{Row};
 ghost use Rattle.yv_link_scopes.specs.Views.{files_in, rows_in};
 ghost use Rattle.yv_expand.specs.Tree.{Item};
 ghost use Rattle.yv_expand_rounds.specs.declared.label.Label.{Label};
@@ -369,6 +371,25 @@ impl AugmentedItems {
     }
 }
 
+// No items, and no augments of modules. Nothing is asked of the statements then.
+fn nothing_augmented(alloc: Global) -> Result<AugmentedItems, AllocError>
+    ensures { (files : Briefs) (rows : List Row)
+        → IfOk result
+        (λ grafts. (st : State) × AreAugmentedItems (whole files rows [] 0) [] st grafts) }
+{
+    yv_expand_rounds::laws::each_item_stands_once();
+    let grafting = Augmentation::new(alloc, Vec::new(alloc), 0)?;
+    Ok(AugmentedItems {
+        spots: Vec::new(alloc),
+        missing: Vec::new(alloc),
+        refined: Refinements {
+            aims: Vec::new(alloc),
+            uses: Vec::new(alloc),
+        },
+        grafting,
+    })
+}
+
 /// Applies the augments of an expansion of files whose items these are: those of each uses, inner
 /// ones first, and then those of modules in rounds, whose statements are given by file and
 /// statement (RFC 7950, sections 7.13 and 7.17). Err if memory runs out, and where there are more
@@ -386,6 +407,9 @@ pub fn apply_augments(
 {
     yv_expand_rounds::laws::each_item_stands_once();
     yv_expand_rounds::laws::turns_keep_augments();
+    if items.is_empty() && augments.is_empty() {
+        return nothing_augmented(alloc);
+    }
     let plan = Plan::read(alloc, rows, augments, items)?;
     let layout = plan.lay(alloc, items)?;
     let ends = item_ends(alloc, items)?;
