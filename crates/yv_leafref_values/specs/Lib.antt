@@ -7,4 +7,5 @@ pub mod Findings
 pub mod InnerLocations
 pub mod InnerSteps
 pub mod InnerNames
+pub mod InnerNumbers
 pub mod InnerAnswers

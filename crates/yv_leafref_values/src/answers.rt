@@ -226,7 +226,7 @@ impl Answers<'_> {
     {
         let mut objects = Vec::new(self.alloc);
         for object in &self.positions {
-            objects.push(self.location(names, object.parent, object.node, object.item)?)?;
+            objects.push(self.location(names, object.parent, object.node, object.item())?)?;
         }
         Ok(objects)
     }

@@ -10,25 +10,54 @@ use std::marker::Model;
 use yv_nodes::{Links, NodeId};
 use yv_values::Value;
 
-/// An object that was entered.
+/// An object that was entered. A document may have millions, so whether there is a number is kept
+/// beside the node, where it takes no room.
 #[derive(Drop)]
 pub(crate) struct Position {
     /// The number of the object around it.
     pub(crate) parent: u64,
     /// The container, or the list that it is an entry of.
     pub(crate) node: NodeId,
-    /// Its number from 1, where it is an entry.
-    pub(crate) item: Option<u64>,
+    // Whether it is an entry, and then its number from 1.
+    is_entry: bool,
+    number: u64,
     /// The number of the last object in it, once it was left.
     pub(crate) last: u64,
 }
 
 impl Model for Position {
     ghost use Rattle.yv_leafref_values.specs.Findings as findings;
+    ghost use Rattle.yv_leafref_values.specs.InnerNumbers.{number_if};
 
     ghost Value = { findings.Position };
 
-    ghost view = { λ p. record { parent = p.parent; node = p.node.0; item = p.item; last = p.last } };
+    ghost view = { λ p. record { parent = p.parent; node = p.node.0; item = number_if p.is_entry p.number; last = p.last } };
+}
+
+impl Position {
+    // An object that is entered.
+    fn open(parent: u64, node: NodeId, item: Option<u64>) -> Position
+        ensures { result ≡ open_object parent node.0 item }
+    {
+        Position {
+            parent,
+            node,
+            is_entry: item.is_some(),
+            number: item.unwrap_or(0),
+            last: 0,
+        }
+    }
+
+    /// Its number from 1, where it is an entry.
+    pub(crate) fn item(&self) -> Option<u64>
+        ensures { result ≡ self.now.item }
+    {
+        if self.is_entry {
+            Some(self.number)
+        } else {
+            None
+        }
+    }
 }
 
 /// A value of a leafref that was read.
@@ -99,12 +128,7 @@ impl Findings {
         ensures same { OnErr result (self.new ≡ self.old) }
     {
         let number = self.positions.len() as u64;
-        self.positions.push(Position {
-            parent,
-            node,
-            item,
-            last: 0,
-        })?;
+        self.positions.push(Position::open(parent, node, item))?;
         Ok(number)
     }
 

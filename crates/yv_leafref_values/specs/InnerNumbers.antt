@@ -1,0 +1,6 @@
+-- For private clauses alone: a number that is there or not.
+use Rattle.std.specs.Prelude.{ℕ, Bool, true, false, Option, Some, None}
+
+abbrev pub number_if : Bool → ℕ → Option ℕ
+number_if true n = Some n
+number_if false n = None
