@@ -18,10 +18,11 @@ use Rattle.yv_nodes.specs.Member.{is_module_file}
 use Rattle.yv_nodes.specs.Tree.{Label}
 use Rattle.yv_nodes.specs.Rows.{Row, blank_row}
 use Rattle.yv_schema_tables.specs.declared.directory.Directory.{Directory}
+use Rattle.yv_schema_tables.specs.declared.directory.HeldNode.{HeldNode}
 use Rattle.yv_schema_tables.specs.declared.member.Member.{Member}
 use Rattle.yv_schema_tables.specs.DuplicateNodes.{duplicate_at}
 use Rattle.yv_schema_tables.specs.InnerNames.{names_of, number_in}
-use Rattle.yv_schema_tables.specs.InnerTables.{IsDirectory, IsNamesake, IsOfRow, Namesakes, at_number, member_called, front_of, held_at, is_called, is_front, kept_first, labels_at, same_member}
+use Rattle.yv_schema_tables.specs.InnerTables.{IsDirectory, IsNamesake, IsOfRow, Namesakes, at_number, first_held, member_called, front_of, held_at, is_called, is_front, kept_first, labels_at, same_member}
 use Rattle.yv_schema_tables.proofs.Naming.{same_number, some_none}
 
 pub equal : (n k : ℕ) → n ≡ k → (n == k) ≡ true
@@ -74,6 +75,17 @@ kept_same old member other child present = by (old other) refl (same_member memb
     by (Some first) e b same = refl
     by None e false same = refl
     by None e true same = absurd (false≢true (sym (ap is_some e) ∙ sym (ap (λ (m : Member). is_some (old m)) (member_is member other same)) ∙ present))
+
+-- one more among few
+pub held_more : (nodes : List HeldNode) (held : HeldNode) (other : Member)
+    → first_held (nodes ++ held ∷ []) other ≡ kept_first (same_member held.member other) held.node (first_held nodes other)
+held_more [] held other = refl
+held_more (first ∷ nodes) held other = by (same_member first.member other) (held_more nodes held other)
+  where
+    by : (b : Bool) → first_held (nodes ++ held ∷ []) other ≡ kept_first (same_member held.member other) held.node (first_held nodes other)
+        → cond b (Some first.node) (first_held (nodes ++ held ∷ []) other) ≡ kept_first (same_member held.member other) held.node (cond b (Some first.node) (first_held nodes other))
+    by true e = refl
+    by false e = e
 
 none_kept : (b c : Bool) (child : NodeId) → c ≡ false → kept_first (b && c) child None ≡ None
 none_kept true c child e = rw e refl

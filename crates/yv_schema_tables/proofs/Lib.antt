@@ -16,3 +16,4 @@ pub mod Forming
 pub mod Clearing
 pub mod Kept
 pub mod Typing
+pub mod Unopened

@@ -1,7 +1,6 @@
 -- Only private clauses cite this: the directories by which a child is found.
 use Rattle.std.specs.Prelude.{◌≡◌, ◌<◌, ◌≤◌, ℕ, ◌==◌, ◌&&◌, Bool, true, false, List, [], ◌∷◌, ◌++◌, map, length, Option, Some, None, if◌then◌else◌}
 use Rattle.std.specs.List.{slice_get, slice_index_or}
-use Rattle.std.specs.Option.{option_map_or}
 use Rattle.std.specs.Str.{bytes_eq}
 use Rattle.std.specs.BTreeMap.{BTreeMap}
 use Rattle.std.specs.declared.rc.RcStr.{RcStr}
@@ -16,6 +15,8 @@ use Rattle.yv_nodes.specs.Tree.{Label, count}
 use Rattle.yv_node_keys.specs.declared.targets.LeafTargets.{LeafTargets}
 use Rattle.yv_node_keys.specs.LeafTargets.{AreLeafTargets}
 use Rattle.yv_schema_tables.specs.declared.directory.Directory.{Directory}
+use Rattle.yv_schema_tables.specs.declared.directory.Directory.TheVariants.{Few, Many}
+use Rattle.yv_schema_tables.specs.declared.directory.HeldNode.{HeldNode}
 use Rattle.yv_schema_tables.specs.declared.member.Member.{Member}
 use Rattle.yv_schema_tables.specs.declared.names.NameTable.{NameTable}
 use Rattle.yv_schema_tables.specs.DuplicateNodes.{duplicate_at}
@@ -51,9 +52,15 @@ member_called rows around (c ∷ cs) front name =
 abbrev pub same_member : Member → Member → Bool
 same_member a b = is_front a.module_file b.module_file && (a.name == b.name)
 
+-- the first of these nodes that has a member
+abbrev pub first_held : List HeldNode → Member → Option NodeId
+first_held [] member = None
+first_held (held ∷ others) member = if same_member held.member member then Some held.node else first_held others member
+
 -- what a directory has at a member
 abbrev pub held_at : Directory → Member → Option NodeId
-held_at directory member = option_map_or (λ table. get same_member table.value member) directory.table None
+held_at (Few nodes) member = first_held nodes.items member
+held_at (Many table) member = get same_member table.value member
 
 -- what is found at a name with this number, where it has one, behind a front
 abbrev pub at_number : (Member → Option NodeId) → (front : Option ℕ) → Option ℕ → Option NodeId

@@ -1,5 +1,5 @@
 //! The nodes below one parent, with choices and cases opened.
-ghost use Rattle.std.specs.Prelude.{◌≡◌, ◌++◌, [], ◌∷◌, not, IfOk, OnOk, if◌then◌else◌};
+ghost use Rattle.std.specs.Prelude.{◌≡◌, ◌++◌, [], ◌∷◌, not, true, IfOk, OnOk, if◌then◌else◌};
 ghost use Rattle.yv_node_definition.specs.Kinds.{is_case, is_data};
 ghost use Rattle.yv_schema_tables.specs.InnerSits.{HaveTrees, inner_of, inside_of, told_of};
 
@@ -66,6 +66,22 @@ impl DataChildren {
         push_unless(&mut self.told, is_case(kind), number)?;
         Ok(())
     }
+}
+
+/// Whether all nodes of these numbers are data nodes: then these are those inside, and their names
+/// have to differ.
+pub(crate) fn are_data(nodes: &Nodes, numbers: &[NodeId]) -> bool
+    requires { HaveTrees nodes.now.rows numbers.now }
+    ensures inside { result ≡ true → inside_of nodes.now.rows numbers.now ≡ numbers.now }
+    ensures tells { result ≡ true → told_of nodes.now.rows numbers.now ≡ numbers.now }
+{
+    for number in numbers {
+        let kind = nodes.get(*number).kind();
+        if !kind.is_data() {
+            return false;
+        }
+    }
+    true
 }
 
 /// Whether it is a case.

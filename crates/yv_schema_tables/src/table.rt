@@ -7,10 +7,9 @@ ghost use Rattle.yv_schema_tables.specs.InnerNames.{AreOfNodes};
 ghost use Rattle.yv_schema_tables.specs.InnerSits.{HaveTrees, family_in, inside_of, pick_trees};
 ghost use Rattle.yv_schema_tables.specs.InnerTables.{IsDirectory, IsOfRow, Namesakes, labels_at};
 
-use crate::data_children::{DataChildren, is_case};
-use crate::directory::{Directory, keep_first};
+use crate::data_children::{DataChildren, are_data, is_case};
+use crate::directory::Directory;
 use crate::member::{Member, front_of};
-use indexmap::IndexMap;
 use std::alloc::{AllocError, Global};
 use yv_node_definition::NodeKind;
 use yv_nodes::{Node, NodeId, Nodes};
@@ -44,7 +43,7 @@ impl Family {
         if is_choice(node.kind()) {
             let cases = Family::from_nodes(alloc, nodes, names, around, node.children())?;
             return Ok(Family {
-                directory: Directory::new(),
+                directory: Directory::new(alloc),
                 duplicate: cases.duplicate,
             });
         }
@@ -57,6 +56,30 @@ impl Family {
     /// The family of the nodes of these numbers and names, with choices and cases opened, where
     /// this module is around.
     pub(crate) fn of(
+        alloc: Global,
+        nodes: &Nodes,
+        names: &[u32],
+        around: Option<u32>,
+        numbers: &[NodeId],
+    ) -> Result<Family, AllocError>
+        requires names { AreOfNodes nodes.now.rows names.now }
+        requires trees { HaveTrees nodes.now.rows numbers.now }
+        ensures directory { IfOk result
+            (λ family. IsDirectory nodes.now.rows around (inside_of nodes.now.rows numbers.now)
+            family.directory) }
+        ensures duplicates { IfOk result
+            (λ family. IsLeast
+            (Namesakes (names_that_differ (pick_trees nodes.now.rows numbers.now)))
+            family.duplicate) }
+    {
+        if are_data(nodes, numbers) {
+            return Family::from_nodes(alloc, nodes, names, around, numbers);
+        }
+        Family::of_opened_nodes(alloc, nodes, names, around, numbers)
+    }
+
+    // The same where choices or cases may be among the nodes.
+    fn of_opened_nodes(
         alloc: Global,
         nodes: &Nodes,
         names: &[u32],
@@ -103,18 +126,18 @@ impl Family {
             (λ family. IsLeast (Namesakes (labels_at nodes.now.rows numbers.now))
             family.duplicate) }
     {
-        let mut table = IndexMap::with_capacity(alloc, numbers.len())?;
+        let mut directory = Directory::with_room(alloc, numbers.len())?;
         let mut duplicate = None;
         for child in numbers {
             let node = nodes.get(*child);
             let module_file = front_of(around, node);
             let name = names[child.0 as usize];
             let member = Member { module_file, name };
-            let repeated = keep_first(&mut table, member, *child)?;
+            let repeated = directory.keep_first(member, *child)?;
             let here = node.refusal_if(repeated, Code::DuplicateNode);
             duplicate = lesser(duplicate, here);
         }
-        let directory = Directory::of(alloc, table)?;
+        directory.settle();
         Ok(Family {
             directory,
             duplicate,
