@@ -1,11 +1,7 @@
 //! Which statements may refine which nodes.
-ghost use Rattle.std.specs.Prelude.{◌≡◌, codes, count_by};
-ghost use Rattle.std.specs.List.{list_all};
-ghost use Rattle.yv_link_scopes.specs.Files.{has_word};
-ghost use Rattle.yv_link_scopes.specs.Rows.{is_extended};
-ghost use Rattle.yv_link_scopes.specs.Views.{lent_in};
-ghost use Rattle.yv_expand_changes.specs.AllowedRefines.{is_allowed, is_fit, may_have};
-ghost use Rattle.yv_expand_changes.specs.InnerAlike.{is_fit_at};
+ghost use Rattle.std.specs.{Prelude.{◌≡◌, codes, count_by}, List.{list_all}};
+ghost use Rattle.yv_link_scopes.specs.{Files.{has_word}, Rows.{is_extended}, Views.{lent_in}};
+ghost use Rattle.yv_expand_changes.specs.{AllowedRefines.{is_allowed, is_fit, may_have}, InnerAlike.{is_fit_at}};
 
 use yv_link_scopes::Rows;
 use yv_statement::{Statement, is_among};

@@ -1,15 +1,11 @@
 //! Which conditions hold.
-ghost use Rattle.std.specs.Prelude.{◌≡◌, ◌&&◌, ◌||◌, true, codes, map, not, slice_get, IfOk};
-ghost use Rattle.std.specs.List.{list_all};
+ghost use Rattle.std.specs.{Prelude.{◌≡◌, ◌&&◌, ◌||◌, true, codes, map, not, slice_get, IfOk}, List.{list_all}};
 ghost use Rattle.yv_statement.specs.Tree.{name_of as name_at};
-ghost use Rattle.yv_link_scopes.specs.Files.{has_word};
-ghost use Rattle.yv_link_scopes.specs.Views.{lent_in, trees_in};
+ghost use Rattle.yv_link_scopes.specs.{Files.{has_word}, Views.{lent_in, trees_in}};
 ghost use Rattle.yv_link.specs.LinkedFiles.{truth_in};
 ghost use Rattle.yv_expand_uses.specs.On.{is_marked};
 ghost use Rattle.yv_expand_refines.specs.Changes.{each};
-ghost use Rattle.yv_expand_changes.specs.IfFeatures.{is_on, item_marks, statement_marks};
-ghost use Rattle.yv_expand_changes.specs.InnerIfFeatures.{is_on_in};
-ghost use Rattle.yv_expand_changes.specs.InnerSequences.{known_of};
+ghost use Rattle.yv_expand_changes.specs.{IfFeatures.{is_on, item_marks, statement_marks}, InnerIfFeatures.{is_on_in}, InnerSequences.{known_of}};
 
 use crate::sequences::known_of;
 use std::alloc::{AllocError, Global};

@@ -1,11 +1,8 @@
 //! Which refines change which items.
 ghost use Rattle.std.specs.Prelude.{◌≡◌, ◌++◌, List, [], IfOk, OnOk};
-ghost use Rattle.yv_link_scopes.specs.Files.{Files};
-ghost use Rattle.yv_link_scopes.specs.Views.{lent_in};
-ghost use Rattle.yv_expand_refines.specs.Changes.{each};
-ghost use Rattle.yv_expand_refines.specs.Targets.{RefineMeaning, all_meant, meant_at};
-ghost use Rattle.yv_expand_changes.specs.Changes.{all_changes};
-ghost use Rattle.yv_expand_changes.specs.InnerRuns.{AreKnown};
+ghost use Rattle.yv_link_scopes.specs.{Files.{Files}, Views.{lent_in}};
+ghost use Rattle.yv_expand_refines.specs.{Changes.{each}, Targets.{RefineMeaning, all_meant, meant_at}};
+ghost use Rattle.yv_expand_changes.specs.{Changes.{all_changes}, InnerRuns.{AreKnown}};
 
 use crate::known_runs::KnownRuns;
 use std::alloc::{AllocError, Global};

@@ -1,12 +1,8 @@
 //! The runs that are known of a `uses`, and the items that they change.
 ghost use Rattle.std.specs.Prelude.{◌≡◌, ◌++◌, ℕ, List, [], IfOk, IsTrue, OnOk, map};
 ghost use Rattle.yv_link_scopes.specs.Views.{lent_in};
-ghost use Rattle.yv_expand_refines.specs.Changes.{each};
-ghost use Rattle.yv_expand_refines.specs.Targets.{RefineMeaning, meaning_of};
-ghost use Rattle.yv_expand_changes.specs.Changes.{all_changes};
-ghost use Rattle.yv_expand_changes.specs.InnerAlike.{AreRuns, IsRun, KeepsRuns, noted_from, note_run, runs_of, ways_of};
-ghost use Rattle.yv_expand_changes.specs.InnerRuns.{IsKnown};
-ghost use Rattle.yv_expand_changes.specs.InnerLists.{lists_of};
+ghost use Rattle.yv_expand_refines.specs.{Changes.{each}, Targets.{RefineMeaning, meaning_of}};
+ghost use Rattle.yv_expand_changes.specs.{Changes.{all_changes}, InnerAlike.{AreRuns, IsRun, KeepsRuns, noted_from, note_run, runs_of, ways_of}, InnerRuns.{IsKnown}, InnerLists.{lists_of}};
 
 use crate::runs::read_runs;
 use crate::ways::{Way, is_same, read_ways};

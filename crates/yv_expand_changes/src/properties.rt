@@ -3,10 +3,8 @@ ghost use Rattle.std.specs.Prelude.{◌≡◌, ◌++◌, List, ℕ, map, IfOk};
 ghost use Rattle.yv_link_scopes.specs.Views.{lent_in};
 ghost use Rattle.yv_expand_augments.specs.MandatoryNodes.{told_in};
 ghost use Rattle.yv_expand_refines.specs.Changes.{each};
-ghost use Rattle.yv_node_properties.specs.Marks.{is_mandatory, stated_of};
-ghost use Rattle.yv_node_properties.specs.Properties.{last_said, said_at, statements_of_origin};
-ghost use Rattle.yv_expand_changes.specs.Properties.{said_of, said_of_all, told_of};
-ghost use Rattle.yv_expand_changes.specs.InnerProperties.{AreSaid, said_by_refines};
+ghost use Rattle.yv_node_properties.specs.{Marks.{is_mandatory, stated_of}, Properties.{last_said, said_at, statements_of_origin}};
+ghost use Rattle.yv_expand_changes.specs.{Properties.{said_of, said_of_all, told_of}, InnerProperties.{AreSaid, said_by_refines}};
 
 use crate::sequences::known_of;
 use std::alloc::{AllocError, Global};

@@ -1,14 +1,10 @@
 //! What is wrong with refines.
 ghost use Rattle.std.specs.Prelude.{◌≡◌, List, None, slice_get, slice_index_or, IfOk, IfSome, OnOk};
 ghost use Rattle.yv_statement.specs.Order.{IsLeast};
-ghost use Rattle.yv_link_scopes.specs.Files.{Files};
-ghost use Rattle.yv_link_scopes.specs.Views.{lent_in, rows_in};
+ghost use Rattle.yv_link_scopes.specs.{Files.{Files}, Views.{lent_in, rows_in}};
 ghost use Rattle.yv_expand_rounds.specs.declared.row.ItemRow.{ItemRow};
-ghost use Rattle.yv_expand_refines.specs.Targets.{all_meant, meant_at};
-ghost use Rattle.yv_expand_refines.specs.declared.targets.RefineTarget.{RefineTarget};
-ghost use Rattle.yv_expand_changes.specs.Refusals.{BadRefines};
-ghost use Rattle.yv_expand_changes.specs.InnerAlike.{ways_of};
-ghost use Rattle.yv_expand_changes.specs.InnerRefusals.{AreItems, AreJudged, IsJudged, IsLeastOf, code_at, refusal_of_code};
+ghost use Rattle.yv_expand_refines.specs.{Targets.{all_meant, meant_at}, declared.targets.RefineTarget.{RefineTarget}};
+ghost use Rattle.yv_expand_changes.specs.{Refusals.{BadRefines}, InnerAlike.{ways_of}, InnerRefusals.{AreItems, AreJudged, IsJudged, IsLeastOf, code_at, refusal_of_code}};
 
 use crate::allowed_refines::is_fit_at;
 use crate::runs::way_at;

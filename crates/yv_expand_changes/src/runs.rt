@@ -1,9 +1,7 @@
 //! Runs of refines that change items alike.
 ghost use Rattle.std.specs.Prelude.{◌≡◌, ◌++◌, ◌∷◌, ℕ, None, Some, [], length, map, slice_index_or, slice_set, IfOk, OnOk};
 ghost use Rattle.yv_link_scopes.specs.Views.{lent_in};
-ghost use Rattle.yv_expand_changes.specs.Changes.{is_meant};
-ghost use Rattle.yv_expand_changes.specs.InnerAlike.{is_run, runs_of};
-ghost use Rattle.yv_expand_changes.specs.InnerLists.{lists_of};
+ghost use Rattle.yv_expand_changes.specs.{Changes.{is_meant}, InnerAlike.{is_run, runs_of}, InnerLists.{lists_of}};
 
 use crate::allowed_refines::is_fit_at;
 use crate::ways::Way;

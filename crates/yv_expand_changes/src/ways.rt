@@ -1,11 +1,6 @@
 //! On what the copies of a `uses` agree that are alike.
-ghost use Rattle.std.specs.Prelude.{◌≡◌, ℕ, List, None, Option, Some, slice_get, if◌then◌else◌, IfOk, IsTrue, OnOk};
-ghost use Rattle.std.specs.BTreeMap.{get};
-ghost use Rattle.std.specs.Option.{option_map};
-ghost use Rattle.std.specs.Ordering.{nat_cmp};
-ghost use Rattle.yv_expand_changes.specs.Changes.{is_meant};
-ghost use Rattle.yv_expand_changes.specs.InnerAlike.{first_from, way_of_target, ways_of};
-ghost use Rattle.yv_expand_changes.specs.InnerFirstPaths.{AreFirsts, are_rising, is_after};
+ghost use Rattle.std.specs.{Prelude.{◌≡◌, ℕ, List, None, Option, Some, slice_get, if◌then◌else◌, IfOk, IsTrue, OnOk}, BTreeMap.{get}, Option.{option_map}, Ordering.{nat_cmp}};
+ghost use Rattle.yv_expand_changes.specs.{Changes.{is_meant}, InnerAlike.{first_from, way_of_target, ways_of}, InnerFirstPaths.{AreFirsts, are_rising, is_after}};
 
 use std::alloc::{AllocError, Global};
 use std::collections::BTreeMap;

@@ -1,23 +1,10 @@
 //! Laws about the definitions only. These functions do nothing: the contract of each is the law.
-ghost use Rattle.std.specs.Prelude.{◌≡◌, ◌<◌, ℕ, Bool, false, List, Some, map, slice_get};
-ghost use Rattle.std.specs.List.{Contains};
-ghost use Rattle.yv_statement.specs.Order.{refusal_at};
-ghost use Rattle.yv_statement.specs.declared.refusal.Refusal.{Refusal};
-ghost use Rattle.yv_statement.specs.Selection.{Selected};
-ghost use Rattle.yv_link_scopes.specs.Files.{Files, brief_of};
-ghost use Rattle.yv_link_scopes.specs.RowList.{rows_of};
-ghost use Rattle.yv_link_scopes.specs.Rows.{Row};
-ghost use Rattle.yv_expand.specs.Expands.{Expands};
-ghost use Rattle.yv_expand.specs.StatementBlocks.{is_node_or_uses};
-ghost use Rattle.yv_expand.specs.Expansion.{IsWhole};
-ghost use Rattle.yv_expand.specs.Tree.{Item, Tree};
+ghost use Rattle.std.specs.{Prelude.{◌≡◌, ◌<◌, ℕ, Bool, false, List, Some, map, slice_get}, List.{Contains}};
+ghost use Rattle.yv_statement.specs.{Order.{refusal_at}, declared.refusal.Refusal.{Refusal}, Selection.{Selected}};
+ghost use Rattle.yv_link_scopes.specs.{Files.{Files, brief_of}, RowList.{rows_of}, Rows.{Row}};
+ghost use Rattle.yv_expand.specs.{Expands.{Expands}, StatementBlocks.{is_node_or_uses}, Expansion.{IsWhole}, Tree.{Item, Tree}};
 ghost use Rattle.yv_expand_tree.specs.FileOrder.{marks_of, order_of};
-ghost use Rattle.yv_expand_definition.specs.Expansion.{AllRefer, AreMarked, Expand};
-ghost use Rattle.yv_expand_definition.specs.Gives.{Gives, Product, Reaches, Wrong, nothing};
-ghost use Rattle.yv_expand_definition.specs.Remains.{AreNodes};
-ghost use Rattle.yv_expand_definition.specs.Nodes.{Forest, Node, nodes_given, insert, join, none};
-ghost use Rattle.yv_expand_definition.specs.Paths.{End, Leads, Step, at, node_at_end};
-ghost use Rattle.yv_expand_definition.specs.Refusals.{BadExpanded, IsWrong};
+ghost use Rattle.yv_expand_definition.specs.{Expansion.{AllRefer, AreMarked, Expand}, Gives.{Gives, Product, Reaches, Wrong, nothing}, Remains.{AreNodes}, Nodes.{Forest, Node, nodes_given, insert, join, none}, Paths.{End, Leads, Step, at, node_at_end}, Refusals.{BadExpanded, IsWrong}};
 
 /// A path leads to one node, with what stands below it, or to a case that is left out; one exchange
 /// there makes one tree, and any exchange makes one (RFC 7950, section 6.5).

@@ -1,44 +1,10 @@
 //! Laws about the definitions only. These functions do nothing: the contract of each is the law.
 ghost use Rattle.std.specs.Prelude.{◌≡◌, ◌≤◌, ℕ, Bool, List, Option, false, length};
-ghost use Rattle.yv_link_scopes.specs.Files.{Briefs, Files};
-ghost use Rattle.yv_link_scopes.specs.Rows.{Row};
+ghost use Rattle.yv_link_scopes.specs.{Files.{Briefs, Files}, Rows.{Row}};
 ghost use Rattle.yv_expand.specs.Tree.{Item};
 ghost use Rattle.yv_expand_rounds.specs.declared.label.Label.{Label};
 ghost use Rattle.yv_expand_uses.specs.Spots.{Whole};
-ghost use Rattle.yv_expand_laws.specs.FirstItems.{BeginningShows};
-ghost use Rattle.yv_expand_laws.specs.Conditions.{FilesAsk, MarksAreConditions, MarksAsk};
-ghost use Rattle.yv_expand_laws.specs.Conformance.{AreAccepted, ConformingLeftIsSchema, ConformingRefusalsAreOne, NoFileIsBad};
-ghost use Rattle.yv_expand_laws.specs.CopiesGive.{CopiesGive};
-ghost use Rattle.yv_expand_laws.specs.CopyEnds.{CopiesEnd};
-ghost use Rattle.yv_expand_laws.specs.Depths.{DepthsAreOne};
-ghost use Rattle.yv_expand_laws.specs.BlockEntry.{BlockKeeps, BlockShows, SpotsEnter};
-ghost use Rattle.yv_expand_laws.specs.Expansions.{ExpansionLies, PlacedIsTold};
-ghost use Rattle.yv_expand_laws.specs.Files.{FilesShow, HaveRoots, ItemsShow, ModulesShow};
-ghost use Rattle.yv_expand_laws.specs.FinalTree.{FinalTreeShows};
-ghost use Rattle.yv_expand_laws.specs.StatementItems.{AreSound, StatementsShow};
-ghost use Rattle.yv_expand_laws.specs.Impositions.{ImpositionsAreOne, UsesAreOptional};
-ghost use Rattle.yv_expand_laws.specs.Marks.{BlocksAreMarked};
-ghost use Rattle.yv_expand_laws.specs.LeftSchema.{LeftIsSchema};
-ghost use Rattle.yv_expand_laws.specs.Misplacements.{MisplacementsAreOne, MisplacementsByModulesAreOne, MisplacementsByUsesAreOne};
-ghost use Rattle.yv_expand_laws.specs.ModuleBlocks.{ModuleBlocksAreOne};
-ghost use Rattle.yv_expand_laws.specs.PathTargets.{PathsReach};
-ghost use Rattle.yv_expand_laws.specs.RefinedBlocks.{BlockIsMissed, BlockIsRefined};
-ghost use Rattle.yv_expand_laws.specs.Refines.{RefinesAreOne};
-ghost use Rattle.yv_expand_laws.specs.RefineStep.{RefineChanges, RefineMisses};
-ghost use Rattle.yv_expand_laws.specs.Refusals.{FinalRefusalsAreOne, RefusalsAreOne};
-ghost use Rattle.yv_expand_laws.specs.Rounds.{RoundAdds, RoundMisses, RoundTakes, RoundWaits};
-ghost use Rattle.yv_expand_laws.specs.Schema.{LeftShows};
-ghost use Rattle.yv_expand_laws.specs.Shows.{AreLabels, Items};
-ghost use Rattle.yv_expand_laws.specs.Start.{StartShows};
-ghost use Rattle.yv_expand_laws.specs.TakenBlocks.{TargetsTake};
-ghost use Rattle.yv_expand_laws.specs.Targets.{TargetsAreOne};
-ghost use Rattle.yv_expand_laws.specs.ItemProperties.{ExpansionsHaveStatements, LabelsTell, PathsAgree};
-ghost use Rattle.yv_expand_laws.specs.Trees.{TreeShows};
-ghost use Rattle.yv_expand_laws.specs.Turn.{TurnAdds, TurnMisses};
-ghost use Rattle.yv_expand_laws.specs.Under.{BeginningStands, BlockStands, FinalStands};
-ghost use Rattle.yv_expand_laws.specs.UsesBlocks.{UsesBlocksAreOne};
-ghost use Rattle.yv_expand_laws.specs.UsesTargets.{UsesTargetsAreOne};
-ghost use Rattle.yv_expand_laws.specs.WholeRounds.{RoundsShow};
+ghost use Rattle.yv_expand_laws.specs.{FirstItems.{BeginningShows}, Conditions.{FilesAsk, MarksAreConditions, MarksAsk}, Conformance.{AreAccepted, ConformingLeftIsSchema, ConformingRefusalsAreOne, NoFileIsBad}, CopiesGive.{CopiesGive}, CopyEnds.{CopiesEnd}, Depths.{DepthsAreOne}, BlockEntry.{BlockKeeps, BlockShows, SpotsEnter}, Expansions.{ExpansionLies, PlacedIsTold}, Files.{FilesShow, HaveRoots, ItemsShow, ModulesShow}, FinalTree.{FinalTreeShows}, StatementItems.{AreSound, StatementsShow}, Impositions.{ImpositionsAreOne, UsesAreOptional}, Marks.{BlocksAreMarked}, LeftSchema.{LeftIsSchema}, Misplacements.{MisplacementsAreOne, MisplacementsByModulesAreOne, MisplacementsByUsesAreOne}, ModuleBlocks.{ModuleBlocksAreOne}, PathTargets.{PathsReach}, RefinedBlocks.{BlockIsMissed, BlockIsRefined}, Refines.{RefinesAreOne}, RefineStep.{RefineChanges, RefineMisses}, Refusals.{FinalRefusalsAreOne, RefusalsAreOne}, Rounds.{RoundAdds, RoundMisses, RoundTakes, RoundWaits}, Schema.{LeftShows}, Shows.{AreLabels, Items}, Start.{StartShows}, TakenBlocks.{TargetsTake}, Targets.{TargetsAreOne}, ItemProperties.{ExpansionsHaveStatements, LabelsTell, PathsAgree}, Trees.{TreeShows}, Turn.{TurnAdds, TurnMisses}, Under.{BeginningStands, BlockStands, FinalStands}, UsesBlocks.{UsesBlocksAreOne}, UsesTargets.{UsesTargetsAreOne}, WholeRounds.{RoundsShow}};
 
 /// What an augment of a uses gives comes to stand, in its turn, behind what the node has to which
 /// its path leads; where the path leads to no such node nothing moves (RFC 7950, section 7.17).

@@ -1,8 +1,7 @@
 //! Which files give schema nodes, and in which order.
 ghost use Rattle.std.specs.Prelude.{◌≡◌, ◌<◌, ◌==◌, ℕ, All, length, slice_get, None, Some, if◌then◌else◌, IfOk};
 ghost use Rattle.yv_statement.specs.Selection.{selected_of};
-ghost use Rattle.yv_link_scopes.specs.Files.{module_file_at};
-ghost use Rattle.yv_link_scopes.specs.Views.{files_in, lent_in};
+ghost use Rattle.yv_link_scopes.specs.{Files.{module_file_at}, Views.{files_in, lent_in}};
 ghost use Rattle.yv_expand_tree.specs.FileOrder.{is_given, marks_of, order_of, part_places};
 
 use std::alloc::{AllocError, Global};

@@ -2,8 +2,7 @@
 ghost use Rattle.std.specs.Prelude.{◌≡◌, ℕ, None, slice_index_or, IfOk, OnOk};
 ghost use Rattle.yv_expand.specs.Tree as expansion;
 ghost use Rattle.yv_expand_rounds.specs.Tree.{Tree, tree_list};
-ghost use Rattle.yv_expand_tree.specs.Remains.{nodes_of};
-ghost use Rattle.yv_expand_tree.specs.InnerNodes.{enter, last_above};
+ghost use Rattle.yv_expand_tree.specs.{Remains.{nodes_of}, InnerNodes.{enter, last_above}};
 
 use std::alloc::{AllocError, Global};
 use yv_expand::RemainingNode;

@@ -1,27 +1,16 @@
 //! The final tree of files.
 ghost use Rattle.std.specs.Prelude.{◌≡◌, ◌≢◌, None, Some, Err, length, IfOk, OnOk};
-ghost use Rattle.yv_statement.specs.Order.{IsLeast};
-ghost use Rattle.yv_statement.specs.declared.refusal.Refusal.{Refusal};
-ghost use Rattle.yv_statement.specs.declared.refusal.Stop.TheVariants.{Fault, PatternBuild};
-ghost use Rattle.yv_statement.specs.Selection.{Selected, selected_of};
+ghost use Rattle.yv_statement.specs.{Order.{IsLeast}, declared.refusal.Refusal.{Refusal}, declared.refusal.Stop.TheVariants.{Fault, PatternBuild}, Selection.{Selected, selected_of}};
 ghost use Rattle.yv_link_scopes.specs.Views.{files_in, lent_in, rows_in};
 ghost use Rattle.yv_link_definitions.specs.Meanings.{AreNames};
 ghost use Rattle.yv_link.specs.LinkedFiles.{truth_in};
-ghost use Rattle.yv_expand.specs.Limit.{TooMany};
-ghost use Rattle.yv_expand.specs.ItemLimit.{ParentsComeFirst};
+ghost use Rattle.yv_expand.specs.{Limit.{TooMany}, ItemLimit.{ParentsComeFirst}, Expansion.{IsWhole}, StatementBlocks.{augments_of}};
 ghost use Rattle.yv_expand.specs.Tree as expansion;
-ghost use Rattle.yv_expand.specs.Expansion.{IsWhole};
-ghost use Rattle.yv_expand.specs.StatementBlocks.{augments_of};
 ghost use Rattle.yv_expand_rounds.specs.Turns.{State};
 ghost use Rattle.yv_expand_refines.specs.Changes.{each};
-ghost use Rattle.yv_expand_augments.specs.Refusals.{BadTarget};
-ghost use Rattle.yv_expand_augments.specs.FinalItems.{AreAugmentedTree};
+ghost use Rattle.yv_expand_augments.specs.{Refusals.{BadTarget}, FinalItems.{AreAugmentedTree}};
 ghost use Rattle.yv_expand_uses.specs.Spots.{whole};
-ghost use Rattle.yv_expand_tree.specs.Refusals.{BadExpansion, BadFinal};
-ghost use Rattle.yv_expand_tree.specs.Final.{Final, changes_of, final_items, whole_of};
-ghost use Rattle.yv_expand_tree.specs.FileOrder.{marks_of, order_of};
-ghost use Rattle.yv_expand_tree.specs.FinalTree.{AreKept};
-ghost use Rattle.yv_expand_tree.specs.Remains.{AreLeft};
+ghost use Rattle.yv_expand_tree.specs.{Refusals.{BadExpansion, BadFinal}, Final.{Final, changes_of, final_items, whole_of}, FileOrder.{marks_of, order_of}, FinalTree.{AreKept}, Remains.{AreLeft}};
 
 use crate::file_order::{marks, order};
 use crate::nodes::nodes;

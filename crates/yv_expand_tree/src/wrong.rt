@@ -3,12 +3,9 @@ ghost use Rattle.std.specs.Prelude.{◌≡◌, None, IfOk};
 ghost use Rattle.yv_statement.specs.Order.{IsLeast};
 ghost use Rattle.yv_link_scopes.specs.Views.{lent_in, rows_in};
 ghost use Rattle.yv_expand_refines.specs.Changes.{each};
-ghost use Rattle.yv_expand_augments.specs.Refusals.{BadTarget};
-ghost use Rattle.yv_expand_augments.specs.MandatoryNodes.{ImposesMandatory, nothing_around};
-ghost use Rattle.yv_expand_augments.specs.FinalItems.{AreAugmentedTree};
+ghost use Rattle.yv_expand_augments.specs.{Refusals.{BadTarget}, MandatoryNodes.{ImposesMandatory, nothing_around}, FinalItems.{AreAugmentedTree}};
 ghost use Rattle.yv_expand_changes.specs.Properties.{told_of};
-ghost use Rattle.yv_expand_tree.specs.Refusals.{BadStanding};
-ghost use Rattle.yv_expand_tree.specs.Final.{Final, changes_of, said_of, spots_of, final_items, whole_of};
+ghost use Rattle.yv_expand_tree.specs.{Refusals.{BadStanding}, Final.{Final, changes_of, said_of, spots_of, final_items, whole_of}};
 
 use std::alloc::{AllocError, Global};
 use yv_expand::Item;

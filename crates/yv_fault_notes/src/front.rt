@@ -1,10 +1,8 @@
 //! How the sentence on a fault begins.
-ghost use Rattle.std.specs.Prelude.{◌≡◌, ◌≤◌, ◌<◌, ◌++◌, length, drop, codes, IfOk, OnOk, string_bytes};
-ghost use Rattle.std.specs.Option.{option_map};
+ghost use Rattle.std.specs.{Prelude.{◌≡◌, ◌≤◌, ◌<◌, ◌++◌, length, drop, codes, IfOk, OnOk, string_bytes}, Option.{option_map}};
 ghost use Rattle.yv_nodes.specs.Member.{behind};
-ghost use Rattle.yv_faults.specs.Line.{escape, escaped_byte, hexadecimal, item_text, place_text, places_text};
+ghost use Rattle.yv_faults.specs.{Line.{escape, escaped_byte, hexadecimal, item_text, place_text, places_text}, Part.{part_of, steps_of}};
 ghost use Rattle.yv_leafref_values.specs.Place.{member_text};
-ghost use Rattle.yv_faults.specs.Part.{part_of, steps_of};
 ghost use Rattle.yv_fault_notes.specs.Line.{Begins, number_text, shortened_line};
 
 use itoa::Buffer;

@@ -1,7 +1,5 @@
 //! A fault's line.
-ghost use Rattle.std.specs.Prelude.{◌≡◌, ◌++◌, ◌<◌, IfOk, OnErr, OnOk, string_bytes};
-ghost use Rattle.std.specs.Fmt.{WritesOnOk};
-ghost use Rattle.std.specs.Option.{option_map};
+ghost use Rattle.std.specs.{Prelude.{◌≡◌, ◌++◌, ◌<◌, IfOk, OnErr, OnOk, string_bytes}, Fmt.{WritesOnOk}, Option.{option_map}};
 ghost use Rattle.yv_nodes.specs.Member.{behind};
 ghost use Rattle.yv_leafref_values.specs.Place.{member_text};
 ghost use Rattle.yv_faults.specs.Line.{escape, escaped_byte, hexadecimal, line_text, places_text};
@@ -62,8 +60,7 @@ impl fmt::Display for Path {
 /// `/`, the member's name, and the number of an item in brackets, as in the line of a fault.
 impl<'p> fmt::Display for Part<'p> {
     ghost use Rattle.std.specs.Prelude.{Some};
-    ghost use Rattle.yv_faults.specs.Line.{place_text};
-    ghost use Rattle.yv_faults.specs.Part.{part_of};
+    ghost use Rattle.yv_faults.specs.{Line.{place_text}, Part.{part_of}};
 
     ghost output = { λ step. Some (place_text (part_of step)) };
 

@@ -2,8 +2,7 @@
 ghost use Rattle.std.specs.Prelude.{◌≡◌, [], ◌∷◌, ◌++◌, true, IfOk, OnOk};
 ghost use Rattle.yv_nodes.specs.Rows.{row_at};
 ghost use Rattle.yv_leafref_values.specs.Place.{step_name, under};
-ghost use Rattle.yv_faults.specs.InnerPath.{is_entry, numbers, trail_names, trail_numbers, way_names};
-ghost use Rattle.yv_faults.specs.Trails.{places, IsWithin};
+ghost use Rattle.yv_faults.specs.{InnerPath.{is_entry, numbers, trail_names, trail_numbers, way_names}, Trails.{places, IsWithin}};
 
 use crate::fault::Fault;
 use crate::path::{Entries, Path, Way};

@@ -1,10 +1,8 @@
 //! Paths of faults, which share what is around their places.
-ghost use Rattle.std.specs.Prelude.{◌≡◌, ◌==◌, [], ◌∷◌, ◌++◌, length, IfOk, MatchOption, string_bytes};
-ghost use Rattle.std.specs.Option.{option_map};
+ghost use Rattle.std.specs.{Prelude.{◌≡◌, ◌==◌, [], ◌∷◌, ◌++◌, length, IfOk, MatchOption, string_bytes}, Option.{option_map}};
 ghost use Rattle.yv_nodes.specs.Member.{behind};
 ghost use Rattle.yv_leafref_values.specs.InnerSteps.{left_steps};
-ghost use Rattle.yv_faults.specs.InnerPath.{first_if, numbers, rest_if, places_of, way_names};
-ghost use Rattle.yv_faults.specs.Part.{part_of, steps_of};
+ghost use Rattle.yv_faults.specs.{InnerPath.{first_if, numbers, rest_if, places_of, way_names}, Part.{part_of, steps_of}};
 
 use std::alloc::{AllocError, Global};
 use std::marker::Model;

@@ -1,15 +1,10 @@
 //! The values of leafrefs that reach nothing.
-ghost use Rattle.std.specs.Prelude.{◌≡◌, ◌+◌, [], ◌++◌, List, IfOk, OnErr, OnOk, option_map, unwrap_or, if◌then◌else◌};
-ghost use Rattle.std.specs.List.{sum_by};
+ghost use Rattle.std.specs.{Prelude.{◌≡◌, ◌+◌, [], ◌++◌, List, IfOk, OnErr, OnOk, option_map, unwrap_or, if◌then◌else◌}, List.{sum_by}};
 ghost use Rattle.serde_json.specs.Data.{Members, object};
 ghost use Rattle.yv_statement.specs.declared.document_kind.Kind.{Kind};
 ghost use Rattle.yv_values.specs.Count.{count_up};
 ghost use Rattle.yv_nodes.specs.Link.{link_in};
-ghost use Rattle.yv_leafref_values.specs.Findings.{HasMet, position_at, Spreads, TargetDefault};
-ghost use Rattle.yv_leafref_values.specs.InnerAnswers.{AreMarks, count_leafrefs, asked_once, climbed_to, defaults_at, further_out, is_used, judge, judge_all, location_of, Marks, objects_of, paths_of};
-ghost use Rattle.yv_leafref_values.specs.InnerNames.{AreNames};
-ghost use Rattle.yv_leafref_values.specs.Meetings.{all_met};
-ghost use Rattle.yv_leafref_values.specs.References.{all_references, lookups_at};
+ghost use Rattle.yv_leafref_values.specs.{Findings.{HasMet, position_at, Spreads, TargetDefault}, InnerAnswers.{AreMarks, count_leafrefs, asked_once, climbed_to, defaults_at, further_out, is_used, judge, judge_all, location_of, Marks, objects_of, paths_of}, InnerNames.{AreNames}, Meetings.{all_met}, References.{all_references, lookups_at}};
 
 use crate::findings::{Findings, Note, Position};
 use crate::names::StepNames;

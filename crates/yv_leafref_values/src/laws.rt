@@ -2,14 +2,8 @@
 ghost use Rattle.std.specs.Prelude.{◌≡◌, ℕ, ◌+◌, List, [], ◌∷◌, ◌++◌, length, Option};
 ghost use Rattle.serde_json.specs.Data.{Members, object};
 ghost use Rattle.yv_values.specs.Values.{Val};
-ghost use Rattle.yv_nodes.specs.Link.{is_target, link_in};
-ghost use Rattle.yv_nodes.specs.Rows.{Rows};
-ghost use Rattle.yv_nodes.specs.Tree.{Forest};
-ghost use Rattle.yv_nodes.specs.declared.node.NodeId.{NodeId};
-ghost use Rattle.yv_leafref_values.specs.Findings.{end_object, Findings, Finds, first_of, kept_if, met_in, only_used, open_object, positions_in, second_of, used_if, value_notes};
-ghost use Rattle.yv_leafref_values.specs.InUse.{in_use, value_of};
-ghost use Rattle.yv_leafref_values.specs.Meetings.{count_entered, found_of, Meeting, at_node, Node, Spot, stand, WrittenValue, at_value};
-ghost use Rattle.yv_leafref_values.specs.References.{number_of};
+ghost use Rattle.yv_nodes.specs.{Link.{is_target, link_in}, Rows.{Rows}, Tree.{Forest}, declared.node.NodeId.{NodeId}};
+ghost use Rattle.yv_leafref_values.specs.{Findings.{end_object, Findings, Finds, first_of, kept_if, met_in, only_used, open_object, positions_in, second_of, used_if, value_notes}, InUse.{in_use, value_of}, Meetings.{count_entered, found_of, Meeting, at_node, Node, Spot, stand, WrittenValue, at_value}, References.{number_of}};
 
 /// As many objects are kept as are entered.
 pub fn kept_objects_are_entered()

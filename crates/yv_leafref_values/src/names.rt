@@ -1,8 +1,7 @@
 //! What nodes are called in paths.
 ghost use Rattle.std.specs.Prelude.{◌≡◌, None, IfOk, OnOk};
 ghost use Rattle.yv_nodes.specs.Rows.{Rows};
-ghost use Rattle.yv_leafref_values.specs.InnerAnswers.{place_at};
-ghost use Rattle.yv_leafref_values.specs.InnerNames.{AreNames};
+ghost use Rattle.yv_leafref_values.specs.{InnerAnswers.{place_at}, InnerNames.{AreNames}};
 
 use crate::place::Step;
 use std::alloc::{AllocError, Global};

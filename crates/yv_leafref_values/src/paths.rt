@@ -1,9 +1,6 @@
 //! Paths to values, which share what is around the values.
-ghost use Rattle.std.specs.Prelude.{◌≡◌, ◌∷◌, [], ◌++◌, IfOk, MatchOption, map};
-ghost use Rattle.std.specs.Option.{option_map};
-ghost use Rattle.yv_leafref_values.specs.InnerLocations.{numbered_path, path_in, value_path};
-ghost use Rattle.yv_leafref_values.specs.InnerSteps.{left_steps};
-ghost use Rattle.yv_leafref_values.specs.Place.{member_text};
+ghost use Rattle.std.specs.{Prelude.{◌≡◌, ◌∷◌, [], ◌++◌, IfOk, MatchOption, map}, Option.{option_map}};
+ghost use Rattle.yv_leafref_values.specs.{InnerLocations.{numbered_path, path_in, value_path}, InnerSteps.{left_steps}, Place.{member_text}};
 
 use crate::place::{MemberName, Step};
 use std::alloc::{AllocError, Global};
@@ -44,8 +41,7 @@ pub struct ValuePath {
 
 impl Model for ValuePath {
     ghost use Rattle.std.specs.Prelude.{List};
-    ghost use Rattle.yv_leafref_values.specs.InnerLocations.{numbered_path};
-    ghost use Rattle.yv_leafref_values.specs.Place.{Place};
+    ghost use Rattle.yv_leafref_values.specs.{InnerLocations.{numbered_path}, Place.{Place}};
 
     ghost Value = { List Place };
 

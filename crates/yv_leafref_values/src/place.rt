@@ -1,7 +1,5 @@
 //! Places in a document.
-ghost use Rattle.std.specs.Prelude.{◌≡◌, IfOk, string_bytes};
-ghost use Rattle.std.specs.Option.{option_map};
-ghost use Rattle.std.specs.Rc.{rc_str_bytes};
+ghost use Rattle.std.specs.{Prelude.{◌≡◌, IfOk, string_bytes}, Option.{option_map}, Rc.{rc_str_bytes}};
 ghost use Rattle.yv_nodes.specs.Member.{behind};
 ghost use Rattle.yv_leafref_values.specs.Place.{step_name};
 
@@ -38,8 +36,7 @@ pub struct Step {
 }
 
 impl Model for Step {
-    ghost use Rattle.std.specs.Option.{option_map};
-    ghost use Rattle.std.specs.Rc.{rc_str_bytes};
+    ghost use Rattle.std.specs.{Option.{option_map}, Rc.{rc_str_bytes}};
     ghost use Rattle.yv_leafref_values.specs.Place.{Place, member_text};
 
     ghost Value = { Place };

@@ -1,8 +1,6 @@
 //! The values of targets, and where they occur.
 ghost use Rattle.std.specs.Prelude.{◌≡◌, ◌+◌, ◌⊎◌, [], ◌∷◌, OnErr, OnOk, IsTrue, ◌↔◌, option_map, unwrap_or};
-ghost use Rattle.yv_values.specs.Count.{count_up};
-ghost use Rattle.yv_values.specs.Pairs.{IsAlone, IsWithin};
-ghost use Rattle.yv_values.specs.Values.{Val};
+ghost use Rattle.yv_values.specs.{Count.{count_up}, Pairs.{IsAlone, IsWithin}, Values.{Val}};
 ghost use Rattle.yv_leafref_values.specs.Findings.{Gains, index_of};
 
 use std::alloc::{AllocError, Global};

@@ -2,8 +2,7 @@
 //! name, and for paths.
 ghost use Rattle.std.specs.Prelude.{◌≡◌, IfOk};
 ghost use Rattle.yv_statement.specs.Order.{IsLeast};
-ghost use Rattle.yv_nodes.specs.Tree.{Forest};
-ghost use Rattle.yv_nodes.specs.Numbers.{rows_from};
+ghost use Rattle.yv_nodes.specs.{Tree.{Forest}, Numbers.{rows_from}};
 ghost use Rattle.yv_node_checks.specs.Bad.{BadTree};
 
 use crate::above::least_by_above;

@@ -1,8 +1,7 @@
 //! What the nodes above a node say of it.
 ghost use Rattle.std.specs.Prelude.{◌≡◌, ◌∷◌, List};
 ghost use Rattle.yv_nodes.specs.Tree.{Label};
-ghost use Rattle.yv_node_checks.specs.Above.{is_keyless};
-ghost use Rattle.yv_node_checks.specs.InnerAncestry.{ancestry_of};
+ghost use Rattle.yv_node_checks.specs.{Above.{is_keyless}, InnerAncestry.{ancestry_of}};
 
 use yv_node_definition::NodeKind;
 use yv_nodes::Node;

@@ -1,14 +1,9 @@
 //! Mandatory nodes, and what is wrong with defaults.
-ghost use Rattle.std.specs.Prelude.{◌≡◌, ℕ, Some, IfOk, IfSome, length, slice_get, ◌<◌};
-ghost use Rattle.std.specs.List.{find, list_any};
+ghost use Rattle.std.specs.{Prelude.{◌≡◌, ℕ, Some, IfOk, IfSome, length, slice_get, ◌<◌}, List.{find, list_any}};
 ghost use Rattle.yv_statement.specs.Order.{IsLeast};
 ghost use Rattle.yv_node_definition.specs.Definition.{own_default};
-ghost use Rattle.yv_nodes.specs.Tree.{Forest};
-ghost use Rattle.yv_nodes.specs.Places.{Place, places};
-ghost use Rattle.yv_node_checks.specs.Mandatory.{BadByDefault, BadOfDefault, forbids_default_as, has_unfit_default, has_values, is_caseless, is_crowded, has_duplicate_default, is_illegible, is_needed, is_overruled};
-ghost use Rattle.yv_node_checks.specs.InnerSpots.{AreRows};
-ghost use Rattle.yv_node_checks.specs.InnerBelow.{AreBelow, case_among, is_named_at, is_needed_at, is_undone_at, kept_at};
-ghost use Rattle.yv_node_checks.specs.InnerNamesakes.{AreCases, HaveName, NamesDefault, case_at};
+ghost use Rattle.yv_nodes.specs.{Tree.{Forest}, Places.{Place, places}};
+ghost use Rattle.yv_node_checks.specs.{Mandatory.{BadByDefault, BadOfDefault, forbids_default_as, has_unfit_default, has_values, is_caseless, is_crowded, has_duplicate_default, is_illegible, is_needed, is_overruled}, InnerSpots.{AreRows}, InnerBelow.{AreBelow, case_among, is_named_at, is_needed_at, is_undone_at, kept_at}, InnerNamesakes.{AreCases, HaveName, NamesDefault, case_at}};
 
 use std::alloc::{AllocError, Global};
 use yv_node_definition::NodeKind;

@@ -1,6 +1,5 @@
 //! Nodes by their numbers.
-ghost use Rattle.std.specs.Prelude.{◌≡◌, slice_get};
-ghost use Rattle.std.specs.Option.{option_map};
+ghost use Rattle.std.specs.{Prelude.{◌≡◌, slice_get}, Option.{option_map}};
 
 use yv_nodes::{Node, NodeId};
 

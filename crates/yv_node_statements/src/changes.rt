@@ -1,7 +1,5 @@
 //! The properties of nodes that refines may change.
-ghost use Rattle.std.specs.Prelude.{◌≡◌, ℕ, [], ◌∷◌, ◌++◌, map, IfOk, OnOk};
-ghost use Rattle.std.specs.Option.{option_map};
-ghost use Rattle.std.specs.Rc.{rc_slice_items};
+ghost use Rattle.std.specs.{Prelude.{◌≡◌, ℕ, [], ◌∷◌, ◌++◌, map, IfOk, OnOk}, Option.{option_map}, Rc.{rc_slice_items}};
 ghost use Rattle.yv_statement.specs.declared.keyword.Keyword.TheVariants as word;
 ghost use Rattle.yv_node_definition.specs.Definition.{written_of};
 ghost use Rattle.yv_node_statements.specs.InnerChanges.{change_of, apply_change, defaults_among};
@@ -28,8 +26,7 @@ pub(crate) struct Changes {
 }
 
 impl Model for Changes {
-    ghost use Rattle.std.specs.Prelude.{map};
-    ghost use Rattle.std.specs.Rc.{rc_slice_items};
+    ghost use Rattle.std.specs.{Prelude.{map}, Rc.{rc_slice_items}};
     ghost use Rattle.yv_node_definition.specs.Definition.{written_of};
     ghost use Rattle.yv_node_statements.specs.InnerChanges.{Change};
 

@@ -4,8 +4,7 @@ ghost use Rattle.yv_statement.specs.Tree.{End, trees};
 ghost use Rattle.yv_link_scopes.specs.Files.{Files};
 ghost use Rattle.yv_node_paths.specs.LeafPaths.{AreLeafPaths};
 ghost use Rattle.yv_node_definition.specs.Definition.{paths_in};
-ghost use Rattle.yv_node_statements.specs.Definitions.{keys_in, path_in, path_of_type, uniques_in};
-ghost use Rattle.yv_node_statements.specs.InnerNames.{AreNamed};
+ghost use Rattle.yv_node_statements.specs.{Definitions.{keys_in, path_in, path_of_type, uniques_in}, InnerNames.{AreNamed}};
 
 use crate::nothing::Nothing;
 use std::alloc::{AllocError, Global};

@@ -3,8 +3,7 @@ ghost use Rattle.std.specs.Prelude.{◌≡◌};
 ghost use Rattle.yv_statement.specs.Selection.{Selected};
 ghost use Rattle.yv_link_scopes.specs.Files.{Files};
 ghost use Rattle.yv_type_enums.specs.Types.{Truth};
-ghost use Rattle.yv_types.specs.Types.{AreTypes};
-ghost use Rattle.yv_types.specs.declared.type_table.Types.{Types};
+ghost use Rattle.yv_types.specs.{Types.{AreTypes}, declared.type_table.Types.{Types}};
 ghost use Rattle.yv_node_statements.specs.Kinds.{AreTyped, TypeMeanings, typing_of};
 
 /// What the types of files answer for each `type` statement is its plain types, its default and

@@ -1,6 +1,5 @@
 //! What is shared by all nodes that lack something.
-ghost use Rattle.std.specs.Prelude.{◌≡◌, [], IfOk};
-ghost use Rattle.std.specs.Rc.{rc_slice_items, rc_str_bytes};
+ghost use Rattle.std.specs.{Prelude.{◌≡◌, [], IfOk}, Rc.{rc_slice_items, rc_str_bytes}};
 
 use std::alloc::{AllocError, Global};
 use std::rc::{Rc, RcSlice, RcStr};

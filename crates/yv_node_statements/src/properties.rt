@@ -1,20 +1,13 @@
 //! Reading what a statement says.
-ghost use Rattle.std.specs.Prelude.{◌≡◌, map, IfOk};
-ghost use Rattle.std.specs.Option.{option_copied, option_map};
-ghost use Rattle.std.specs.Rc.{rc_slice_items, rc_str_bytes};
-ghost use Rattle.yv_statement.specs.Tree.{trees};
-ghost use Rattle.yv_statement.specs.Keywords.{keyword_of};
+ghost use Rattle.std.specs.{Prelude.{◌≡◌, map, IfOk}, Option.{option_copied, option_map}, Rc.{rc_slice_items, rc_str_bytes}};
+ghost use Rattle.yv_statement.specs.{Tree.{trees}, Keywords.{keyword_of}};
 ghost use Rattle.yv_statement.specs.declared.keyword.Keyword.TheVariants as word;
 ghost use Rattle.yv_link_scopes.specs.Files.{Files};
-ghost use Rattle.yv_node_statements.specs.InnerNames.{AreNamed};
+ghost use Rattle.yv_node_statements.specs.{InnerNames.{AreNamed}, Kinds.{kinds_of, typing_of}, Features.{if_features, expressions}, Definitions.{default_of_type, definition_of_tree, kind_of, node_kind, node_name, status_of, types_in, with_properties}};
 ghost use Rattle.yv_values.specs.Types.{plain_of};
 ghost use Rattle.yv_node_definition.specs.Definition.{blank, written_of};
 ghost use Rattle.yv_types.specs.Types.{default_at};
-ghost use Rattle.yv_node_statements.specs.Kinds.{kinds_of, typing_of};
-ghost use Rattle.yv_node_properties.specs.Statements.{first_of};
-ghost use Rattle.yv_node_statements.specs.Features.{if_features, expressions};
-ghost use Rattle.yv_node_properties.specs.Properties.{properties_of, substatements_of};
-ghost use Rattle.yv_node_statements.specs.Definitions.{default_of_type, definition_of_tree, kind_of, node_kind, node_name, status_of, types_in, with_properties};
+ghost use Rattle.yv_node_properties.specs.{Statements.{first_of}, Properties.{properties_of, substatements_of}};
 
 use crate::changes::Changes;
 use crate::features::push_expressions;

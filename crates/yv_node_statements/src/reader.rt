@@ -1,13 +1,8 @@
 //! By which defaults are read: that of a typedef once for all nodes that have it by the same types.
-ghost use Rattle.std.specs.Prelude.{◌≡◌, ◌≤◌, length, IfOk, IfSome, OnOk};
-ghost use Rattle.std.specs.Option.{option_copied};
-ghost use Rattle.yv_link_scopes.specs.Files.{Files};
-ghost use Rattle.yv_link_scopes.specs.Views.{lent_in};
-ghost use Rattle.yv_types.specs.Types.{default_at};
-ghost use Rattle.yv_types.specs.Scopes.{AreScopes};
-ghost use Rattle.yv_node_statements.specs.Kinds.{kinds_of, typing_of};
-ghost use Rattle.yv_node_statements.specs.Definitions.{defined_at};
-ghost use Rattle.yv_node_statements.specs.InnerSharedValues.{IsByType, IsReader, type_values};
+ghost use Rattle.std.specs.{Prelude.{◌≡◌, ◌≤◌, length, IfOk, IfSome, OnOk}, Option.{option_copied}};
+ghost use Rattle.yv_link_scopes.specs.{Files.{Files}, Views.{lent_in}};
+ghost use Rattle.yv_types.specs.{Types.{default_at}, Scopes.{AreScopes}};
+ghost use Rattle.yv_node_statements.specs.{Kinds.{kinds_of, typing_of}, Definitions.{defined_at}, InnerSharedValues.{IsByType, IsReader, type_values}};
 
 use crate::properties::{lasting_at, node_kind};
 use crate::statements::{file_at, statement_at, type_at};

@@ -1,9 +1,7 @@
 //! What is said of the nodes that refines change.
 ghost use Rattle.std.specs.Prelude.{◌≡◌, [], List, ℕ, IfOk, IfSome, OnOk, Some, map};
 ghost use Rattle.yv_expand_refines.specs.Changes.{sequence_at};
-ghost use Rattle.yv_node_statements.specs.Definitions.{refined_definition};
-ghost use Rattle.yv_node_statements.specs.Context.{files_in, typing_in};
-ghost use Rattle.yv_node_statements.specs.InnerRefinedStore.{AreRefined, IsChain, IsRefined, with_runs};
+ghost use Rattle.yv_node_statements.specs.{Definitions.{refined_definition}, Context.{files_in, typing_in}, InnerRefinedStore.{AreRefined, IsChain, IsRefined, with_runs}};
 
 use crate::chain::Chain;
 use crate::definitions::Definitions;

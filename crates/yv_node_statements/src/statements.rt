@@ -1,6 +1,5 @@
 //! The statements of files by their numbers.
-ghost use Rattle.std.specs.Prelude.{◌≡◌};
-ghost use Rattle.std.specs.Option.{option_map, unwrap_or};
+ghost use Rattle.std.specs.{Prelude.{◌≡◌}, Option.{option_map, unwrap_or}};
 ghost use Rattle.yv_link_scopes.specs.Views.{lent_in};
 ghost use Rattle.yv_statement.specs.declared.keyword.Keyword.TheVariants as word;
 ghost use Rattle.yv_node_properties.specs.Statements.{file_at, first_of, no_statement, statement_at};

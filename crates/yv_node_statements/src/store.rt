@@ -4,13 +4,8 @@ ghost use Rattle.yv_link_scopes.specs.Views.{lent_in};
 ghost use Rattle.yv_node_paths.specs.LeafPaths.{AreLeafPaths};
 ghost use Rattle.yv_values.specs.Types.{plain_of};
 ghost use Rattle.yv_node_definition.specs.declared.kind.NodeKind.{NodeKind};
-ghost use Rattle.yv_node_statements.specs.Kinds.{typing_of};
+ghost use Rattle.yv_node_statements.specs.{Kinds.{typing_of}, Definitions.{defined_at, unwritten}, Values.{with_defaults}, InnerChanges.{change_at}, InnerStore.{IsKept}, InnerSharedValues.{IsReader}};
 ghost use Rattle.yv_node_properties.specs.Statements.{file_at, statement_at};
-ghost use Rattle.yv_node_statements.specs.Definitions.{defined_at, unwritten};
-ghost use Rattle.yv_node_statements.specs.Values.{with_defaults};
-ghost use Rattle.yv_node_statements.specs.InnerChanges.{change_at};
-ghost use Rattle.yv_node_statements.specs.InnerStore.{IsKept};
-ghost use Rattle.yv_node_statements.specs.InnerSharedValues.{IsReader};
 
 use crate::changes::Changes;
 use crate::keys::BlockPaths;

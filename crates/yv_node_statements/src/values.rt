@@ -1,12 +1,10 @@
 //! The values of defaults.
-ghost use Rattle.std.specs.Prelude.{◌≡◌, ◌+◌, ◌≤◌, ◌++◌, map, length, IfOk, IfSome, OnOk};
-ghost use Rattle.std.specs.Option.{option_copied};
+ghost use Rattle.std.specs.{Prelude.{◌≡◌, ◌+◌, ◌≤◌, ◌++◌, map, length, IfOk, IfSome, OnOk}, Option.{option_copied}};
 ghost use Rattle.yv_link_scopes.specs.Files.{Files};
 ghost use Rattle.yv_values.specs.Types.{plain_of};
 ghost use Rattle.yv_node_definition.specs.Definition.{defaults_said, written_of};
 ghost use Rattle.yv_types.specs.Scopes.{AreScopes};
-ghost use Rattle.yv_node_statements.specs.Values.{alone, defaults_of, has_defaults, value_of, values_of};
-ghost use Rattle.yv_node_statements.specs.InnerSharedValues.{IsByType, has_type_default};
+ghost use Rattle.yv_node_statements.specs.{Values.{alone, defaults_of, has_defaults, value_of, values_of}, InnerSharedValues.{IsByType, has_type_default}};
 
 use crate::nothing::Nothing;
 use std::alloc::{AllocError, Global};

@@ -1,7 +1,5 @@
 //! The leafs whose values make entries of lists differ.
-ghost use Rattle.std.specs.Prelude.{◌≡◌, ◌||◌, ◌<◌, ℕ, length, map, IfOk, OnOk, Some};
-ghost use Rattle.std.specs.BTreeSet.{contains};
-ghost use Rattle.std.specs.Ordering.{nat_cmp};
+ghost use Rattle.std.specs.{Prelude.{◌≡◌, ◌||◌, ◌<◌, ℕ, length, map, IfOk, OnOk, Some}, BTreeSet.{contains}, Ordering.{nat_cmp}};
 ghost use Rattle.yv_quiet_nodes.specs.NamedLeafs.{are_named, is_named, is_read, list_names};
 
 use std::alloc::{AllocError, Global};

@@ -1,11 +1,8 @@
 //! Nodes of which nothing comes but steps, where they aren't in an object.
-ghost use Rattle.std.specs.Prelude.{◌≡◌, ◌<◌, ◌≤◌, ℕ, length, true, Some, IfOk, IfSome};
-ghost use Rattle.std.specs.BTreeSet.{contains};
-ghost use Rattle.std.specs.Ordering.{nat_cmp};
+ghost use Rattle.std.specs.{Prelude.{◌≡◌, ◌<◌, ◌≤◌, ℕ, length, true, Some, IfOk, IfSome}, BTreeSet.{contains}, Ordering.{nat_cmp}};
 ghost use Rattle.yv_nodes.specs.Rows.{below, rank};
 ghost use Rattle.yv_schema_tables.specs.Measures.{is_open, count_met};
-ghost use Rattle.yv_quiet_nodes.specs.NamedLeafs.{is_named};
-ghost use Rattle.yv_quiet_nodes.specs.Quiet.{are_quiet, AreKnown, is_mute, is_unread, steps_at};
+ghost use Rattle.yv_quiet_nodes.specs.{NamedLeafs.{is_named}, Quiet.{are_quiet, AreKnown, is_mute, is_unread, steps_at}};
 
 use crate::named_leafs::{is_read, named_leafs};
 use std::alloc::{AllocError, Global};

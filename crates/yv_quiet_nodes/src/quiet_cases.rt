@@ -1,8 +1,7 @@
 //! Cases of a choice that are passed over.
 ghost use Rattle.std.specs.Prelude.{◌≡◌, ◌<◌, length, true};
 ghost use Rattle.yv_nodes.specs.Rows.{children_of};
-ghost use Rattle.yv_walk.specs.Context.{IsContext, members_of, parent_of};
-ghost use Rattle.yv_walk.specs.Existence.{passes, stands_in};
+ghost use Rattle.yv_walk.specs.{Context.{IsContext, members_of, parent_of}, Existence.{passes, stands_in}};
 ghost use Rattle.yv_quiet_nodes.specs.Runs.{AreRuns, IsPast};
 
 use crate::runs::{Run, first_steps, run_at};

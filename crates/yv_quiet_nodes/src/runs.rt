@@ -1,9 +1,7 @@
 //! Quiet nodes one after the other, among the children of a node.
 ghost use Rattle.std.specs.Prelude.{◌≡◌, ◌∷◌, ◌<◌, ◌≤◌, List, ℕ, drop, length, Some, IfOk, IfSome, OnOk};
-ghost use Rattle.yv_nodes.specs.Rows.{children_of, rank, Rows};
-ghost use Rattle.yv_nodes.specs.declared.node.NodeId.{NodeId};
-ghost use Rattle.yv_quiet_nodes.specs.Quiet.{AreKnown, steps_at};
-ghost use Rattle.yv_quiet_nodes.specs.Runs.{AreRuns, HasRuns, HaveRuns, IsRun, runs_in};
+ghost use Rattle.yv_nodes.specs.{Rows.{children_of, rank, Rows}, declared.node.NodeId.{NodeId}};
+ghost use Rattle.yv_quiet_nodes.specs.{Quiet.{AreKnown, steps_at}, Runs.{AreRuns, HasRuns, HaveRuns, IsRun, runs_in}};
 
 use crate::quiet::known_steps;
 use std::alloc::{AllocError, Global};

@@ -3,14 +3,8 @@
 ghost use Rattle.std.specs.Prelude.{◌≡◌, ◌↔◌, ◌⊎◌, true, map, IfErr, IfOk, IsErrOf, IsSomeAnd, OnErr, None, option_map, string_bytes};
 ghost use Rattle.yv_job.specs.Jobs.{asked_of};
 ghost use Rattle.yv_nodes.specs.Rows.{whole};
-ghost use Rattle.yv_streams.specs.Stream.{stream_inner, has_failed, IsFresh, FailsOnceAtMost, TakesAtMost};
-ghost use Rattle.yv_streams.specs.Files.{file_of};
-ghost use Rattle.yv_run.specs.Output.{ReadsData, IsStopped, count_printed, data_printed, diagram_printed, refusal_printed};
-ghost use Rattle.yv_run.specs.PersonNotes.{NotesData, NotesDiagram};
-ghost use Rattle.yv_run.specs.declared.status.Status.{Status};
-ghost use Rattle.yv_run.specs.InnerRun.{HasNote, RunsData, RunsSchema};
-ghost use Rattle.yv_run.specs.Notes.{TellsRefusal};
-ghost use Rattle.yv_run.specs.Runs.{Writes, most_read};
+ghost use Rattle.yv_streams.specs.{Stream.{stream_inner, has_failed, IsFresh, FailsOnceAtMost, TakesAtMost}, Files.{file_of}};
+ghost use Rattle.yv_run.specs.{Output.{ReadsData, IsStopped, count_printed, data_printed, diagram_printed, refusal_printed}, PersonNotes.{NotesData, NotesDiagram}, declared.status.Status.{Status}, InnerRun.{HasNote, RunsData, RunsSchema}, Notes.{TellsRefusal}, Runs.{Writes, most_read}};
 
 use crate::notes::diagram_note;
 use crate::output::write_output;

@@ -1,8 +1,6 @@
 //! The schema of files, through the layers below.
 ghost use Rattle.std.specs.Prelude.{◌≡◌, map, IfOk, Err};
-ghost use Rattle.yv_statement.specs.declared.refusal.Refusal.{Refusal as TheRefusal};
-ghost use Rattle.yv_statement.specs.declared.refusal.Stop.TheVariants.{Fault, PatternBuild};
-ghost use Rattle.yv_statement.specs.Selection.{selected_of};
+ghost use Rattle.yv_statement.specs.{declared.refusal.Refusal.{Refusal as TheRefusal}, declared.refusal.Stop.TheVariants.{Fault, PatternBuild}, Selection.{selected_of}};
 ghost use Rattle.yv_run.specs.Compiles.{FilesCompile, RefusedAt, HasSchema, HavePattern};
 ghost use Rattle.yv_streams.specs.Files.{file_of};
 

@@ -1,7 +1,6 @@
 //! The document that bytes hold.
 ghost use Rattle.std.specs.Prelude.{◌≡◌, ◌≤◌, IfOk, IfSome, option_map};
-ghost use Rattle.serde_json.specs.Data.{depth};
-ghost use Rattle.serde_json.specs.View.{view};
+ghost use Rattle.serde_json.specs.{Data.{depth}, View.{view}};
 ghost use Rattle.yv_run.specs.Document.{json_of, document_text, document_view, MeetsLimits};
 
 use serde_json::Value;

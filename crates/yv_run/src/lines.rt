@@ -1,15 +1,10 @@
 //! Faults as lines on a page.
-ghost use Rattle.std.specs.Prelude.{◌≡◌, ◌<◌, ◌↔◌, ◌++◌, ◌∷◌, [], ℕ, List, Option, true, false, codes, decimal, take};
-ghost use Rattle.std.specs.Io.KnownBytes.{Appends};
-ghost use Rattle.std.specs.Option.{option_map};
+ghost use Rattle.std.specs.{Prelude.{◌≡◌, ◌<◌, ◌↔◌, ◌++◌, ◌∷◌, [], ℕ, List, Option, true, false, codes, decimal, take}, Io.KnownBytes.{Appends}, Option.{option_map}};
 ghost use Rattle.yv_nodes.specs.Member.{behind};
-ghost use Rattle.yv_faults.specs.Line.{escape, escaped_byte, hexadecimal, is_plain, item_text, line_text, path_text, place_text, places_text};
+ghost use Rattle.yv_faults.specs.{Line.{escape, escaped_byte, hexadecimal, is_plain, item_text, line_text, path_text, place_text, places_text}, Part.{part_of}};
 ghost use Rattle.yv_leafref_values.specs.Place.{member_text};
-ghost use Rattle.yv_faults.specs.Part.{part_of};
-ghost use Rattle.yv_streams.specs.Stream.{has_failed, stream_failures, stream_inner, FailsOnceAtMost};
-ghost use Rattle.yv_streams.specs.Pages.{Adds, output_of};
-ghost use Rattle.yv_run.specs.Lines.{ended_line, fault_lines, faults_text};
-ghost use Rattle.yv_run.specs.InnerNumbers.{number_text};
+ghost use Rattle.yv_streams.specs.{Stream.{has_failed, stream_failures, stream_inner, FailsOnceAtMost}, Pages.{Adds, output_of}};
+ghost use Rattle.yv_run.specs.{Lines.{ended_line, fault_lines, faults_text}, InnerNumbers.{number_text}};
 
 use itoa::Buffer;
 use std::io::Write;

@@ -1,9 +1,7 @@
 //! What helps a person to fix what was found of a document, or to name a module that has a diagram.
 //! It is made after the outcome is written, so that it delays nothing.
 ghost use Rattle.std.specs.Prelude.{◌≡◌, IfOk, option_map, string_bytes};
-ghost use Rattle.yv_run.specs.Document.{document_view, document_text};
-ghost use Rattle.yv_run.specs.Output.{diagram_printed, printed_of};
-ghost use Rattle.yv_run.specs.PersonNotes.{NotesDiagram, NotesFaults, NotesReading, faults_of};
+ghost use Rattle.yv_run.specs.{Document.{document_view, document_text}, Output.{diagram_printed, printed_of}, PersonNotes.{NotesDiagram, NotesFaults, NotesReading, faults_of}};
 
 use crate::document::Document;
 use crate::modules::modules_note;

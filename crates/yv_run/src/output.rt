@@ -1,9 +1,7 @@
 //! What a run writes.
-ghost use Rattle.std.specs.Prelude.{◌≡◌, ◌<◌, ◌↔◌, ℕ, true, false, take};
-ghost use Rattle.std.specs.Io.KnownBytes.{Appends, Keeps};
+ghost use Rattle.std.specs.{Prelude.{◌≡◌, ◌<◌, ◌↔◌, ℕ, true, false, take}, Io.KnownBytes.{Appends, Keeps}};
 ghost use Rattle.yv_streams.specs.Stream.{stream_inner, stream_interrupts, has_failed, IsFresh, FailsOnceAtMost};
-ghost use Rattle.yv_run.specs.Output.{IsStopped, body_text, printed_of};
-ghost use Rattle.yv_run.specs.Runs.{Writes};
+ghost use Rattle.yv_run.specs.{Output.{IsStopped, body_text, printed_of}, Runs.{Writes}};
 
 use crate::lines::write_faults;
 use crate::print::{Body, Output};

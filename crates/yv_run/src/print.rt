@@ -2,9 +2,7 @@
 ghost use Rattle.std.specs.Prelude.{◌≡◌, [], map, slice_get, IfOk, None};
 ghost use Rattle.yv_nodes.specs.Rows.{whole};
 ghost use Rattle.yv_streams.specs.Files.{file_of};
-ghost use Rattle.yv_run.specs.Document.{MeetsLimits, document_view, document_text};
-ghost use Rattle.yv_run.specs.Output.{name_of_file, refusal_printed, faults_printed, data_printed, reading_printed, count_printed, diagram_printed, drawn_printed, printed_of};
-ghost use Rattle.yv_run.specs.PersonNotes.{faults_in, faults_of};
+ghost use Rattle.yv_run.specs.{Document.{MeetsLimits, document_view, document_text}, Output.{name_of_file, refusal_printed, faults_printed, data_printed, reading_printed, count_printed, diagram_printed, drawn_printed, printed_of}, PersonNotes.{faults_in, faults_of}};
 
 use crate::document::{Document, read_document};
 use crate::status::Verdict;

@@ -3,12 +3,8 @@
 ghost use Rattle.std.specs.Prelude.{◌≡◌, ◌↔◌, ◌⊎◌, true, ℕ, map, length, IfOk, IsErrOf, OnErr, None, Ok, option_map, string_bytes};
 ghost use Rattle.yv_job.specs.Jobs.{HasFiles, HasLimit, task_of};
 ghost use Rattle.yv_statement.specs.Selection.{Selected, selected_of};
-ghost use Rattle.yv_streams.specs.Stream.{stream_inner, has_failed, IsFresh, FailsOnceAtMost, TakesAtMost};
-ghost use Rattle.yv_streams.specs.Files.{file_of};
-ghost use Rattle.yv_run.specs.Compiles.{HavePattern};
-ghost use Rattle.yv_run.specs.Output.{WantsData, IsStopped};
-ghost use Rattle.yv_run.specs.Notes.{NotesPattern, RunsWithNote};
-ghost use Rattle.yv_run.specs.Runs.{Runs, most_read};
+ghost use Rattle.yv_streams.specs.{Stream.{stream_inner, has_failed, IsFresh, FailsOnceAtMost, TakesAtMost}, Files.{file_of}};
+ghost use Rattle.yv_run.specs.{Compiles.{HavePattern}, Output.{WantsData, IsStopped}, Notes.{NotesPattern, RunsWithNote}, Runs.{Runs, most_read}};
 
 use crate::answers::{write_answer, write_refusal};
 use crate::compilation::compile_files;

@@ -1,20 +1,12 @@
 //! The compilation of files.
 ghost use Rattle.std.specs.Prelude.{◌≡◌, ◌<◌, ◌≤◌, ℕ, length, IfOk, OnOk, Some, None, Err};
-ghost use Rattle.yv_statement.specs.declared.refusal.Refusal.{Refusal};
-ghost use Rattle.yv_statement.specs.declared.refusal.Stop.TheVariants.{Fault, NoMemory, PatternBuild};
-ghost use Rattle.yv_statement.specs.Order.{IsLeast};
-ghost use Rattle.yv_statement.specs.Selection.{selected_of};
+ghost use Rattle.yv_statement.specs.{declared.refusal.Refusal.{Refusal}, declared.refusal.Stop.TheVariants.{Fault, NoMemory, PatternBuild}, Order.{IsLeast}, Selection.{selected_of}};
 ghost use Rattle.yv_link_scopes.specs.RowList.{rows_of};
 ghost use Rattle.yv_type_restrictions.specs.Types.{HasTypePattern};
-ghost use Rattle.yv_nodes.specs.Rows.{whole};
-ghost use Rattle.yv_nodes.specs.Tree.{count};
+ghost use Rattle.yv_nodes.specs.{Rows.{whole}, Tree.{count}};
 ghost use Rattle.yv_schema_tables.specs.Sound.{IsSound};
-ghost use Rattle.yv_schema_build.specs.Module.{modules_of};
-ghost use Rattle.yv_schema_build.specs.Units.{TakeUnits};
-ghost use Rattle.yv_schema.specs.LinkedLeafrefs.{AreLinked};
-ghost use Rattle.yv_schema.specs.Notes.{AreNotes};
-ghost use Rattle.yv_schema.specs.Refuses.{Refuses, RefusesBeforeTypes};
-ghost use Rattle.yv_schema.specs.Schema.{AreReferences, IsSchema};
+ghost use Rattle.yv_schema_build.specs.{Module.{modules_of}, Units.{TakeUnits}};
+ghost use Rattle.yv_schema.specs.{LinkedLeafrefs.{AreLinked}, Notes.{AreNotes}, Refuses.{Refuses, RefusesBeforeTypes}, Schema.{AreReferences, IsSchema}};
 
 use crate::laws::{
     a_schema_is_that_of_the_tree, least_refusals_are_those_of_the_tree,

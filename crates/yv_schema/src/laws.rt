@@ -1,26 +1,14 @@
 //! Laws about the definitions only. These functions do nothing: the contract of each is the law.
 ghost use Rattle.std.specs.Prelude.{◌≡◌, ◌≤◌, ◌↔◌, ℕ, List, None, Option, Some, length};
-ghost use Rattle.yv_statement.specs.Order.{IsLeast};
-ghost use Rattle.yv_statement.specs.declared.refusal.Refusal.{Refusal};
-ghost use Rattle.yv_statement.specs.Selection.{Selected};
-ghost use Rattle.yv_link_scopes.specs.Files.{Files};
-ghost use Rattle.yv_link_scopes.specs.RowList.{rows_of};
+ghost use Rattle.yv_statement.specs.{Order.{IsLeast}, declared.refusal.Refusal.{Refusal}, Selection.{Selected}};
+ghost use Rattle.yv_link_scopes.specs.{Files.{Files}, RowList.{rows_of}};
 ghost use Rattle.yv_link_features.specs.Refusals.{BadFeatures};
 ghost use Rattle.yv_expand.specs.Limit.{TooMany};
-ghost use Rattle.yv_expand_tree.specs.FileOrder.{marks_of};
-ghost use Rattle.yv_expand_tree.specs.Final.{Final, IsFinal};
-ghost use Rattle.yv_expand_laws.specs.Conformance.{AreAccepted};
-ghost use Rattle.yv_expand_laws.specs.Files.{HaveRoots};
-ghost use Rattle.yv_expand_laws.specs.StatementItems.{AreSound};
-ghost use Rattle.yv_nodes.specs.Link.{Link};
-ghost use Rattle.yv_nodes.specs.Rows.{Note};
-ghost use Rattle.yv_nodes.specs.Tree.{Forest};
-ghost use Rattle.yv_schema_build.specs.InnerRefuses.{RefusesByNumber};
-ghost use Rattle.yv_schema_build.specs.InnerSchema.{AreNumberedNotes, AreNumberedReferences, IsNumberedSchema};
-ghost use Rattle.yv_schema.specs.Schema.{AreReferences, IsSchema};
-ghost use Rattle.yv_schema.specs.Notes.{AreNotes};
-ghost use Rattle.yv_schema.specs.Refuses.{Refuses};
-ghost use Rattle.yv_schema_build.specs.Refusals.{RefusesBeforeExpansion};
+ghost use Rattle.yv_expand_tree.specs.{FileOrder.{marks_of}, Final.{Final, IsFinal}};
+ghost use Rattle.yv_expand_laws.specs.{Conformance.{AreAccepted}, Files.{HaveRoots}, StatementItems.{AreSound}};
+ghost use Rattle.yv_nodes.specs.{Link.{Link}, Rows.{Note}, Tree.{Forest}};
+ghost use Rattle.yv_schema_build.specs.{InnerRefuses.{RefusesByNumber}, InnerSchema.{AreNumberedNotes, AreNumberedReferences, IsNumberedSchema}, Refusals.{RefusesBeforeExpansion}};
+ghost use Rattle.yv_schema.specs.{Schema.{AreReferences, IsSchema}, Notes.{AreNotes}, Refuses.{Refuses}};
 
 /// Where nothing is refused, files have one schema tree under a choice, their augments add to it in
 /// one way, and its leafrefs lead one way.

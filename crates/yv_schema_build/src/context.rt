@@ -2,12 +2,9 @@
 ghost use Rattle.std.specs.Prelude.{◌≡◌, [], None, IfOk, slice_index_or};
 ghost use Rattle.yv_expand.specs.Tree.{item_list};
 ghost use Rattle.yv_statement.specs.Selection.{Selected};
-ghost use Rattle.yv_node_statements.specs.Definitions.{refined_definition};
-ghost use Rattle.yv_node_statements.specs.Context.{files_in, typing_in};
-ghost use Rattle.yv_expand_tree.specs.Final.{changes_of};
-ghost use Rattle.yv_expand_tree.specs.FinalTree.{AreKept, origin_at};
-ghost use Rattle.yv_schema_build.specs.InnerBasis.{NumberedBasis, module_file_of};
-ghost use Rattle.yv_schema_build.specs.InnerContext.{IsRefinedOf, Tells};
+ghost use Rattle.yv_node_statements.specs.{Definitions.{refined_definition}, Context.{files_in, typing_in}};
+ghost use Rattle.yv_expand_tree.specs.{Final.{changes_of}, FinalTree.{AreKept, origin_at}};
+ghost use Rattle.yv_schema_build.specs.{InnerBasis.{NumberedBasis, module_file_of}, InnerContext.{IsRefinedOf, Tells}};
 
 use std::alloc::{AllocError, Global};
 use yv_expand::RemainingNode;

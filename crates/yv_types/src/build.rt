@@ -1,16 +1,11 @@
 //! Reading the types of files.
 ghost use Rattle.std.specs.Prelude.{◌≡◌, ◌⊎◌, Err, None, Some, IfOk, OnOk};
-ghost use Rattle.yv_statement.specs.Order.{IsLeast};
-ghost use Rattle.yv_statement.specs.declared.refusal.Refusal.{Refusal};
-ghost use Rattle.yv_statement.specs.declared.refusal.Stop.TheVariants.{Fault, PatternBuild};
-ghost use Rattle.yv_statement.specs.Selection.{Selected};
+ghost use Rattle.yv_statement.specs.{Order.{IsLeast}, declared.refusal.Refusal.{Refusal}, declared.refusal.Stop.TheVariants.{Fault, PatternBuild}, Selection.{Selected}};
 ghost use Rattle.yv_link_scopes.specs.Files.{Files};
-ghost use Rattle.yv_link_definitions.specs.Meanings.{AreNames};
-ghost use Rattle.yv_link_definitions.specs.Refusals.{BadNames};
+ghost use Rattle.yv_link_definitions.specs.{Meanings.{AreNames}, Refusals.{BadNames}};
 ghost use Rattle.yv_type_restrictions.specs.Types.{HasTypePattern};
 ghost use Rattle.yv_link.specs.LinkedFiles.{AreLinked, truth_in};
-ghost use Rattle.yv_types.specs.Refusals.{BadTypes};
-ghost use Rattle.yv_types.specs.Types.{AreTypes};
+ghost use Rattle.yv_types.specs.{Refusals.{BadTypes}, Types.{AreTypes}};
 
 use crate::defaults::TypedefDefaults;
 use crate::layers::Layers;

@@ -1,12 +1,9 @@
 //! The typedef whose default a type has.
 ghost use Rattle.std.specs.Prelude.{ℕ};
-ghost use Rattle.yv_link_scopes.specs.Files.{Files};
-ghost use Rattle.yv_link_scopes.specs.RowList.{rows_of};
+ghost use Rattle.yv_link_scopes.specs.{Files.{Files}, RowList.{rows_of}};
 ghost use Rattle.yv_link_definitions.specs.Meanings.{AreNames};
-ghost use Rattle.yv_type_chains.specs.Bases.{AreBases};
-ghost use Rattle.yv_type_chains.specs.Types.{IsTypeAt};
-ghost use Rattle.yv_types.specs.Defaults.{HasDefault};
-ghost use Rattle.yv_types.specs.InnerDefaultTables.{AreFound, AreSaid, IsFollowed, text_from};
+ghost use Rattle.yv_type_chains.specs.{Bases.{AreBases}, Types.{IsTypeAt}};
+ghost use Rattle.yv_types.specs.{Defaults.{HasDefault}, InnerDefaultTables.{AreFound, AreSaid, IsFollowed, text_from}};
 
 use crate::default_table::{get, text};
 use yv_link_definitions::Names;

@@ -1,6 +1,5 @@
 //! For each number another number or a text, or none.
-ghost use Rattle.std.specs.Prelude.{◌≡◌, ◌≢◌, ◌<◌, ℕ, None, length, IfOk};
-ghost use Rattle.std.specs.Option.{option_map, option_copied};
+ghost use Rattle.std.specs.{Prelude.{◌≡◌, ◌≢◌, ◌<◌, ℕ, None, length, IfOk}, Option.{option_map, option_copied}};
 ghost use Rattle.yv_type_chains.specs.InnerTables.{at};
 ghost use Rattle.yv_node_definition.specs.Definition.{written_of};
 ghost use Rattle.yv_types.specs.InnerDefaultTables.{text_at};

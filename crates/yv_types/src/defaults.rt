@@ -1,8 +1,6 @@
 //! The defaults of types, and what readers ask of them.
-ghost use Rattle.std.specs.Prelude.{◌≡◌, ℕ, IfOk};
-ghost use Rattle.std.specs.Option.{option_map, option_copied};
-ghost use Rattle.yv_link_scopes.specs.Files.{Files};
-ghost use Rattle.yv_link_scopes.specs.Views.{lent_in};
+ghost use Rattle.std.specs.{Prelude.{◌≡◌, ℕ, IfOk}, Option.{option_map, option_copied}};
+ghost use Rattle.yv_link_scopes.specs.{Files.{Files}, Views.{lent_in}};
 ghost use Rattle.yv_link_definitions.specs.Meanings.{AreNames};
 ghost use Rattle.yv_type_chains.specs.Bases.{AreBases};
 ghost use Rattle.yv_node_definition.specs.Definition.{written_of};
@@ -28,8 +26,7 @@ pub struct TypedefDefaults {
 }
 
 impl TypedefDefaults {
-    ghost use Rattle.yv_types.specs.Defaults.{HasDefault};
-    ghost use Rattle.yv_types.specs.TypeDefaults.{AreDefaults, found_in, typedef_in};
+    ghost use Rattle.yv_types.specs.{Defaults.{HasDefault}, TypeDefaults.{AreDefaults, found_in, typedef_in}};
 
     /// Reads the defaults of these statements, the names and the bases being theirs, in time linear
     /// in statements: no way along typedefs is gone twice.

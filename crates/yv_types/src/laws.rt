@@ -1,14 +1,11 @@
 //! Laws about the definitions only. These functions do nothing: the contract of each is the law.
 ghost use Rattle.std.specs.Prelude.{◌≡◌, ℕ, List, codes};
 ghost use Rattle.yv_statement.specs.Selection.{Selected};
-ghost use Rattle.yv_link_scopes.specs.Files.{Files};
-ghost use Rattle.yv_link_scopes.specs.RowList.{rows_of};
+ghost use Rattle.yv_link_scopes.specs.{Files.{Files}, RowList.{rows_of}};
 ghost use Rattle.yv_link_definitions.specs.References.{number_at};
 ghost use Rattle.yv_type_enums.specs.Types.{Truth};
 ghost use Rattle.yv_values.specs.Types.{Plain};
-ghost use Rattle.yv_types.specs.Spaces.{Space};
-ghost use Rattle.yv_types.specs.Types.{AreTypes, IsDefault, IsReferring, IsTold, default_at, referring_at, space_at};
-ghost use Rattle.yv_types.specs.declared.type_table.Types.{Types};
+ghost use Rattle.yv_types.specs.{Spaces.{Space}, Types.{AreTypes, IsDefault, IsReferring, IsTold, default_at, referring_at, space_at}, declared.type_table.Types.{Types}};
 
 /// A type has one list of plain types.
 pub fn a_type_has_one_space()

@@ -1,9 +1,6 @@
 //! The types of files in layers.
 ghost use Rattle.std.specs.Prelude.{◌≡◌, ◌≢◌, Err, IfOk};
-ghost use Rattle.yv_statement.specs.Order.{IsLeast};
-ghost use Rattle.yv_statement.specs.declared.refusal.Refusal.{Refusal};
-ghost use Rattle.yv_statement.specs.declared.refusal.Stop.TheVariants.{Fault, PatternBuild};
-ghost use Rattle.yv_statement.specs.Selection.{Selected};
+ghost use Rattle.yv_statement.specs.{Order.{IsLeast}, declared.refusal.Refusal.{Refusal}, declared.refusal.Stop.TheVariants.{Fault, PatternBuild}, Selection.{Selected}};
 ghost use Rattle.yv_link_scopes.specs.Files.{Files};
 ghost use Rattle.yv_link_definitions.specs.Meanings.{AreNames};
 ghost use Rattle.yv_type_restrictions.specs.Types.{HasTypePattern};
@@ -28,8 +25,7 @@ pub(crate) struct Layers<'a> {
 
 impl<'a> Layers<'a> {
     ghost use Rattle.yv_type_enums.specs.Types.{Truth};
-    ghost use Rattle.yv_types.specs.Refusals.{BadTypes};
-    ghost use Rattle.yv_types.specs.Types.{AreLayers};
+    ghost use Rattle.yv_types.specs.{Refusals.{BadTypes}, Types.{AreLayers}};
 
     /// Reads the types of these files, the names being theirs. No refusal is an error here.
     pub(crate) fn read(

@@ -1,8 +1,7 @@
 //! Laws about the definitions only.
 ghost use Rattle.std.specs.Prelude.{◌≡◌, ℕ, Option, Some};
 ghost use Rattle.yv_link_scopes.specs.Files.{Files};
-ghost use Rattle.yv_types.specs.Referrals.{FollowsIn, HasReferral, IsLeafrefAt};
-ghost use Rattle.yv_types.specs.declared.leafref_path.TypeLeafref.{TypeLeafref};
+ghost use Rattle.yv_types.specs.{Referrals.{FollowsIn, HasReferral, IsLeafrefAt}, declared.leafref_path.TypeLeafref.{TypeLeafref}};
 
 /// A type says one thing as a leafref, or nothing.
 pub fn a_type_has_one_referral()

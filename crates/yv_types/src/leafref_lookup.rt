@@ -1,12 +1,8 @@
 //! What a type says as a leafref.
-ghost use Rattle.std.specs.Prelude.{◌≡◌, ◌↔◌, slice_get, IsTrue};
-ghost use Rattle.std.specs.Option.{option_map};
-ghost use Rattle.yv_link_scopes.specs.Rows.{row};
-ghost use Rattle.yv_link_scopes.specs.Views.{lent_in, rows_in};
-ghost use Rattle.yv_type_chains.specs.Bases.{AreBases};
-ghost use Rattle.yv_type_chains.specs.Types.{is_leafref};
-ghost use Rattle.yv_types.specs.InnerLeafrefTables.{AreFound};
-ghost use Rattle.yv_types.specs.Referrals.{FollowsIn, HasReferral, IsLeafrefAt, derived_at, own_at};
+ghost use Rattle.std.specs.{Prelude.{◌≡◌, ◌↔◌, slice_get, IsTrue}, Option.{option_map}};
+ghost use Rattle.yv_link_scopes.specs.{Rows.{row}, Views.{lent_in, rows_in}};
+ghost use Rattle.yv_type_chains.specs.{Bases.{AreBases}, Types.{is_leafref}};
+ghost use Rattle.yv_types.specs.{InnerLeafrefTables.{AreFound}, Referrals.{FollowsIn, HasReferral, IsLeafrefAt, derived_at, own_at}};
 
 use crate::leafref_path::TypeLeafref;
 use crate::leafref_table::get;

@@ -1,7 +1,6 @@
 //! What types say as leafrefs, and what readers ask of them.
 ghost use Rattle.std.specs.Prelude.{◌≡◌, IfOk};
-ghost use Rattle.yv_link_scopes.specs.Files.{Files};
-ghost use Rattle.yv_link_scopes.specs.Views.{lent_in};
+ghost use Rattle.yv_link_scopes.specs.{Files.{Files}, Views.{lent_in}};
 ghost use Rattle.yv_type_chains.specs.Bases.{AreBases};
 
 use crate::leafref_lookup::found_at;
@@ -19,8 +18,7 @@ pub struct LeafrefTypes {
 }
 
 impl LeafrefTypes {
-    ghost use Rattle.yv_types.specs.LeafrefTypes.{AreLeafrefTypes, found_in};
-    ghost use Rattle.yv_types.specs.Referrals.{HasReferral};
+    ghost use Rattle.yv_types.specs.{LeafrefTypes.{AreLeafrefTypes, found_in}, Referrals.{HasReferral}};
 
     /// Reads what the types of these statements say, the bases being theirs, in time and memory
     /// linear in statements: no way along typedefs is gone twice. Err only if memory runs out.

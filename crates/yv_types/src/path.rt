@@ -1,8 +1,6 @@
 //! The paths of leafrefs as they are written.
-ghost use Rattle.std.specs.Prelude.{◌≡◌, codes};
-ghost use Rattle.std.specs.Option.{option_map};
-ghost use Rattle.yv_link_scopes.specs.Files.{has_word};
-ghost use Rattle.yv_link_scopes.specs.Views.{lent_in};
+ghost use Rattle.std.specs.{Prelude.{◌≡◌, codes}, Option.{option_map}};
+ghost use Rattle.yv_link_scopes.specs.{Files.{has_word}, Views.{lent_in}};
 ghost use Rattle.yv_types.specs.Referrals.{first_in, path_at, written_of};
 
 use yv_link_scopes::{Rows, name_of};

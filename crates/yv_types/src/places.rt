@@ -1,10 +1,7 @@
 //! Where type statements are.
 ghost use Rattle.std.specs.Prelude.{◌≡◌, ℕ, codes, OnOk, IfOk};
-ghost use Rattle.yv_link_scopes.specs.Rows.{row};
-ghost use Rattle.yv_link_scopes.specs.Views.{rows_in};
-ghost use Rattle.yv_link_definitions.specs.Refers.{is_type};
-ghost use Rattle.yv_link_definitions.specs.References.{number_at};
-ghost use Rattle.yv_link_definitions.specs.InnerPlaces.{keep_first};
+ghost use Rattle.yv_link_scopes.specs.{Rows.{row}, Views.{rows_in}};
+ghost use Rattle.yv_link_definitions.specs.{Refers.{is_type}, References.{number_at}, InnerPlaces.{keep_first}};
 ghost use Rattle.yv_types.specs.InnerPlaces.{placed_in};
 
 use std::alloc::{AllocError, Global};

@@ -1,8 +1,6 @@
 //! The statements by number.
-ghost use Rattle.std.specs.Prelude.{◌≡◌, slice_get};
-ghost use Rattle.std.specs.Option.{option_map};
-ghost use Rattle.yv_link_scopes.specs.Rows.{row};
-ghost use Rattle.yv_link_scopes.specs.Views.{rows_in};
+ghost use Rattle.std.specs.{Prelude.{◌≡◌, slice_get}, Option.{option_map}};
+ghost use Rattle.yv_link_scopes.specs.{Rows.{row}, Views.{rows_in}};
 
 use yv_link_scopes::{Entry, Rows};
 

@@ -1,14 +1,9 @@
 //! What names in the texts of files mean.
-ghost use Rattle.std.specs.Prelude.{◌≡◌, ℕ, map, slice_get, IfOk, OnOk};
-ghost use Rattle.std.specs.Option.{option_map};
-ghost use Rattle.yv_link_scopes.specs.Files.{brief};
-ghost use Rattle.yv_link_scopes.specs.Rows.{row};
-ghost use Rattle.yv_link_scopes.specs.Views.{files_in, lent_in, rows_in};
-ghost use Rattle.yv_link_scopes.specs.declared.kind.NameKind.TheVariants.{Prefix};
+ghost use Rattle.std.specs.{Prelude.{◌≡◌, ℕ, map, slice_get, IfOk, OnOk}, Option.{option_map}};
+ghost use Rattle.yv_link_scopes.specs.{Files.{brief}, Rows.{row}, Views.{files_in, lent_in, rows_in}, declared.kind.NameKind.TheVariants.{Prefix}};
 ghost use Rattle.yv_link_definitions.specs.Duplicates.{is_of};
 ghost use Rattle.yv_values.specs.Scopes.{place_of};
-ghost use Rattle.yv_types.specs.Scopes.{AreScopes, name_or_none, place_in};
-ghost use Rattle.yv_types.specs.InnerScopes.{add_prefix, bare, bind, declare};
+ghost use Rattle.yv_types.specs.{Scopes.{AreScopes, name_or_none, place_in}, InnerScopes.{add_prefix, bare, bind, declare}};
 
 use crate::rows::entry_at;
 use std::alloc::{AllocError, Global};

@@ -3,8 +3,7 @@ ghost use Rattle.std.specs.Prelude.{◌≡◌, IfOk};
 ghost use Rattle.yv_statement.specs.Selection.{Selected};
 ghost use Rattle.yv_link_scopes.specs.Files.{Files};
 ghost use Rattle.yv_link.specs.LinkedFiles.{AreLinked, truth_in};
-ghost use Rattle.yv_types.specs.Types.{AreLayers};
-ghost use Rattle.yv_types.specs.InnerTables.{AreNumbered, AreSpaces};
+ghost use Rattle.yv_types.specs.{Types.{AreLayers}, InnerTables.{AreNumbered, AreSpaces}};
 
 use crate::layers::Layers;
 use crate::table::{SharedTypes, no_spaces, put};

@@ -1,19 +1,13 @@
 //! The plain types of one type.
-ghost use Rattle.std.specs.Prelude.{◌≡◌, ℕ, List, [], Some, true, map, slice_get, IfOk, IfSome};
-ghost use Rattle.std.specs.Option.{option_map};
+ghost use Rattle.std.specs.{Prelude.{◌≡◌, ℕ, List, [], Some, true, map, slice_get, IfOk, IfSome}, Option.{option_map}};
 ghost use Rattle.yv_statement.specs.Selection.{Selected};
-ghost use Rattle.yv_link_scopes.specs.Files.{Files, brief_of};
-ghost use Rattle.yv_link_scopes.specs.Rows.{row};
-ghost use Rattle.yv_link_scopes.specs.RowList.{rows_of};
-ghost use Rattle.yv_type_chains.specs.Types.{RestsOn, is_kind, types_in};
+ghost use Rattle.yv_link_scopes.specs.{Files.{Files, brief_of}, Rows.{row}, RowList.{rows_of}};
+ghost use Rattle.yv_type_chains.specs.{Types.{RestsOn, is_kind, types_in}, InnerTables.{items_at}};
 ghost use Rattle.yv_type_enums.specs.TypeNames.{told_of};
 ghost use Rattle.yv_link.specs.LinkedFiles.{AreLinked, truth_in};
 ghost use Rattle.yv_values.specs.Types.{Plain, plain_of};
-ghost use Rattle.yv_type_chains.specs.InnerTables.{items_at};
 ghost use Rattle.yv_type_identities.specs.Identities.{AreIdentities};
-ghost use Rattle.yv_types.specs.Types.{AreLayers};
-ghost use Rattle.yv_types.specs.Spaces.{Space};
-ghost use Rattle.yv_types.specs.InnerTables.{AreKnown, FollowsNone, IsBare, IsListed, IsNewOrThere, IsSpace, IsUnrestricted, entry_at, entry_of, plains};
+ghost use Rattle.yv_types.specs.{Types.{AreLayers}, Spaces.{Space}, InnerTables.{AreKnown, FollowsNone, IsBare, IsListed, IsNewOrThere, IsSpace, IsUnrestricted, entry_at, entry_of, plains}};
 
 use crate::layers::Layers;
 use crate::table::{SharedTypes, join_members, list_at, one};

@@ -1,6 +1,5 @@
 //! Plain types by number.
-ghost use Rattle.std.specs.Prelude.{◌≡◌, ◌≢◌, ◌<◌, ◌⊎◌, ◌∷◌, ◌++◌, ℕ, [], None, length, map, take, IfOk, IfSome, OnOk};
-ghost use Rattle.std.specs.Option.{option_map, option_copied};
+ghost use Rattle.std.specs.{Prelude.{◌≡◌, ◌≢◌, ◌<◌, ◌⊎◌, ◌∷◌, ◌++◌, ℕ, [], None, length, map, take, IfOk, IfSome, OnOk}, Option.{option_map, option_copied}};
 ghost use Rattle.yv_values.specs.Types.{plain_of};
 ghost use Rattle.yv_types.specs.InnerTables.{entry_at, entry_of, joined_from, plains, plains_at};
 

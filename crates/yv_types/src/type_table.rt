@@ -1,16 +1,12 @@
 //! The plain types of types, and what readers ask of them.
-ghost use Rattle.std.specs.Prelude.{◌≡◌, ℕ, List, None, Some, codes, map, IfOk, IfSome};
-ghost use Rattle.std.specs.Option.{option_copied, option_map};
-ghost use Rattle.std.specs.Rc.{rc_slice_items};
+ghost use Rattle.std.specs.{Prelude.{◌≡◌, ℕ, List, None, Some, codes, map, IfOk, IfSome}, Option.{option_copied, option_map}, Rc.{rc_slice_items}};
 ghost use Rattle.yv_statement.specs.Selection.{Selected};
-ghost use Rattle.yv_link_scopes.specs.Files.{Files};
-ghost use Rattle.yv_link_scopes.specs.RowList.{rows_of};
+ghost use Rattle.yv_link_scopes.specs.{Files.{Files}, RowList.{rows_of}};
 ghost use Rattle.yv_link_definitions.specs.References.{number_at};
 ghost use Rattle.yv_type_enums.specs.Types.{Truth};
 ghost use Rattle.yv_values.specs.Types.{Plain, plain_of};
-ghost use Rattle.yv_types.specs.Spaces.{Space};
+ghost use Rattle.yv_types.specs.{Spaces.{Space}, InnerTables.{AreNumbered}};
 ghost use Rattle.yv_node_definition.specs.Definition.{written_of};
-ghost use Rattle.yv_types.specs.InnerTables.{AreNumbered};
 
 use crate::defaults::TypedefDefaults;
 use crate::leafref_path::TypeLeafref;

@@ -1,15 +1,10 @@
 //! What typedefs say of their default.
-ghost use Rattle.std.specs.Prelude.{◌≡◌, IfOk};
-ghost use Rattle.std.specs.List.{find};
-ghost use Rattle.std.specs.Option.{option_map};
+ghost use Rattle.std.specs.{Prelude.{◌≡◌, IfOk}, List.{find}, Option.{option_map}};
 ghost use Rattle.yv_statement.specs.Tree.{trees};
-ghost use Rattle.yv_link_scopes.specs.Rows.{row};
-ghost use Rattle.yv_link_scopes.specs.Views.{lent_in};
-ghost use Rattle.yv_link_scopes.specs.declared.kind.NameKind.TheVariants.{Typedef};
+ghost use Rattle.yv_link_scopes.specs.{Rows.{row}, Views.{lent_in}, declared.kind.NameKind.TheVariants.{Typedef}};
 ghost use Rattle.yv_link_definitions.specs.Duplicates.{is_of};
 ghost use Rattle.yv_node_definition.specs.Definition.{written_of};
-ghost use Rattle.yv_types.specs.Defaults.{default_in, is_default};
-ghost use Rattle.yv_types.specs.InnerDefaultTables.{AreSaid, said_at, default_of_typedef};
+ghost use Rattle.yv_types.specs.{Defaults.{default_in, is_default}, InnerDefaultTables.{AreSaid, said_at, default_of_typedef}};
 
 use crate::rows::entry_at;
 use std::alloc::{AllocError, Global};

@@ -1,7 +1,6 @@
 //! The values of defaults.
 ghost use Rattle.std.specs.Prelude.{◌≡◌, map, IfOk};
-ghost use Rattle.yv_values.specs.Types.{plain_of};
-ghost use Rattle.yv_values.specs.Scopes.{place_of};
+ghost use Rattle.yv_values.specs.{Types.{plain_of}, Scopes.{place_of}};
 ghost use Rattle.yv_types.specs.Values.{first_value};
 
 use std::alloc::{AllocError, Global};

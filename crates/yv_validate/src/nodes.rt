@@ -1,21 +1,12 @@
 //! Nodes below which the walk doesn't go.
 ghost use Rattle.std.specs.Prelude.{◌≡◌, ◌==◌, ◌&&◌, ◌∷◌, [], ◌++◌, ◌+◌, ◌<◌, List, ℕ, Option, nat_lt, length, map, false, true, Some, None, IfOk, OnOk, option_map, unwrap_or, if◌then◌else◌};
-ghost use Rattle.serde_json.specs.Data.{Members};
-ghost use Rattle.serde_json.specs.Events.{items_len};
-ghost use Rattle.serde_json.specs.View.{view, items_view};
+ghost use Rattle.serde_json.specs.{Data.{Members}, Events.{items_len}, View.{view, items_view}};
 ghost use Rattle.yv_node_definition.specs.declared.kind.NodeKind.TheVariants.{Leaf, LeafList};
 ghost use Rattle.yv_values.specs.Count.{count_up};
-ghost use Rattle.yv_nodes.specs.Defaults.{defaults_of, width};
-ghost use Rattle.yv_nodes.specs.Rows.{row_at};
-ghost use Rattle.yv_leafref_values.specs.Findings.{Finds};
-ghost use Rattle.yv_leafref_values.specs.InUse.{is_asked, is_empty_at, uses_defaults, value_of};
-ghost use Rattle.yv_leafref_values.specs.Meetings.{at_value};
-ghost use Rattle.yv_validate.specs.Faults.{anydata_faults, anyxml_faults, array_faults, choice_faults, count_faults, flaw_if, item_tuple, leaf_faults, misshapen as misshapen_faults};
-ghost use Rattle.yv_validate.specs.InnerMemory.{Remembers};
-ghost use Rattle.yv_validate.specs.InnerNotes.{default_value, Gains, GainsBy};
+ghost use Rattle.yv_nodes.specs.{Defaults.{defaults_of, width}, Rows.{row_at}};
+ghost use Rattle.yv_leafref_values.specs.{Findings.{Finds}, InUse.{is_asked, is_empty_at, uses_defaults, value_of}, Meetings.{at_value}};
+ghost use Rattle.yv_validate.specs.{Faults.{anydata_faults, anyxml_faults, array_faults, choice_faults, count_faults, flaw_if, item_tuple, leaf_faults, misshapen as misshapen_faults}, InnerMemory.{Remembers}, InnerNotes.{default_value, Gains, GainsBy}, InnerWalk.{ClosesAt, defaults_found, empty_found, Grows, GrowsAt, GrowsWithAt, items_at, leaf_at, leaf_list_at, node_at, plain_at, spot_at, progress_view, value_found, with_node, Writes, written_at}, Work.{value_work}};
 ghost use Rattle.yv_faults.specs.Trails.{places, IsWithin};
-ghost use Rattle.yv_validate.specs.InnerWalk.{ClosesAt, defaults_found, empty_found, Grows, GrowsAt, GrowsWithAt, items_at, leaf_at, leaf_list_at, node_at, plain_at, spot_at, progress_view, value_found, with_node, Writes, written_at};
-ghost use Rattle.yv_validate.specs.Work.{value_work};
 
 use crate::memory::{alone, stood_before};
 use crate::notes::Notes;

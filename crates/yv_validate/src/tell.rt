@@ -1,9 +1,8 @@
 //! Faults as they are reported, with the way to their place.
 ghost use Rattle.std.specs.Prelude.{◌≡◌, ◌&&◌, ◌∷◌, [], ◌++◌, map, OnOk};
 ghost use Rattle.yv_faults.specs.Trails.{places, IsWithin};
-ghost use Rattle.yv_leafref_values.specs.InUse.{enforces};
+ghost use Rattle.yv_leafref_values.specs.{InUse.{enforces}, Place.{under}};
 ghost use Rattle.yv_validate.specs.Faults.{flaw, flaw_if, reference_faults, repeat_faults};
-ghost use Rattle.yv_leafref_values.specs.Place.{under};
 
 use crate::walk::Walk;
 use std::alloc::AllocError;

@@ -1,25 +1,16 @@
 //! The walk over a document and its schema.
 ghost use Rattle.std.specs.Prelude.{◌≡◌, ◌==◌, ◌++◌, ◌<◌, ◌≤◌, ◌+◌, ◌*◌, ℕ, List, [], ◌∷◌, length, true, false, IfOk, IfSome, OnOk, None, Some, option_map, if◌then◌else◌};
-ghost use Rattle.serde_json.specs.Data.{Members, depth as nesting, object as an_object};
-ghost use Rattle.serde_json.specs.View.{view, items_view, members_view};
+ghost use Rattle.serde_json.specs.{Data.{Members, depth as nesting, object as an_object}, View.{view, items_view, members_view}};
 ghost use Rattle.yv_node_definition.specs.Kinds.{is_data};
 ghost use Rattle.yv_values.specs.Count.{count_up};
 ghost use Rattle.yv_nodes.specs.Rows.{row_at, rank, below, whole};
 ghost use Rattle.yv_node_keys.specs.Numbers.{default_case_at};
-ghost use Rattle.yv_schema_tables.specs.Measures.{measures_of};
-ghost use Rattle.yv_schema_tables.specs.Sound.{is_object};
-ghost use Rattle.yv_walk.specs.Context.{members_len, members_of};
-ghost use Rattle.yv_walk.specs.Existence.{any, existence_of};
-ghost use Rattle.yv_leafref_values.specs.Findings.{first_of};
-ghost use Rattle.yv_leafref_values.specs.InUse.{is_asked, is_number};
-ghost use Rattle.yv_validate.specs.Faults.{array_faults, faults as all_faults, flaw};
-ghost use Rattle.yv_validate.specs.InnerNotes.{GainsBy, HasTuples};
-ghost use Rattle.yv_quiet_nodes.specs.Quiet.{AreKnown, IsEmptied, IsPassed};
-ghost use Rattle.yv_quiet_nodes.specs.Runs.{HasRuns};
+ghost use Rattle.yv_schema_tables.specs.{Measures.{measures_of}, Sound.{is_object}};
+ghost use Rattle.yv_walk.specs.{Context.{members_len, members_of}, Existence.{any, existence_of}};
+ghost use Rattle.yv_leafref_values.specs.{Findings.{first_of}, InUse.{is_asked, is_number}};
+ghost use Rattle.yv_validate.specs.{Faults.{array_faults, faults as all_faults, flaw}, InnerNotes.{GainsBy, HasTuples}, InnerWalk.{cases_met, children_met, ClosesAt, container_at, data_met, entries_at, Grows, GrowsAt, GrowsWithAt, list_at, Meets, MeetsBelow, next_of, node_at, object_at, one_met, plain_at, scope_at, progress_view, unknowns, with_node, Writes}, Size.{size}, Work.{work}};
+ghost use Rattle.yv_quiet_nodes.specs.{Quiet.{AreKnown, IsEmptied, IsPassed}, Runs.{HasRuns}};
 ghost use Rattle.yv_faults.specs.Trails.{places, IsWithin};
-ghost use Rattle.yv_validate.specs.InnerWalk.{cases_met, children_met, ClosesAt, container_at, data_met, entries_at, Grows, GrowsAt, GrowsWithAt, list_at, Meets, MeetsBelow, next_of, node_at, object_at, one_met, plain_at, scope_at, progress_view, unknowns, with_node, Writes};
-ghost use Rattle.yv_validate.specs.Size.{size};
-ghost use Rattle.yv_validate.specs.Work.{work};
 
 use crate::laws::work_bound;
 use crate::memory::stood_before;
