@@ -1,9 +1,6 @@
 //! The first node that leads to itself, all such nodes, or else ranks that fall along each edge.
-ghost use Rattle.std.specs.Prelude.{◌≡◌, ◌==◌, ◌<◌, length, slice_index, IfOk, IfSome, IfNone};
-ghost use Rattle.std.specs.List.{All, list_any};
-ghost use Rattle.yv_base_graph.specs.Graph.{IsGraph, IsFirstOnCycle, HasNoCycle, AreOnCycles, HasRanks, AreRanks, IsOrder, ArePlaces};
-ghost use Rattle.yv_base_graph.specs.InnerPeers.{ArePeers};
-ghost use Rattle.yv_base_graph.specs.Ranks.{IfRanks, IfCycle};
+ghost use Rattle.std.specs.{Prelude.{◌≡◌, ◌==◌, ◌<◌, length, slice_index, IfOk, IfSome, IfNone}, List.{All, list_any}};
+ghost use Rattle.yv_base_graph.specs.{Graph.{IsGraph, IsFirstOnCycle, HasNoCycle, AreOnCycles, HasRanks, AreRanks, IsOrder, ArePlaces}, InnerPeers.{ArePeers}, Ranks.{IfRanks, IfCycle}};
 
 use crate::search::Search;
 use std::alloc::{AllocError, Global};

@@ -1,8 +1,6 @@
 //! The nodes that a node leads to.
-ghost use Rattle.std.specs.Prelude.{◌<◌, length, IfOk, OnOk};
-ghost use Rattle.std.specs.List.{All};
-ghost use Rattle.yv_base_graph.specs.Graph.{IsGraph, AreReached};
-ghost use Rattle.yv_base_graph.specs.InnerMarks.{MarksRow};
+ghost use Rattle.std.specs.{Prelude.{◌<◌, length, IfOk, OnOk}, List.{All}};
+ghost use Rattle.yv_base_graph.specs.{Graph.{IsGraph, AreReached}, InnerMarks.{MarksRow}};
 
 use std::alloc::{AllocError, Global};
 

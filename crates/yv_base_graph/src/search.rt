@@ -1,11 +1,7 @@
 //! A search along the edges that finds the groups of nodes that lead to one another: each node is
 //! met once, and its edges are followed one by one, by stacks in place of recursion.
-ghost use Rattle.std.specs.Prelude.{◌≡◌, ℕ, ◌-◌, ◌<◌, length, slice_index, IfOk, OnOk, IsTrue, false, map};
-ghost use Rattle.std.specs.List.{All};
-ghost use Rattle.yv_base_graph.specs.Graph.{IsGraph};
-ghost use Rattle.yv_base_graph.specs.InnerSearch.{IsSorted, Merges, Closes, Enters, Skips, Joins, Retreats, Leaves};
-ghost use Rattle.yv_base_graph.specs.InnerSearch.{IsSearch, Steps, IsIdle, IsNext, IsTop, KeepsVisited, IsVisited, IsSearched};
-ghost use Rattle.yv_base_graph.specs.InnerSearch.{is_new, state_of, rank_of};
+ghost use Rattle.std.specs.{Prelude.{◌≡◌, ℕ, ◌-◌, ◌<◌, length, slice_index, IfOk, OnOk, IsTrue, false, map}, List.{All}};
+ghost use Rattle.yv_base_graph.specs.{Graph.{IsGraph}, InnerSearch.{IsSorted, Merges, Closes, Enters, Skips, Joins, Retreats, Leaves, IsSearch, Steps, IsIdle, IsNext, IsTop, KeepsVisited, IsVisited, IsSearched, is_new, state_of, rank_of}};
 
 use std::alloc::{AllocError, Global};
 use std::marker::Model;

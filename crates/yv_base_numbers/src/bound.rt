@@ -1,9 +1,6 @@
 //! The bounds of a part of a restriction.
-ghost use Rattle.std.specs.Prelude.{◌≡◌, ◌==◌, ◌&&◌, ◌+◌, ◌<◌, ◌≤◌, length, map, option_map, reverse, slice_index, IfSome};
-ghost use Rattle.std.specs.Str.{bytes_eq};
-ghost use Rattle.yv_base_numbers.specs.Numbers.{integer};
-ghost use Rattle.yv_base_numbers.specs.RestrictedIntervals.{interval, lowest, highest};
-ghost use Rattle.yv_base_numbers.specs.Restrictions.{is_blank, behind_blanks, without_blanks, number_of, bound_of, between, dots_at, around_dots, part_of};
+ghost use Rattle.std.specs.{Prelude.{◌≡◌, ◌==◌, ◌&&◌, ◌+◌, ◌<◌, ◌≤◌, length, map, option_map, reverse, slice_index, IfSome}, Str.{bytes_eq}};
+ghost use Rattle.yv_base_numbers.specs.{Numbers.{integer}, RestrictedIntervals.{interval, lowest, highest}, Restrictions.{is_blank, behind_blanks, without_blanks, number_of, bound_of, between, dots_at, around_dots, part_of}};
 
 use crate::decimal::scaled_of;
 use crate::integer::Integer;

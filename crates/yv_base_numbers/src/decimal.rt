@@ -1,6 +1,5 @@
 //! Decimals that texts write (RFC 7950, section 9.3.1).
-ghost use Rattle.std.specs.Prelude.{◌≡◌, ◌*◌, ◌^◌, ◌==◌, ◌++◌, option_map, position};
-ghost use Rattle.std.specs.List.{list_all};
+ghost use Rattle.std.specs.{Prelude.{◌≡◌, ◌*◌, ◌^◌, ◌==◌, ◌++◌, option_map, position}, List.{list_all}};
 ghost use Rattle.yv_base_numbers.specs.Numbers.{integer, value_after, within_64_bits, scaled_value, around_point, magnitude_of, scaled_of};
 
 use crate::integer::Integer;

@@ -1,9 +1,6 @@
 //! The entries of a new enumeration or bits type, one after another.
-ghost use Rattle.std.specs.Prelude.{◌≡◌, ℕ, ℤ, List, [], Some, ◌||◌, false, is_some, IfOk, IfNone, IfSome};
-ghost use Rattle.std.specs.BTreeSet.{contains};
-ghost use Rattle.std.specs.Ordering.{int_cmp};
-ghost use Rattle.yv_base_numbers.specs.InnerEarlierEntries.{Adds, Keeps, number_behind};
-ghost use Rattle.yv_base_numbers.specs.Numberings.{number_in, is_taken, higher, next_number, pair_of, number_entries, is_number, is_wrong, IsFirstWrong, table_of};
+ghost use Rattle.std.specs.{Prelude.{◌≡◌, ℕ, ℤ, List, [], Some, ◌||◌, false, is_some, IfOk, IfNone, IfSome}, BTreeSet.{contains}, Ordering.{int_cmp}};
+ghost use Rattle.yv_base_numbers.specs.{InnerEarlierEntries.{Adds, Keeps, number_behind}, Numberings.{number_in, is_taken, higher, next_number, pair_of, number_entries, is_number, is_wrong, IsFirstWrong, table_of}};
 
 use crate::numbering::{ListedEntry, NumberKind, NumberedEntries, Numbering, first_with};
 use crate::stated_numbers::whole_number;

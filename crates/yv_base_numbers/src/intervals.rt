@@ -1,8 +1,6 @@
 //! The intervals of a type's numbers.
-ghost use Rattle.std.specs.Prelude.{◌≡◌, true, false, map, IfOk, IfSome, IfNone};
-ghost use Rattle.std.specs.Rc.{rc_slice_items};
-ghost use Rattle.yv_base_numbers.specs.Intervals.{interval, ascend, are_among};
-ghost use Rattle.yv_base_numbers.specs.Numbers.{integer};
+ghost use Rattle.std.specs.{Prelude.{◌≡◌, true, false, map, IfOk, IfSome, IfNone}, Rc.{rc_slice_items}};
+ghost use Rattle.yv_base_numbers.specs.{Intervals.{interval, ascend, are_among}, Numbers.{integer}};
 
 use crate::integer::Integer;
 use crate::order::{are_among, ascend};
@@ -27,8 +25,7 @@ pub struct Intervals {
 }
 
 impl Model for Intervals {
-    ghost use Rattle.std.specs.Prelude.{◌≡◌, List, map, true};
-    ghost use Rattle.std.specs.Rc.{rc_slice_items};
+    ghost use Rattle.std.specs.{Prelude.{◌≡◌, List, map, true}, Rc.{rc_slice_items}};
     ghost use Rattle.yv_base_numbers.specs.Intervals.{Interval, interval, ascend};
 
     ghost Value = { List Interval };

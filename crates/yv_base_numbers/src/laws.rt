@@ -1,7 +1,6 @@
 //! What the readers of numbers answer, by grammar and place value: laws about the definitions only.
 ghost use Rattle.std.specs.Prelude.{◌≡◌, ◌≤◌, ◌↔◌, ℕ, ℤ, List, Some};
-ghost use Rattle.yv_base_numbers.specs.Numbers.{natural_of, integer_of, based_integer_of, scaled_of};
-ghost use Rattle.yv_base_numbers.specs.Numerals.{IsNumeral, IsInteger, IsBasedInteger, IsDecimal, Within64Bits};
+ghost use Rattle.yv_base_numbers.specs.{Numbers.{natural_of, integer_of, based_integer_of, scaled_of}, Numerals.{IsNumeral, IsInteger, IsBasedInteger, IsDecimal, Within64Bits}};
 
 /// Digits of a radix are read as the number that their numeral writes, and nothing else is read.
 pub fn naturals_are_written()

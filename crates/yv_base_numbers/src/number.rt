@@ -1,7 +1,5 @@
 //! Whole numbers that texts write (RFC 7950, section 9.2.1).
-ghost use Rattle.std.specs.Prelude.{◌≡◌, ◌≤◌, ◌+◌, ◌*◌, option_map};
-ghost use Rattle.std.specs.List.{list_all};
-ghost use Rattle.std.specs.Str.Parse.{without_leading_sign, starts_with_minus};
+ghost use Rattle.std.specs.{Prelude.{◌≡◌, ◌≤◌, ◌+◌, ◌*◌, option_map}, List.{list_all}, Str.Parse.{without_leading_sign, starts_with_minus}};
 ghost use Rattle.yv_base_numbers.specs.Numbers.{integer, digit_of, is_digit, is_numeral, value_after, within_64_bits, natural_of, integer_of, zero_led, based_of, based_integer_of, with_sign};
 
 use crate::integer::Integer;

@@ -1,7 +1,6 @@
 //! The numbers of the names of enumerations and bits.
 ghost use Rattle.std.specs.Prelude.{◌≡◌, ℕ, List, None, Some, is_some, IfOk};
-ghost use Rattle.yv_base_numbers.specs.InnerEarlierEntries.{Adds, Gives, Tells, first_with};
-ghost use Rattle.yv_base_numbers.specs.Numberings.{Pair, number_in, keep_numbers, is_wrong_in, pair_in, IsFirstWrong, table_of};
+ghost use Rattle.yv_base_numbers.specs.{InnerEarlierEntries.{Adds, Gives, Tells, first_with}, Numberings.{Pair, number_in, keep_numbers, is_wrong_in, pair_in, IsFirstWrong, table_of}};
 
 use crate::stated_numbers::agrees;
 use std::alloc::{AllocError, Global};

@@ -1,7 +1,6 @@
 //! The order of intervals.
 ghost use Rattle.std.specs.Prelude.{◌≡◌, true, map};
-ghost use Rattle.yv_base_numbers.specs.Intervals.{interval, ends_below, ascend, are_among};
-ghost use Rattle.yv_base_numbers.specs.Numbers.{integer};
+ghost use Rattle.yv_base_numbers.specs.{Intervals.{interval, ends_below, ascend, are_among}, Numbers.{integer}};
 
 use crate::integer::{Integer, is_at_most};
 use crate::intervals::Span;

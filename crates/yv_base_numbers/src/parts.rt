@@ -1,9 +1,6 @@
 //! The parts of a restriction's text.
-ghost use Rattle.std.specs.Prelude.{◌≡◌, ◌==◌, map, option_map, IfOk};
-ghost use Rattle.std.specs.List.{slice_split};
-ghost use Rattle.yv_base_numbers.specs.RestrictedIntervals.{interval};
-ghost use Rattle.yv_base_numbers.specs.InnerParts.{all_of};
-ghost use Rattle.yv_base_numbers.specs.Restrictions.{part_of};
+ghost use Rattle.std.specs.{Prelude.{◌≡◌, ◌==◌, map, option_map, IfOk}, List.{slice_split}};
+ghost use Rattle.yv_base_numbers.specs.{RestrictedIntervals.{interval}, InnerParts.{all_of}, Restrictions.{part_of}};
 
 use crate::bound::part_of;
 use crate::intervals::Span;

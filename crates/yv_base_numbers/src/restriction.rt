@@ -1,7 +1,6 @@
 //! Restrictions by `range` and by `length`.
 ghost use Rattle.std.specs.Prelude.{◌≡◌, List, map, true, false, ◌&&◌, IfOk, IfSome, IfNone};
-ghost use Rattle.yv_base_numbers.specs.RestrictedIntervals.{Interval, interval, ascend, lie_within};
-ghost use Rattle.yv_base_numbers.specs.Restrictions.{Restricts};
+ghost use Rattle.yv_base_numbers.specs.{RestrictedIntervals.{Interval, interval, ascend, lie_within}, Restrictions.{Restricts}};
 
 use crate::intervals::{Intervals, Span};
 use crate::parts::{intervals_of, pieces};

@@ -1,10 +1,6 @@
 //! That entries have the numbers that the RFC assigns: laws about the definitions only.
 ghost use Rattle.std.specs.Prelude.{◌≡◌, ◌↔◌, ℕ, ℤ, List, Option, Some, None, map};
-ghost use Rattle.yv_base_numbers.specs.Numerals.{HasSign, IsNumeral};
-ghost use Rattle.yv_base_numbers.specs.Assignment.{AreKept, AreNumbers, names_of};
-ghost use Rattle.yv_base_numbers.specs.Entries.{Entry, whole_number};
-ghost use Rattle.yv_base_numbers.specs.Numberings.{IsFirstWrong, is_wrong, is_wrong_in, keep_numbers, number_entries};
-ghost use Rattle.yv_base_numbers.specs.declared.numbering.NumberKind.{NumberKind};
+ghost use Rattle.yv_base_numbers.specs.{Numerals.{HasSign, IsNumeral}, Assignment.{AreKept, AreNumbers, names_of}, Entries.{Entry, whole_number}, Numberings.{IsFirstWrong, is_wrong, is_wrong_in, keep_numbers, number_entries}, declared.numbering.NumberKind.{NumberKind}};
 
 /// No entry of a new type is wrong exactly where all have the numbers that are assigned to them,
 /// and then each name gets just this number.

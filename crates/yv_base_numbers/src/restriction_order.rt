@@ -1,6 +1,5 @@
 //! Which intervals lie within others.
-ghost use Rattle.std.specs.Prelude.{◌≡◌, true, map, int_le, [], ◌++◌, ◌∷◌, IfSome, IfNone};
-ghost use Rattle.std.specs.List.{list_any};
+ghost use Rattle.std.specs.{Prelude.{◌≡◌, true, map, int_le, [], ◌++◌, ◌∷◌, IfSome, IfNone}, List.{list_any}};
 ghost use Rattle.yv_base_numbers.specs.RestrictedIntervals.{interval, ascend, lies_in, lie_within};
 
 use crate::integer::is_at_most;

@@ -1,10 +1,6 @@
 //! The numbers that entries state.
-ghost use Rattle.std.specs.Prelude.{◌≡◌, ℤ, Some, false, IfNone, IfSome};
-ghost use Rattle.std.specs.Option.{option_map};
-ghost use Rattle.yv_base_numbers.specs.Numbers.{integer};
-ghost use Rattle.yv_base_numbers.specs.Entries.{stated_number, whole_number};
-ghost use Rattle.yv_base_numbers.specs.InnerStatedNumbers.{fits, number_in_range};
-ghost use Rattle.yv_base_numbers.specs.Numberings.{agrees};
+ghost use Rattle.std.specs.{Prelude.{◌≡◌, ℤ, Some, false, IfNone, IfSome}, Option.{option_map}};
+ghost use Rattle.yv_base_numbers.specs.{Numbers.{integer}, Entries.{stated_number, whole_number}, InnerStatedNumbers.{fits, number_in_range}, Numberings.{agrees}};
 
 use crate::integer::Integer;
 use crate::number::integer_of;

@@ -1,8 +1,6 @@
 //! Numbers by place.
-ghost use Rattle.std.specs.Prelude.{◌≡◌, ◌≤◌, [], length, slice_index_or, IfOk};
-ghost use Rattle.std.specs.List.{slice_range};
-ghost use Rattle.yv_base_tables.specs.Families.{by_place};
-ghost use Rattle.yv_base_tables.specs.InnerParts.{start_of};
+ghost use Rattle.std.specs.{Prelude.{◌≡◌, ◌≤◌, [], length, slice_index_or, IfOk}, List.{slice_range}};
+ghost use Rattle.yv_base_tables.specs.{Families.{by_place}, InnerParts.{start_of}};
 
 use crate::chains::Chains;
 use std::alloc::{AllocError, Global};

@@ -1,7 +1,6 @@
 //! Different paths as a tree.
 ghost use Rattle.std.specs.Prelude.{◌≡◌, ◌<◌, ◌≤◌, ◌+◌, ◌∷◌, ◌++◌, ℕ, [], List, Some, length, slice_get, IfOk, IfSome, MatchResult, OnErr, OnOk};
-ghost use Rattle.yv_base_tables.specs.Fronts.{GoesOn, IsReached, StandsIn};
-ghost use Rattle.yv_base_tables.specs.InnerTree.{HasRoom, branches_in};
+ghost use Rattle.yv_base_tables.specs.{Fronts.{GoesOn, IsReached, StandsIn}, InnerTree.{HasRoom, branches_in}};
 
 use std::alloc::{AllocError, Global};
 use std::collections::BTreeMap;

@@ -1,8 +1,6 @@
 //! What holds of the paths of each tree.
 ghost use Rattle.std.specs.Prelude.{ℕ, List};
-ghost use Rattle.yv_base_tables.specs.Fronts.{HaveFronts};
-ghost use Rattle.yv_base_tables.specs.InnerTree.{IsPathTree};
-ghost use Rattle.yv_base_tables.specs.declared.path_tree.PathTree.{PathTree};
+ghost use Rattle.yv_base_tables.specs.{Fronts.{HaveFronts}, InnerTree.{IsPathTree}, declared.path_tree.PathTree.{PathTree}};
 
 /// Only the first path of a tree has no step; each other one is one of its paths and one more step.
 pub fn paths_have_fronts()

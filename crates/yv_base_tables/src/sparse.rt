@@ -1,6 +1,5 @@
 //! Values at some of many places.
-ghost use Rattle.std.specs.Prelude.{◌≡◌, ℕ, IfOk};
-ghost use Rattle.std.specs.Option.{option_copied};
+ghost use Rattle.std.specs.{Prelude.{◌≡◌, ℕ, IfOk}, Option.{option_copied}};
 
 use std::alloc::{AllocError, Global};
 use std::collections::BTreeMap;

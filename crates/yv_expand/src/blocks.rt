@@ -1,12 +1,8 @@
 //! What is below items.
-ghost use Rattle.std.specs.Prelude.{◌≡◌, ◌<◌, ◌≤◌, ◌+◌, ◌++◌, ◌∷◌, [], ℕ, List, reverse, length, slice_get, vec_capacity, IfOk, OnErr, OnOk};
-ghost use Rattle.std.specs.List.{flat_map};
+ghost use Rattle.std.specs.{Prelude.{◌≡◌, ◌<◌, ◌≤◌, ◌+◌, ◌++◌, ◌∷◌, [], ℕ, List, reverse, length, slice_get, vec_capacity, IfOk, OnErr, OnOk}, List.{flat_map}};
 ghost use Rattle.yv_link_scopes.specs.Views.{lent_in, files_in, rows_in};
 ghost use Rattle.yv_link_definitions.specs.Meanings.{AreNames};
-ghost use Rattle.yv_expand.specs.declared.origin.Origin.{Origin};
-ghost use Rattle.yv_expand.specs.declared.origin.Origin.TheVariants.{Statement, Input, Output};
-ghost use Rattle.yv_expand.specs.StatementBlocks.{is_at, is_operation, part};
-ghost use Rattle.yv_expand.specs.InnerItems.{AreBlocks, StandBelow, items_below, numbers_at, origins};
+ghost use Rattle.yv_expand.specs.{declared.origin.Origin.{Origin}, declared.origin.Origin.TheVariants.{Statement, Input, Output}, StatementBlocks.{is_at, is_operation, part}, InnerItems.{AreBlocks, StandBelow, items_below, numbers_at, origins}};
 
 use crate::item::Item;
 use crate::lists::{WantedFiles, numbers_at, of_blocks};

@@ -2,8 +2,7 @@
 ghost use Rattle.std.specs.Prelude.{◌≡◌, ◌≤◌, ◌<◌, ◌+◌, ◌++◌, ◌⊎◌, ℕ, [], None, length, vec_capacity, OnErr, OnOk};
 ghost use Rattle.yv_link_scopes.specs.Views.{lent_in, files_in, rows_in};
 ghost use Rattle.yv_link_definitions.specs.Meanings.{AreNames};
-ghost use Rattle.yv_expand.specs.Tree.{Tree, count, item_list};
-ghost use Rattle.yv_expand.specs.InnerItems.{AreBlocks, Give, origins};
+ghost use Rattle.yv_expand.specs.{Tree.{Tree, count, item_list}, InnerItems.{AreBlocks, Give, origins}};
 
 use crate::blocks::Blocks;
 use crate::expansion::Expansion;

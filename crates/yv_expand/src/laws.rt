@@ -1,13 +1,7 @@
 //! Laws about the definitions only. These functions do nothing: the contract of each is the law.
 ghost use Rattle.std.specs.Prelude.{◌≡◌, ◌≤◌, ◌<◌, ℕ, All, Bool, List, Some, length, map, slice_get};
-ghost use Rattle.yv_link_scopes.specs.Files.{Briefs, Files, brief_of};
-ghost use Rattle.yv_link_scopes.specs.Rows.{Row};
-ghost use Rattle.yv_link_scopes.specs.RowList.{rows_of};
-ghost use Rattle.yv_expand.specs.StatementBlocks.{given_before};
-ghost use Rattle.yv_expand.specs.Weigh.{Weigh};
-ghost use Rattle.yv_expand.specs.Tree.{Item, Tree, count};
-ghost use Rattle.yv_expand.specs.Expands.{Expands};
-ghost use Rattle.yv_expand.specs.Expansion.{IsWhole};
+ghost use Rattle.yv_link_scopes.specs.{Files.{Briefs, Files, brief_of}, Rows.{Row}, RowList.{rows_of}};
+ghost use Rattle.yv_expand.specs.{StatementBlocks.{given_before}, Weigh.{Weigh}, Tree.{Item, Tree, count}, Expands.{Expands}, Expansion.{IsWhole}};
 
 use crate::origin::Origin;
 

@@ -1,8 +1,6 @@
 //! Statements by the block or by the file that contains them.
-ghost use Rattle.std.specs.Prelude.{◌≡◌, false, length, if◌then◌else◌, slice_index_or, IfOk};
-ghost use Rattle.std.specs.List.{flat_map};
-ghost use Rattle.yv_link_scopes.specs.Rows.{row};
-ghost use Rattle.yv_link_scopes.specs.Views.{files_in, rows_in};
+ghost use Rattle.std.specs.{Prelude.{◌≡◌, false, length, if◌then◌else◌, slice_index_or, IfOk}, List.{flat_map}};
+ghost use Rattle.yv_link_scopes.specs.{Rows.{row}, Views.{files_in, rows_in}};
 ghost use Rattle.yv_expand.specs.InnerItems.{AreEmpty, ArePlaced, block_place, is_wanted, top_place, numbers_at, top_at, tops_before};
 
 use crate::own::is_node_or_uses;

@@ -1,9 +1,7 @@
 //! Which statements are items.
 ghost use Rattle.std.specs.Prelude.{◌≡◌};
 ghost use Rattle.yv_link_scopes.specs.Rows.{row};
-ghost use Rattle.yv_expand.specs.Units.{nodes, operations};
-ghost use Rattle.yv_expand.specs.StatementBlocks.{is_node_or_uses, is_operation};
-ghost use Rattle.yv_expand.specs.InnerKeywords.{may_count};
+ghost use Rattle.yv_expand.specs.{Units.{nodes, operations}, StatementBlocks.{is_node_or_uses, is_operation}, InnerKeywords.{may_count}};
 
 use yv_link_scopes::Entry;
 use yv_statement::{Keyword, is_among};

@@ -1,8 +1,6 @@
 //! From each statement to those whose units it takes.
-ghost use Rattle.std.specs.Prelude.{◌≡◌, ◌↔◌, ◌<◌, ℕ, Some, length, slice_get, IfOk, IfSome};
-ghost use Rattle.std.specs.List.{All};
-ghost use Rattle.yv_link_scopes.specs.Rows.{row};
-ghost use Rattle.yv_link_scopes.specs.Views.{lent_in, files_in, rows_in};
+ghost use Rattle.std.specs.{Prelude.{◌≡◌, ◌↔◌, ◌<◌, ℕ, Some, length, slice_get, IfOk, IfSome}, List.{All}};
+ghost use Rattle.yv_link_scopes.specs.{Rows.{row}, Views.{lent_in, files_in, rows_in}};
 ghost use Rattle.yv_base_graph.specs.Graph.{IsGraph, IsOrder, HasNoCycle};
 ghost use Rattle.yv_link_definitions.specs.Meanings.{AreNames};
 ghost use Rattle.yv_expand.specs.InnerSteps.{IsUsed, AreSteps};

@@ -1,14 +1,8 @@
 //! How many units each statement takes.
 ghost use Rattle.std.specs.Prelude.{◌≡◌, ◌<◌, ℕ, List, length, map, slice_get, IfOk, Some};
-ghost use Rattle.yv_link_scopes.specs.Files.{Briefs, Files, brief_of};
-ghost use Rattle.yv_link_scopes.specs.Rows.{Row, row};
-ghost use Rattle.yv_link_scopes.specs.RowList.{rows_of};
-ghost use Rattle.yv_link_scopes.specs.Views.{lent_in, files_in, rows_in};
+ghost use Rattle.yv_link_scopes.specs.{Files.{Briefs, Files, brief_of}, Rows.{Row, row}, RowList.{rows_of}, Views.{lent_in, files_in, rows_in}};
 ghost use Rattle.yv_link_definitions.specs.Meanings.{AreNames};
-ghost use Rattle.yv_expand.specs.Units.{saturate};
-ghost use Rattle.yv_expand.specs.Weigh.{Weighs};
-ghost use Rattle.yv_expand.specs.Results.{AreUnits, AreWeights};
-ghost use Rattle.yv_expand.specs.InnerSteps.{AreSettled, IsSettled};
+ghost use Rattle.yv_expand.specs.{Units.{saturate}, Weigh.{Weighs}, Results.{AreUnits, AreWeights}, InnerSteps.{AreSettled, IsSettled}};
 
 use crate::steps::{order, steps};
 use crate::unit_keywords::own_units;

@@ -1,13 +1,9 @@
 //! The expansion of files.
 ghost use Rattle.std.specs.Prelude.{◌≡◌, ◌≢◌, ◌<◌, ℕ, All, length, slice_get, None, Some, Err, IfOk, OnOk};
-ghost use Rattle.yv_statement.specs.Order.{IsLeast};
-ghost use Rattle.yv_statement.specs.declared.refusal.Refusal.{Refusal};
-ghost use Rattle.yv_statement.specs.declared.refusal.Stop.TheVariants.{Fault, PatternBuild};
+ghost use Rattle.yv_statement.specs.{Order.{IsLeast}, declared.refusal.Refusal.{Refusal}, declared.refusal.Stop.TheVariants.{Fault, PatternBuild}};
 ghost use Rattle.yv_link_scopes.specs.Views.{files_in, lent_in, rows_in};
 ghost use Rattle.yv_link_definitions.specs.Meanings.{AreNames};
-ghost use Rattle.yv_expand.specs.Limit.{Fits, TooMany};
-ghost use Rattle.yv_expand.specs.Expansion.{IsWhole};
-ghost use Rattle.yv_expand.specs.StatementBlocks.{augments_of};
+ghost use Rattle.yv_expand.specs.{Limit.{Fits, TooMany}, Expansion.{IsWhole}, StatementBlocks.{augments_of}};
 
 use crate::blocks::Blocks;
 use crate::expansion::Expansion;

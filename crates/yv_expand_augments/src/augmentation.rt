@@ -1,28 +1,12 @@
 //! Where items are once all augments are applied.
 ghost use Rattle.std.specs.Prelude.{◌≡◌, ◌≤◌, ◌<◌, ◌==◌, ◌+◌, ◌^◌, ◌&&◌, not, ℕ, List, [], length, map, None, replicate, set, slice_index_or, IfOk, OnOk};
-ghost use Rattle.yv_statement.specs.Order.{IsLeast};
-ghost use Rattle.yv_statement.specs.declared.refusal.Code.TheVariants.{AugmentTarget};
-ghost use Rattle.yv_link_scopes.specs.Files.{Briefs};
-ghost use Rattle.yv_link_scopes.specs.Rows.{Row};
-ghost use Rattle.yv_link_scopes.specs.Views.{files_in, rows_in};
+ghost use Rattle.yv_statement.specs.{Order.{IsLeast}, declared.refusal.Code.TheVariants.{AugmentTarget}};
+ghost use Rattle.yv_link_scopes.specs.{Files.{Briefs}, Rows.{Row}, Views.{files_in, rows_in}};
 ghost use Rattle.yv_expand.specs.Tree.{Item};
-ghost use Rattle.yv_expand_rounds.specs.declared.label.Label.{Label};
-ghost use Rattle.yv_expand_rounds.specs.Groups.{group_of_augment, members_of};
-ghost use Rattle.yv_expand_rounds.specs.Turns.{State, target_of};
-ghost use Rattle.yv_expand_rounds.specs.InnerState.{IsAugmentation};
-ghost use Rattle.yv_expand_augments.specs.Augmentation.{copy_turn, last_of, placement, turns};
-ghost use Rattle.yv_expand_uses.specs.Paths.{module_paths, path_in};
-ghost use Rattle.yv_expand_uses.specs.Spots.{Whole, copies_of, labels_of, layout_of, whole};
-ghost use Rattle.yv_expand_augments.specs.Refusals.{RefusesIf};
-ghost use Rattle.yv_expand_rounds.specs.Kinds.{is_uses};
-ghost use Rattle.yv_expand_augments.specs.FinalItems.{AreAugmentedItems, AreAugmentedTree};
-ghost use Rattle.yv_expand_augments.specs.MissingTargets.{MissesAt, MissesOf, next_number};
-ghost use Rattle.yv_expand_uses.specs.AugmentOrder.{augments_in};
-ghost use Rattle.yv_expand_augments.specs.RefineMeanings.{refine_meanings};
+ghost use Rattle.yv_expand_rounds.specs.{declared.label.Label.{Label}, Groups.{group_of_augment, members_of}, Turns.{State, target_of}, InnerState.{IsAugmentation}, Kinds.{is_uses}};
+ghost use Rattle.yv_expand_augments.specs.{Augmentation.{copy_turn, last_of, placement, turns}, Refusals.{RefusesIf}, FinalItems.{AreAugmentedItems, AreAugmentedTree}, MissingTargets.{MissesAt, MissesOf, next_number}, RefineMeanings.{refine_meanings}, InnerSchedule.{AreOrdered, AreSchedules, IsReady, IsStretch, MissesBetween, MissesIdle, added_to}};
+ghost use Rattle.yv_expand_uses.specs.{Paths.{module_paths, path_in}, Spots.{Whole, copies_of, labels_of, layout_of, whole}, AugmentOrder.{augments_in}, InnerPlan.{IsPlan, whole_in}, InnerLayout.{AreLaid, IsNumbered, laid_in}};
 ghost use Rattle.yv_expand_refines.specs.Targets.{all_meant};
-ghost use Rattle.yv_expand_uses.specs.InnerPlan.{IsPlan, whole_in};
-ghost use Rattle.yv_expand_uses.specs.InnerLayout.{AreLaid, IsNumbered, laid_in};
-ghost use Rattle.yv_expand_augments.specs.InnerSchedule.{AreOrdered, AreSchedules, IsReady, IsStretch, MissesBetween, MissesIdle, added_to};
 
 use crate::final_tree::AugmentedTree;
 use crate::refusals::{is_absent, refused_at};

@@ -3,9 +3,8 @@ ghost use Rattle.std.specs.Prelude.{◌≡◌, List, None, slice_index_or};
 ghost use Rattle.yv_statement.specs.Order.{IsLeast};
 ghost use Rattle.yv_expand.specs.Tree.{Item};
 ghost use Rattle.yv_expand_rounds.specs.Turns.{State};
-ghost use Rattle.yv_expand_augments.specs.FinalItems.{AreAugmentedTree};
+ghost use Rattle.yv_expand_augments.specs.{FinalItems.{AreAugmentedTree}, MissingTargets.{MissesTarget}};
 ghost use Rattle.yv_expand_uses.specs.Spots.{Whole};
-ghost use Rattle.yv_expand_augments.specs.MissingTargets.{MissesTarget};
 
 use yv_expand_refines::Refinements;
 use yv_expand_rounds::ItemRow;

@@ -1,13 +1,9 @@
 //! Laws about the definitions only. These functions do nothing: the contract of each is the law.
 ghost use Rattle.std.specs.Prelude.{◌≡◌, ◌<◌, ℕ, List, None, Some, length, slice_get};
 ghost use Rattle.yv_expand.specs.Tree.{Item};
-ghost use Rattle.yv_expand_rounds.specs.Placements.{StandOnce};
-ghost use Rattle.yv_expand_rounds.specs.Tree.{IsTree, Tree, tree_list};
-ghost use Rattle.yv_expand_rounds.specs.Turns.{State, target_of};
-ghost use Rattle.yv_expand_rounds.specs.declared.row.ItemRow.{ItemRow};
+ghost use Rattle.yv_expand_rounds.specs.{Placements.{StandOnce}, Tree.{IsTree, Tree, tree_list}, Turns.{State, target_of}, declared.row.ItemRow.{ItemRow}};
 ghost use Rattle.yv_expand_augments.specs.Augmentation.{AreAugmented};
-ghost use Rattle.yv_expand_uses.specs.Spots.{Whole, copy_group, labels_of, layout_of};
-ghost use Rattle.yv_expand_uses.specs.declared.spot.Spot.{Spot};
+ghost use Rattle.yv_expand_uses.specs.{Spots.{Whole, copy_group, labels_of, layout_of}, declared.spot.Spot.{Spot}};
 
 /// Applying augments leads to one state.
 pub fn augments_come_to_one()

@@ -1,14 +1,10 @@
 //! Augments of modules that add mandatory nodes to nodes of other modules.
-ghost use Rattle.std.specs.Prelude.{◌≡◌, ◌<◌, ◌+◌, ◌^◌, ◌==◌, ◌&&◌, ◌||◌, not, ℕ, length, if◌then◌else◌, slice_get, slice_index_or, IfOk, OnOk, None};
-ghost use Rattle.std.specs.Option.{unwrap_or};
+ghost use Rattle.std.specs.{Prelude.{◌≡◌, ◌<◌, ◌+◌, ◌^◌, ◌==◌, ◌&&◌, ◌||◌, not, ℕ, length, if◌then◌else◌, slice_get, slice_index_or, IfOk, OnOk, None}, Option.{unwrap_or}};
 ghost use Rattle.yv_statement.specs.Order.{IsLeast};
 ghost use Rattle.yv_link_scopes.specs.Views.{rows_in};
-ghost use Rattle.yv_expand_rounds.specs.Tree.{Tree, tree_list};
-ghost use Rattle.yv_expand_augments.specs.MandatoryNodes.{ImposesMandatory, source_of, inside, is_configuration, is_container_without, is_given, is_mandatory, is_some_operation, nothing_around, told_in};
-ghost use Rattle.yv_expand_rounds.specs.Kinds.{is_container, is_operation_or_notification};
-ghost use Rattle.yv_expand_augments.specs.InnerMandatoryNodes.{AreShallow, around_marks, configuration_marks, counts, enter, mandatory_refusal, is_mandatory_added, meet};
-ghost use Rattle.yv_expand_uses.specs.On.{is_marked};
-ghost use Rattle.yv_expand_uses.specs.Spots.{spot_at};
+ghost use Rattle.yv_expand_rounds.specs.{Tree.{Tree, tree_list}, Kinds.{is_container, is_operation_or_notification}};
+ghost use Rattle.yv_expand_augments.specs.{MandatoryNodes.{ImposesMandatory, source_of, inside, is_configuration, is_container_without, is_given, is_mandatory, is_some_operation, nothing_around, told_in}, InnerMandatoryNodes.{AreShallow, around_marks, configuration_marks, counts, enter, mandatory_refusal, is_mandatory_added, meet}};
+ghost use Rattle.yv_expand_uses.specs.{On.{is_marked}, Spots.{spot_at}};
 
 use crate::placement::refusal_of_augment;
 use std::alloc::{AllocError, Global};

@@ -2,8 +2,7 @@
 ghost use Rattle.std.specs.Prelude.{◌≡◌, slice_get};
 ghost use Rattle.yv_statement.specs.Order.{IsLeast};
 ghost use Rattle.yv_link_scopes.specs.Views.{rows_in};
-ghost use Rattle.yv_expand_augments.specs.InnerPlacement.{placement_refusal, refusal_of_augment};
-ghost use Rattle.yv_expand_augments.specs.Placement.{PutsMisplaced, augment_around, augment_at};
+ghost use Rattle.yv_expand_augments.specs.{InnerPlacement.{placement_refusal, refusal_of_augment}, Placement.{PutsMisplaced, augment_around, augment_at}};
 ghost use Rattle.yv_expand_rounds.specs.Kinds.{is_action_or_notification, is_case, is_data, is_part, takes};
 ghost use Rattle.yv_expand_uses.specs.Spots.{spot_at};
 

@@ -1,13 +1,10 @@
 //! What is wrong with the augments of modules, and with the final tree.
 ghost use Rattle.std.specs.Prelude.{◌≡◌, List, Some, slice_get};
-ghost use Rattle.yv_statement.specs.Order.{IsLeast};
-ghost use Rattle.yv_statement.specs.declared.refusal.Code.TheVariants.{AugmentTarget};
+ghost use Rattle.yv_statement.specs.{Order.{IsLeast}, declared.refusal.Code.TheVariants.{AugmentTarget}};
 ghost use Rattle.yv_link_scopes.specs.Views.{rows_in};
 ghost use Rattle.yv_expand.specs.Tree.{Item};
 ghost use Rattle.yv_expand_rounds.specs.Turns.{State};
-ghost use Rattle.yv_expand_augments.specs.Refusals.{BadTarget, HasNoTarget, RefusesIf, TooDeep};
-ghost use Rattle.yv_expand_augments.specs.InnerRefusals.{depth_refusal, is_absent, refusal_of_row};
-ghost use Rattle.yv_expand_augments.specs.FinalItems.{AreAugmentedItems};
+ghost use Rattle.yv_expand_augments.specs.{Refusals.{BadTarget, HasNoTarget, RefusesIf, TooDeep}, InnerRefusals.{depth_refusal, is_absent, refusal_of_row}, FinalItems.{AreAugmentedItems}};
 ghost use Rattle.yv_expand_uses.specs.Spots.{Whole};
 
 use crate::augmentation::AugmentedItems;

@@ -1,8 +1,7 @@
 //! What is left of the final tree.
 ghost use Rattle.std.specs.Prelude.{◌≡◌, ◌++◌, ◌&&◌, not, None, slice_get, IfOk, OnOk};
 ghost use Rattle.yv_expand_rounds.specs.Tree.{Tree, tree_list};
-ghost use Rattle.yv_expand_augments.specs.Remains.{is_left, is_some_uses, remains};
-ghost use Rattle.yv_expand_augments.specs.InnerRemains.{cut_after, is_below, is_left_under, one_if, scan};
+ghost use Rattle.yv_expand_augments.specs.{Remains.{is_left, is_some_uses, remains}, InnerRemains.{cut_after, is_below, is_left_under, one_if, scan}};
 
 use std::alloc::{AllocError, Global};
 use yv_expand_rounds::ItemRow;

@@ -1,14 +1,9 @@
 //! The augments of `uses` statements in order, worked out once for all copies of a `uses` in one
 //! module.
-ghost use Rattle.std.specs.Prelude.{◌≡◌, ◌<◌, ◌+◌, ℕ, true, Some, length, slice_get, IfOk, OnOk};
-ghost use Rattle.std.specs.BTreeMap.{get};
-ghost use Rattle.std.specs.Ordering.{nat_cmp};
-ghost use Rattle.yv_statement.specs.Order.{IsUpTo};
-ghost use Rattle.yv_statement.specs.declared.refusal.Refusal.{Refusal};
+ghost use Rattle.std.specs.{Prelude.{◌≡◌, ◌<◌, ◌+◌, ℕ, true, Some, length, slice_get, IfOk, OnOk}, BTreeMap.{get}, Ordering.{nat_cmp}};
+ghost use Rattle.yv_statement.specs.{Order.{IsUpTo}, declared.refusal.Refusal.{Refusal}};
 ghost use Rattle.yv_link_scopes.specs.Views.{rows_in};
-ghost use Rattle.yv_expand_uses.specs.Spots.{Whole};
-ghost use Rattle.yv_expand_uses.specs.AugmentOrder.{augments_in};
-ghost use Rattle.yv_expand_uses.specs.InnerPlan.{IsPlan, whole_in};
+ghost use Rattle.yv_expand_uses.specs.{Spots.{Whole}, AugmentOrder.{augments_in}, InnerPlan.{IsPlan, whole_in}};
 ghost use Rattle.yv_expand_augments.specs.InnerSchedule.{AreSchedules, AreStretches, IsGathering, IsRefusalOf, IsSchedule, stretches_in};
 
 use std::alloc::{AllocError, Global};

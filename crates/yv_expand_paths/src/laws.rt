@@ -1,12 +1,7 @@
 //! Laws about the definitions only.
-ghost use Rattle.std.specs.Prelude.{◌≡◌, ◌<◌, ◌≤◌, ◌+◌, ◌↔◌, ℕ, List, Some, codes, length};
-ghost use Rattle.std.specs.Option.{option_map};
-ghost use Rattle.yv_link_scopes.specs.Files.{Briefs};
-ghost use Rattle.yv_link_scopes.specs.Names.{local_of};
-ghost use Rattle.yv_link_scopes.specs.Rows.{Row};
-ghost use Rattle.yv_expand_paths.specs.InnerNameNumbers.{number_of, number_at, qualified_name};
-ghost use Rattle.yv_expand_paths.specs.Paths.{module_file_of};
-ghost use Rattle.yv_expand_paths.specs.InnerSteps.{step_of, step_number};
+ghost use Rattle.std.specs.{Prelude.{◌≡◌, ◌<◌, ◌≤◌, ◌+◌, ◌↔◌, ℕ, List, Some, codes, length}, Option.{option_map}};
+ghost use Rattle.yv_link_scopes.specs.{Files.{Briefs}, Names.{local_of}, Rows.{Row}};
+ghost use Rattle.yv_expand_paths.specs.{InnerNameNumbers.{number_of, number_at, qualified_name}, Paths.{module_file_of}, InnerSteps.{step_of, step_number}};
 
 /// Two names have one number only if they are one.
 pub fn a_number_has_one_name()

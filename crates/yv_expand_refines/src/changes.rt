@@ -17,11 +17,8 @@ pub struct Changes {
 }
 
 impl Model for Changes {
-    ghost use Rattle.std.specs.Prelude.{ℕ, map, length};
-    ghost use Rattle.std.specs.declared.alloc.Global.{Global};
-    ghost use Rattle.std.specs.declared.vec.Vec.{Vec};
-    ghost use Rattle.yv_expand_refines.specs.Changes.{ChangesView};
-    ghost use Rattle.yv_expand_refines.specs.InnerJoints.{AreJoined, sequences_of};
+    ghost use Rattle.std.specs.{Prelude.{ℕ, map, length}, declared.alloc.Global.{Global}, declared.vec.Vec.{Vec}};
+    ghost use Rattle.yv_expand_refines.specs.{Changes.{ChangesView}, InnerJoints.{AreJoined, sequences_of}};
 
     ghost Value = { ChangesView };
 

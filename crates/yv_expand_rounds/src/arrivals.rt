@@ -1,18 +1,9 @@
 //! Many paths followed at once: wherever one has come, either the items that may answer a step are
 //! looked up among the paths or the paths that go on are looked up among the items, whichever are
 //! fewer.
-ghost use Rattle.std.specs.Prelude.{◌≡◌, ◌≤◌, ℕ, true, List, Some, length, IfOk, IfSome, OnOk, slice_get};
-ghost use Rattle.std.specs.Option.{option_map};
-ghost use Rattle.yv_base_tables.specs.Fronts.{GoesOn};
-ghost use Rattle.yv_base_tables.specs.InnerTree.{IsPathTree};
-ghost use Rattle.yv_expand_rounds.specs.declared.arrivals.Arrival.{Arrival};
-ghost use Rattle.yv_expand_rounds.specs.declared.label.Label.{Label};
-ghost use Rattle.yv_expand_rounds.specs.Arrivals.{AreArrivals};
-ghost use Rattle.yv_expand_rounds.specs.Groups.{Groups};
-ghost use Rattle.yv_expand_rounds.specs.InnerArrivals.{Follows, FollowsSome, Gains, Meets, is_at};
-ghost use Rattle.yv_expand_rounds.specs.InnerGroups.{ArePlaces};
-ghost use Rattle.yv_expand_rounds.specs.InnerState.{IsAugmentation};
-ghost use Rattle.yv_expand_rounds.specs.Turns.{State};
+ghost use Rattle.std.specs.{Prelude.{◌≡◌, ◌≤◌, ℕ, true, List, Some, length, IfOk, IfSome, OnOk, slice_get}, Option.{option_map}};
+ghost use Rattle.yv_base_tables.specs.{Fronts.{GoesOn}, InnerTree.{IsPathTree}};
+ghost use Rattle.yv_expand_rounds.specs.{declared.arrivals.Arrival.{Arrival}, declared.label.Label.{Label}, Arrivals.{AreArrivals}, Groups.{Groups}, InnerArrivals.{Follows, FollowsSome, Gains, Meets, is_at}, InnerGroups.{ArePlaces}, InnerState.{IsAugmentation}, Turns.{State}};
 
 use crate::augmentation::Augmentation;
 use crate::end::End;

@@ -1,6 +1,5 @@
 //! What augments do to the places of items.
-ghost use Rattle.std.specs.Prelude.{◌≡◌, ◌<◌, ◌+◌, ◌&&◌, not, false, ℕ, List, length, replicate, None, IfOk, MatchResult, OnOk, if◌then◌else◌, slice_index_or};
-ghost use Rattle.std.specs.Option.{option_and_then};
+ghost use Rattle.std.specs.{Prelude.{◌≡◌, ◌<◌, ◌+◌, ◌&&◌, not, false, ℕ, List, length, replicate, None, IfOk, MatchResult, OnOk, if◌then◌else◌, slice_index_or}, Option.{option_and_then}};
 ghost use Rattle.yv_expand_rounds.specs.declared.label.Label.{Label};
 
 use crate::end::End;
@@ -30,13 +29,7 @@ pub struct Augmentation {
 }
 
 impl Augmentation {
-    ghost use Rattle.yv_expand_rounds.specs.Groups.{group_of_augment, members_of};
-    ghost use Rattle.yv_expand_rounds.specs.Paths.{path_end};
-    ghost use Rattle.yv_expand_rounds.specs.declared.end.End.TheVariants.{Start};
-    ghost use Rattle.yv_expand_rounds.specs.Turns.{State, is_applied, is_some, resolve, target, turn, target_of};
-    ghost use Rattle.yv_expand_rounds.specs.Placements.{nothing, enter};
-    ghost use Rattle.yv_expand_rounds.specs.InnerState.{IsAugmentation, count_left};
-    ghost use Rattle.yv_expand_rounds.specs.InnerPendingPaths.{KeepFirst};
+    ghost use Rattle.yv_expand_rounds.specs.{Groups.{group_of_augment, members_of}, Paths.{path_end}, declared.end.End.TheVariants.{Start}, Turns.{State, is_applied, is_some, resolve, target, turn, target_of}, Placements.{nothing, enter}, InnerState.{IsAugmentation, count_left}, InnerPendingPaths.{KeepFirst}};
 
     /// Items with these labels, none of which is in a group yet, and so many augments, none of
     /// which is applied yet.

@@ -1,7 +1,6 @@
 //! The items of one place, and the first node of each name.
 ghost use Rattle.std.specs.Prelude.{◌≡◌, ◌<◌, ◌≤◌, ℕ, ◌++◌, ◌∷◌, [], List, Some, true, OnErr, OnOk, IfOk, IfSome, length, slice_get};
-ghost use Rattle.yv_expand_rounds.specs.declared.label.Label.{Label};
-ghost use Rattle.yv_expand_rounds.specs.InnerGroups.{HaveBefore, IsBelowLast, IsGroup, Keep, KeepBut, displaced_item, earlier, first_in, keep_first, note_item};
+ghost use Rattle.yv_expand_rounds.specs.{declared.label.Label.{Label}, InnerGroups.{HaveBefore, IsBelowLast, IsGroup, Keep, KeepBut, displaced_item, earlier, first_in, keep_first, note_item}};
 
 use crate::first_nodes::FirstNodes;
 use crate::label::Label;

@@ -1,10 +1,6 @@
 //! Nodes to which no path from the top leads any more.
 ghost use Rattle.std.specs.Prelude.{◌≡◌, ℕ, true, false, List, Some, length, replicate, IfOk, OnOk, slice_get};
-ghost use Rattle.yv_expand_rounds.specs.declared.label.Label.{Label};
-ghost use Rattle.yv_expand_rounds.specs.Groups.{Groups};
-ghost use Rattle.yv_expand_rounds.specs.declared.end.End.TheVariants.{Node};
-ghost use Rattle.yv_expand_rounds.specs.InnerGroups.{ArePlaces, IsOneOf};
-ghost use Rattle.yv_expand_rounds.specs.InnerHiddenNodes.{Hides, Spreads, Updates, is_hidden, is_hidden_at, count_shown};
+ghost use Rattle.yv_expand_rounds.specs.{declared.label.Label.{Label}, Groups.{Groups}, declared.end.End.TheVariants.{Node}, InnerGroups.{ArePlaces, IsOneOf}, InnerHiddenNodes.{Hides, Spreads, Updates, is_hidden, is_hidden_at, count_shown}};
 
 use crate::end::End;
 use crate::places::ItemPlaces;

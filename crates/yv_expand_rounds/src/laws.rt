@@ -1,12 +1,6 @@
 //! Laws about the definitions only. These functions do nothing: the contract of each is the law.
 ghost use Rattle.std.specs.Prelude.{◌≡◌, ℕ, ◌+◌, ◌<◌, ◌≤◌, List, None, Some, length, slice_get};
-ghost use Rattle.yv_expand_rounds.specs.declared.label.Label.{Label};
-ghost use Rattle.yv_expand_rounds.specs.declared.row.ItemRow.{ItemRow};
-ghost use Rattle.yv_expand_rounds.specs.Groups.{Groups, IsIn, times};
-ghost use Rattle.yv_expand_rounds.specs.Turns.{State, given_group, turn};
-ghost use Rattle.yv_expand_rounds.specs.Placements.{HaveEntered, StandOnce, enter};
-ghost use Rattle.yv_expand_rounds.specs.Rounds.{AreApplied, LeadsNowhere};
-ghost use Rattle.yv_expand_rounds.specs.Tree.{AreRows, IsTree, StandsInTree, Tree, group_under, tree_list};
+ghost use Rattle.yv_expand_rounds.specs.{declared.label.Label.{Label}, declared.row.ItemRow.{ItemRow}, Groups.{Groups, IsIn, times}, Turns.{State, given_group, turn}, Placements.{HaveEntered, StandOnce, enter}, Rounds.{AreApplied, LeadsNowhere}, Tree.{AreRows, IsTree, StandsInTree, Tree, group_under, tree_list}};
 
 /// An augment of a module that was never applied has no target among what is there at the end:
 /// "never applied" can be read without rounds.

@@ -1,11 +1,6 @@
 //! Augments that add to no node.
 ghost use Rattle.std.specs.Prelude.{◌≡◌, List};
-ghost use Rattle.yv_expand_rounds.specs.declared.label.Label.{Label};
-ghost use Rattle.yv_expand_rounds.specs.Paths.{lesser};
-ghost use Rattle.yv_expand_rounds.specs.Turns.{State, target_of};
-ghost use Rattle.yv_expand_rounds.specs.MissingTargets.{IsFirstWithoutTarget};
-ghost use Rattle.yv_expand_rounds.specs.InnerState.{IsAugmentation};
-ghost use Rattle.yv_expand_rounds.specs.InnerMissingTargets.{place_without};
+ghost use Rattle.yv_expand_rounds.specs.{declared.label.Label.{Label}, Paths.{lesser}, Turns.{State, target_of}, MissingTargets.{IsFirstWithoutTarget}, InnerState.{IsAugmentation}, InnerMissingTargets.{place_without}};
 
 use crate::augmentation::Augmentation;
 

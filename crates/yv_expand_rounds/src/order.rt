@@ -1,8 +1,6 @@
 //! The order of items of one place: first what no augment of a module gives, then what such
 //! augments give, each by number.
-ghost use Rattle.std.specs.Prelude.{◌≡◌};
-ghost use Rattle.std.specs.Ordering.{is_lt};
-ghost use Rattle.std.specs.List.Sorted.{IsPermutation, IsSorted};
+ghost use Rattle.std.specs.{Prelude.{◌≡◌}, Ordering.{is_lt}, List.Sorted.{IsPermutation, IsSorted}};
 ghost use Rattle.yv_expand_rounds.specs.Order.{is_given, sibling_cmp};
 
 use crate::label::Label;

@@ -1,14 +1,6 @@
 //! Which items are where, and where paths lead among them.
 ghost use Rattle.std.specs.Prelude.{◌≡◌, ◌≢◌, ◌<◌, ◌+◌, ◌++◌, ◌∷◌, [], ℕ, List, length, replicate, set, IfOk, IfSome, OnErr, OnOk, Some, None, slice_get};
-ghost use Rattle.yv_expand_rounds.specs.declared.label.Label.{Label};
-ghost use Rattle.yv_expand_rounds.specs.declared.end.End.TheVariants.{Start};
-ghost use Rattle.yv_expand_rounds.specs.Labels.{is_named};
-ghost use Rattle.yv_expand_rounds.specs.Groups.{Groups, members_of, move_items};
-ghost use Rattle.yv_expand_rounds.specs.Paths.{is_shorthand, first_named, before, answer, end_at, step_end, path_end};
-ghost use Rattle.yv_expand_rounds.specs.Turns.{target, give};
-ghost use Rattle.yv_expand_rounds.specs.InnerGroups.{ArePlaces, HaveBefore};
-ghost use Rattle.yv_expand_rounds.specs.InnerPendingPaths.{KeepFirst, Lead, IsFollowed, last_end};
-ghost use Rattle.yv_expand_rounds.specs.InnerArrivals.{AreMet};
+ghost use Rattle.yv_expand_rounds.specs.{declared.label.Label.{Label}, declared.end.End.TheVariants.{Start}, Labels.{is_named}, Groups.{Groups, members_of, move_items}, Paths.{is_shorthand, first_named, before, answer, end_at, step_end, path_end}, Turns.{target, give}, InnerGroups.{ArePlaces, HaveBefore}, InnerPendingPaths.{KeepFirst, Lead, IsFollowed, last_end}, InnerArrivals.{AreMet}};
 
 use crate::end::End;
 use crate::group::Group;

@@ -2,15 +2,7 @@
 //! kept, so that no step is made twice, unless an item comes before another of its name that was
 //! met.
 ghost use Rattle.std.specs.Prelude.{◌≡◌, ◌<◌, ◌≤◌, ◌+◌, [], ℕ, List, length, map, false, Some, slice_get, IfOk, OnOk, replicate, if◌then◌else◌};
-ghost use Rattle.yv_expand_rounds.specs.declared.label.Label.{Label};
-ghost use Rattle.yv_expand_rounds.specs.declared.end.End.TheVariants.{Start};
-ghost use Rattle.yv_expand_rounds.specs.declared.trail.Trail.{Trail};
-ghost use Rattle.yv_expand_rounds.specs.Paths.{path_end};
-ghost use Rattle.yv_expand_rounds.specs.Turns.{State, turn, is_taken};
-ghost use Rattle.yv_expand_rounds.specs.Rounds.{AreApplied, round, is_any};
-ghost use Rattle.yv_expand_rounds.specs.InnerHiddenNodes.{IsClosed};
-ghost use Rattle.yv_expand_rounds.specs.InnerState.{IsAugmentation, count_left};
-ghost use Rattle.yv_expand_rounds.specs.InnerPendingPaths.{AreWaiting, IsTrail, StillLead};
+ghost use Rattle.yv_expand_rounds.specs.{declared.label.Label.{Label}, declared.end.End.TheVariants.{Start}, declared.trail.Trail.{Trail}, Paths.{path_end}, Turns.{State, turn, is_taken}, Rounds.{AreApplied, round, is_any}, InnerHiddenNodes.{IsClosed}, InnerState.{IsAugmentation, count_left}, InnerPendingPaths.{AreWaiting, IsTrail, StillLead}};
 
 use crate::augmentation::Augmentation;
 use crate::end::End;

@@ -1,8 +1,6 @@
 //! How far a path was followed.
 ghost use Rattle.std.specs.Prelude.{◌≡◌, [], ℕ, false, Some, slice_get};
-ghost use Rattle.yv_expand_rounds.specs.declared.end.End.{End};
-ghost use Rattle.yv_expand_rounds.specs.InnerHiddenNodes.{is_hidden_at};
-ghost use Rattle.yv_expand_rounds.specs.InnerPendingPaths.{end_reached, last_end};
+ghost use Rattle.yv_expand_rounds.specs.{declared.end.End.{End}, InnerHiddenNodes.{is_hidden_at}, InnerPendingPaths.{end_reached, last_end}};
 
 use crate::end::End;
 use crate::hidden_nodes::HiddenNodes;

@@ -1,11 +1,6 @@
 //! The final tree as a list.
 ghost use Rattle.std.specs.Prelude.{◌≡◌, ◌+◌, ◌++◌, [], ℕ, List, length, map, reverse, set, IfOk, OnOk};
-ghost use Rattle.yv_expand_rounds.specs.declared.label.Label.{Label};
-ghost use Rattle.yv_expand_rounds.specs.Turns.{State};
-ghost use Rattle.yv_expand_rounds.specs.Placements.{StandOnce};
-ghost use Rattle.yv_expand_rounds.specs.Tree.{AreInOrder, AreRows};
-ghost use Rattle.yv_expand_rounds.specs.InnerState.{IsAugmentation};
-ghost use Rattle.yv_expand_rounds.specs.InnerTreeList.{StandAtMostOnce, groups_in, under};
+ghost use Rattle.yv_expand_rounds.specs.{declared.label.Label.{Label}, Turns.{State}, Placements.{StandOnce}, Tree.{AreInOrder, AreRows}, InnerState.{IsAugmentation}, InnerTreeList.{StandAtMostOnce, groups_in, under}};
 
 use crate::augmentation::Augmentation;
 use crate::group::Group;

@@ -1,7 +1,6 @@
 //! Where the items below an item end.
 ghost use Rattle.std.specs.Prelude.{◌≡◌, ◌<◌, ℕ, length, slice_get, slice_index_or, IfOk};
-ghost use Rattle.yv_expand_uses.specs.Ends.{end_at};
-ghost use Rattle.yv_expand_uses.specs.InnerEnds.{AreEnds, is_from_at};
+ghost use Rattle.yv_expand_uses.specs.{Ends.{end_at}, InnerEnds.{AreEnds, is_from_at}};
 
 use std::alloc::{AllocError, Global};
 use yv_expand::Item;

@@ -1,11 +1,8 @@
 //! Which items are there by their conditions.
 ghost use Rattle.std.specs.Prelude.{◌≡◌, ◌&&◌, Some, slice_get, IfOk};
-ghost use Rattle.yv_link_scopes.specs.Views.{rows_in};
-ghost use Rattle.yv_link_scopes.specs.Rows.{row};
-ghost use Rattle.yv_expand.specs.ItemLimit.{ParentsComeFirst};
-ghost use Rattle.yv_expand.specs.Origin.{number_of};
-ghost use Rattle.yv_expand_uses.specs.AugmentOrder.{is_augment};
-ghost use Rattle.yv_expand_uses.specs.On.{AreOn, above_on, augment_on, block_on, is_marked, uses_on};
+ghost use Rattle.yv_link_scopes.specs.{Views.{rows_in}, Rows.{row}};
+ghost use Rattle.yv_expand.specs.{ItemLimit.{ParentsComeFirst}, Origin.{number_of}};
+ghost use Rattle.yv_expand_uses.specs.{AugmentOrder.{is_augment}, On.{AreOn, above_on, augment_on, block_on, is_marked, uses_on}};
 
 use crate::kinds::is_uses;
 use crate::spot::Spot;

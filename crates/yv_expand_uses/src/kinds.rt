@@ -1,7 +1,6 @@
 //! What items are as schema nodes.
 ghost use Rattle.std.specs.Prelude.{◌≡◌, List, map};
-ghost use Rattle.yv_link_scopes.specs.Views.{rows_in};
-ghost use Rattle.yv_link_scopes.specs.Rows.{Row};
+ghost use Rattle.yv_link_scopes.specs.{Views.{rows_in}, Rows.{Row}};
 ghost use Rattle.yv_expand_paths.specs.PathTables.{AreNames};
 ghost use Rattle.yv_expand_rounds.specs.Kinds.{is_uses, kind_of_keyword, kind_in};
 ghost use Rattle.yv_expand_uses.specs.Kinds.{kind_of, label_of, name_number};

@@ -3,8 +3,7 @@ ghost use Rattle.std.specs.Prelude.{◌≡◌, ◌<◌, ◌+◌, ◌^◌, true, 
 ghost use Rattle.yv_link_scopes.specs.Views.{files_in, rows_in};
 ghost use Rattle.yv_expand.specs.Origin.{number_of};
 ghost use Rattle.yv_expand_rounds.specs.Kinds.{is_uses};
-ghost use Rattle.yv_expand_uses.specs.AugmentOrder.{ordinal};
-ghost use Rattle.yv_expand_uses.specs.Spots.{copies_of, copy_group, source_in, group_below, module_file_below, layout_of, spot_at, spot_of, top_group, used_group};
+ghost use Rattle.yv_expand_uses.specs.{AugmentOrder.{ordinal}, Spots.{copies_of, copy_group, source_in, group_below, module_file_below, layout_of, spot_at, spot_of, top_group, used_group}};
 
 use crate::kinds::{is_uses, label_of};
 use crate::plan::Plan;
@@ -41,8 +40,7 @@ pub fn source_in(items: usize, augments: &[usize], group: usize) -> Option<usize
 }
 
 impl Plan<'_, '_, '_> {
-    ghost use Rattle.yv_expand_uses.specs.InnerPlan.{IsPlan, whole_in};
-    ghost use Rattle.yv_expand_uses.specs.InnerLayout.{AreNumbered, IsNumbered, laid_in};
+    ghost use Rattle.yv_expand_uses.specs.{InnerPlan.{IsPlan, whole_in}, InnerLayout.{AreNumbered, IsNumbered, laid_in}};
 
     /// The group of what the numbered copy of an augment gives, until the augment is applied.
     pub fn copy_group(&self, number: usize) -> usize

@@ -1,14 +1,8 @@
 //! Which of the different paths of refines lead to nodes at a copy, and aims by their places among
 //! these.
-ghost use Rattle.std.specs.Prelude.{◌≡◌, ◌==◌, ◌++◌, ◌∷◌, ℕ, [], List, Some, map, if◌then◌else◌, IfOk, OnOk};
-ghost use Rattle.std.specs.BTreeMap.{get};
-ghost use Rattle.std.specs.Ordering.{nat_cmp};
-ghost use Rattle.yv_expand_rounds.specs.declared.label.Label.{Label};
-ghost use Rattle.yv_expand_rounds.specs.Arrivals.{AreArrivals};
-ghost use Rattle.yv_expand_rounds.specs.Turns.{State};
-ghost use Rattle.yv_expand_uses.specs.InnerLeadingPaths.{first_from, place_aim};
-ghost use Rattle.yv_expand_uses.specs.InnerPaths.{target_of_path};
-ghost use Rattle.yv_expand_uses.specs.RefineTargets.{node_at};
+ghost use Rattle.std.specs.{Prelude.{◌≡◌, ◌==◌, ◌++◌, ◌∷◌, ℕ, [], List, Some, map, if◌then◌else◌, IfOk, OnOk}, BTreeMap.{get}, Ordering.{nat_cmp}};
+ghost use Rattle.yv_expand_rounds.specs.{declared.label.Label.{Label}, Arrivals.{AreArrivals}, Turns.{State}};
+ghost use Rattle.yv_expand_uses.specs.{InnerLeadingPaths.{first_from, place_aim}, InnerPaths.{target_of_path}, RefineTargets.{node_at}};
 
 use std::alloc::{AllocError, Global};
 use std::collections::BTreeMap;

@@ -1,13 +1,7 @@
 //! What is known of statements before items are looked at.
 ghost use Rattle.std.specs.Prelude.{◌≡◌, ◌<◌, ℕ, length, map, slice_get, IfOk, Some};
-ghost use Rattle.yv_link_scopes.specs.Files.{module_file_at};
-ghost use Rattle.yv_link_scopes.specs.Views.{files_in, rows_in};
-ghost use Rattle.yv_expand_uses.specs.AugmentOrder.{augments_giving, is_giving, ordinal, place_of};
-ghost use Rattle.yv_expand_uses.specs.Paths.{module_paths, path_in, step_name};
-ghost use Rattle.yv_expand_uses.specs.AugmentOrder.{augments_in};
-ghost use Rattle.yv_expand_uses.specs.RefineTargets.{refines_in};
-ghost use Rattle.yv_expand_uses.specs.Spots.{own_module_file};
-ghost use Rattle.yv_expand_uses.specs.InnerPlan.{AreModuleFiles};
+ghost use Rattle.yv_link_scopes.specs.{Files.{module_file_at}, Views.{files_in, rows_in}};
+ghost use Rattle.yv_expand_uses.specs.{AugmentOrder.{augments_giving, is_giving, ordinal, place_of, augments_in}, Paths.{module_paths, path_in, step_name}, RefineTargets.{refines_in}, Spots.{own_module_file}, InnerPlan.{AreModuleFiles}};
 
 use crate::augment_order::{
     augment_places, giving_places, is_in, ordinals, places_in, refine_places,
@@ -83,8 +77,7 @@ pub struct Plan<'r, 'a, 'b> {
 }
 
 impl<'r, 'a, 'b> Plan<'r, 'a, 'b> {
-    ghost use Rattle.yv_expand_uses.specs.InnerPlan.{IsPlan, whole_in};
-    ghost use Rattle.yv_expand_uses.specs.Spots.{whole};
+    ghost use Rattle.yv_expand_uses.specs.{InnerPlan.{IsPlan, whole_in}, Spots.{whole}};
 
     /// What is known of these statements, of augments of modules among them, and of how many items
     /// there are. Takes time n log n in the text. Err if memory runs out, and where there are more

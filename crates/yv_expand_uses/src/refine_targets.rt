@@ -2,16 +2,10 @@
 //! module, and what they mean.
 ghost use Rattle.std.specs.Prelude.{◌≡◌, ◌<◌, ◌==◌, ◌&&◌, not, ◌++◌, ℕ, [], List, Some, length, map, slice_get, IfOk, IfSome, OnOk};
 ghost use Rattle.yv_link_scopes.specs.Views.{rows_in};
-ghost use Rattle.yv_expand_rounds.specs.declared.label.Label.{Label};
-ghost use Rattle.yv_expand_rounds.specs.Turns.{State};
-ghost use Rattle.yv_expand_rounds.specs.InnerState.{IsAugmentation};
+ghost use Rattle.yv_expand_rounds.specs.{declared.label.Label.{Label}, Turns.{State}, InnerState.{IsAugmentation}, Kinds.{is_uses}};
 ghost use Rattle.yv_base_tables.specs.InnerTree.{IsPathTree};
 ghost use Rattle.yv_expand_refines.specs.Targets.{targets_at, all_meant, meaning_of};
-ghost use Rattle.yv_expand_uses.specs.InnerLeadingPaths.{IsLed, place_aim};
-ghost use Rattle.yv_expand_uses.specs.InnerPaths.{target_of_path};
-ghost use Rattle.yv_expand_uses.specs.RefineTargets.{refined_at, refines_in};
-ghost use Rattle.yv_expand_rounds.specs.Kinds.{is_uses};
-ghost use Rattle.yv_expand_uses.specs.Spots.{Whole};
+ghost use Rattle.yv_expand_uses.specs.{InnerLeadingPaths.{IsLed, place_aim}, InnerPaths.{target_of_path}, RefineTargets.{refined_at, refines_in}, Spots.{Whole}};
 
 use crate::kinds::is_uses;
 use crate::leading_paths::{LeadingPaths, place_aims};
@@ -213,8 +207,7 @@ impl RefineTargets {
 }
 
 impl Plan<'_, '_, '_> {
-    ghost use Rattle.yv_expand_uses.specs.InnerRefineTargets.{AreRefineTargets, HasNumber, IsUsesTargets};
-    ghost use Rattle.yv_expand_uses.specs.InnerPlan.{IsPlan, whole_in};
+    ghost use Rattle.yv_expand_uses.specs.{InnerRefineTargets.{AreRefineTargets, HasNumber, IsUsesTargets}, InnerPlan.{IsPlan, whole_in}};
 
     // Whether an item is a `uses` that refines.
     fn has_refines(&self, spot: &Spot) -> bool

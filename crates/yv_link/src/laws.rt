@@ -1,13 +1,9 @@
 //! Laws about the definitions only. These functions do nothing: the contract of each is the law.
 ghost use Rattle.std.specs.Prelude.{◌≡◌, ◌≤◌, ℕ, List};
-ghost use Rattle.yv_statement.specs.Codes.{phase_of};
-ghost use Rattle.yv_statement.specs.declared.refusal.Refusal.{Refusal};
-ghost use Rattle.yv_statement.specs.Selection.{Selected};
+ghost use Rattle.yv_statement.specs.{Codes.{phase_of}, declared.refusal.Refusal.{Refusal}, Selection.{Selected}};
 ghost use Rattle.yv_link_scopes.specs.Files.{Files};
 ghost use Rattle.yv_link_features.specs.On.{Holds};
-ghost use Rattle.yv_link.specs.Links.{BadLinks};
-ghost use Rattle.yv_link.specs.LinkedFiles.{AreLinked, truth_in};
-ghost use Rattle.yv_link.specs.declared.linked_files.Linked.{Linked};
+ghost use Rattle.yv_link.specs.{Links.{BadLinks}, LinkedFiles.{AreLinked, truth_in}, declared.linked_files.Linked.{Linked}};
 
 /// What linked files answer for an expression is its truth, whatever the file and the text.
 pub fn linked_files_tell_what_holds()

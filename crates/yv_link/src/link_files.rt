@@ -1,15 +1,9 @@
 //! Linking files.
 ghost use Rattle.std.specs.Prelude.{◌≡◌, ◌≢◌, ◌<◌, length, map, IfOk, OnOk, Some, None, Err};
-ghost use Rattle.yv_statement.specs.declared.refusal.Refusal.{Refusal};
-ghost use Rattle.yv_statement.specs.declared.refusal.Stop.TheVariants.{Fault, NoMemory, PatternBuild};
-ghost use Rattle.yv_statement.specs.Order.{IsLeast};
-ghost use Rattle.yv_statement.specs.Selection.{selected_of};
-ghost use Rattle.yv_link_scopes.specs.Files.{brief_of};
-ghost use Rattle.yv_link_scopes.specs.RowList.{rows_of};
-ghost use Rattle.yv_link_scopes.specs.Views.{lent_in};
+ghost use Rattle.yv_statement.specs.{declared.refusal.Refusal.{Refusal}, declared.refusal.Stop.TheVariants.{Fault, NoMemory, PatternBuild}, Order.{IsLeast}, Selection.{selected_of}};
+ghost use Rattle.yv_link_scopes.specs.{Files.{brief_of}, RowList.{rows_of}, Views.{lent_in}};
 ghost use Rattle.yv_link_modules.specs.Modules.{BadModules};
-ghost use Rattle.yv_link.specs.LinkedFiles.{AreLinked};
-ghost use Rattle.yv_link.specs.Links.{BadLinks};
+ghost use Rattle.yv_link.specs.{LinkedFiles.{AreLinked}, Links.{BadLinks}};
 
 use crate::linked_files::Linked;
 use crate::modules::read_modules;

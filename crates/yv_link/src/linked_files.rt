@@ -1,8 +1,7 @@
 //! Files that were linked, and what is asked of them.
 ghost use Rattle.std.specs.Prelude.{◌≡◌, ◌↔◌, map, IsTrue, IfOk};
 ghost use Rattle.yv_statement.specs.Selection.{Selected};
-ghost use Rattle.yv_link_scopes.specs.Files.{Files, brief_of};
-ghost use Rattle.yv_link_scopes.specs.RowList.{rows_of};
+ghost use Rattle.yv_link_scopes.specs.{Files.{Files, brief_of}, RowList.{rows_of}};
 
 use crate::modules::ModuleRef;
 use std::alloc::{AllocError, Global};
@@ -25,8 +24,7 @@ impl<'a, 'b> Linked<'a, 'b> {
     ghost use Rattle.yv_link_features.specs.On.{Holds};
     ghost use Rattle.yv_link_identities.specs.References.{AreDescendants, IsDerived, reference_of};
     ghost use Rattle.yv_link_scopes.specs.Views.{lent_in};
-    ghost use Rattle.yv_link.specs.LinkedFiles.{AreLinked, truth_in};
-    ghost use Rattle.yv_link.specs.Modules.{named_module, prefixed_module};
+    ghost use Rattle.yv_link.specs.{LinkedFiles.{AreLinked, truth_in}, Modules.{named_module, prefixed_module}};
 
     /// The statements of the files, in the order of the files.
     pub fn statements(&self) -> &'a [Statement<'b>]

@@ -1,8 +1,7 @@
 //! The modules among the files.
 ghost use Rattle.std.specs.Prelude.{◌≡◌, map, IfOk};
 ghost use Rattle.yv_statement.specs.Selection.{selected_of};
-ghost use Rattle.yv_link_scopes.specs.Files.{brief};
-ghost use Rattle.yv_link_scopes.specs.Views.{files_in};
+ghost use Rattle.yv_link_scopes.specs.{Files.{brief}, Views.{files_in}};
 ghost use Rattle.yv_link.specs.Modules.{AreModules, ref_at, ref_of};
 
 use std::alloc::{AllocError, Global};

@@ -1,7 +1,6 @@
 //! What is told of statements.
 ghost use Rattle.std.specs.Prelude.{◌≡◌, ◌+◌, Some, OnOk, IfOk, length, slice_get};
-ghost use Rattle.yv_link_scopes.specs.Rows.{row};
-ghost use Rattle.yv_link_scopes.specs.Views.{files_in, rows_in};
+ghost use Rattle.yv_link_scopes.specs.{Rows.{row}, Views.{files_in, rows_in}};
 ghost use Rattle.yv_link_definitions.specs.InnerAnswers.{TellFirst};
 
 use crate::draft::Draft;

@@ -1,15 +1,9 @@
 //! Reading the names of files.
 ghost use Rattle.std.specs.Prelude.{◌≡◌, ◌≢◌, ℕ, None, Some, Err, IfOk, OnOk};
-ghost use Rattle.yv_statement.specs.Order.{IsLeast};
-ghost use Rattle.yv_statement.specs.declared.refusal.Refusal.{Refusal};
-ghost use Rattle.yv_statement.specs.declared.refusal.Stop.TheVariants.{Fault, PatternBuild};
+ghost use Rattle.yv_statement.specs.{Order.{IsLeast}, declared.refusal.Refusal.{Refusal}, declared.refusal.Stop.TheVariants.{Fault, PatternBuild}};
 ghost use Rattle.yv_base_graph.specs.Graph.{LeadsTo};
 ghost use Rattle.yv_link_scopes.specs.Views.{lent_in, files_in, rows_in};
-ghost use Rattle.yv_link_definitions.specs.Refusals.{BadIn, BadNames};
-ghost use Rattle.yv_link_definitions.specs.Leads.{IsOrderOf};
-ghost use Rattle.yv_link_definitions.specs.Meanings.{AreNames};
-ghost use Rattle.yv_link_definitions.specs.InnerAnswers.{AreMeant};
-ghost use Rattle.yv_link_definitions.specs.InnerGraph.{AreSteps};
+ghost use Rattle.yv_link_definitions.specs.{Refusals.{BadIn, BadNames}, Leads.{IsOrderOf}, Meanings.{AreNames}, InnerAnswers.{AreMeant}, InnerGraph.{AreSteps}};
 
 use crate::answers::Answers;
 use crate::draft::Draft;

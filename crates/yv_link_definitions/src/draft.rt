@@ -1,9 +1,6 @@
 //! Where definitions have their names, before these are looked at.
 ghost use Rattle.std.specs.Prelude.{◌≡◌, Some, IfOk};
-ghost use Rattle.yv_link_scopes.specs.Rows.{Row, row};
-ghost use Rattle.yv_link_scopes.specs.Tables.{table_of, first_of};
-ghost use Rattle.yv_link_scopes.specs.Views.{rows_in};
-ghost use Rattle.yv_link_scopes.specs.declared.kind.NameKind.TheVariants.{Typedef, Grouping, Feature, Identity, Extension};
+ghost use Rattle.yv_link_scopes.specs.{Rows.{Row, row}, Tables.{table_of, first_of}, Views.{rows_in}, declared.kind.NameKind.TheVariants.{Typedef, Grouping, Feature, Identity, Extension}};
 ghost use Rattle.yv_link_definitions.specs.Duplicates.{kind_defined, is_of};
 
 use std::alloc::{AllocError, Global};

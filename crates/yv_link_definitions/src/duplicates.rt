@@ -1,10 +1,7 @@
 //! Names of definitions that are already in use.
 ghost use Rattle.std.specs.Prelude.{◌≡◌, ◌↔◌, ◌||◌, Some, IsTrue};
-ghost use Rattle.yv_link_scopes.specs.Rows.{row};
-ghost use Rattle.yv_link_scopes.specs.Views.{rows_in};
-ghost use Rattle.yv_link_scopes.specs.declared.kind.NameKind.TheVariants.{Typedef};
-ghost use Rattle.yv_link_definitions.specs.Duplicates.{IsTaken, kind_defined, is_scoped};
-ghost use Rattle.yv_link_definitions.specs.InnerDuplicates.{HasAround, HasBefore};
+ghost use Rattle.yv_link_scopes.specs.{Rows.{row}, Views.{rows_in}, declared.kind.NameKind.TheVariants.{Typedef}};
+ghost use Rattle.yv_link_definitions.specs.{Duplicates.{IsTaken, kind_defined, is_scoped}, InnerDuplicates.{HasAround, HasBefore}};
 
 use crate::built_in::is_built_in;
 use crate::draft::{Draft, is_of};

@@ -1,7 +1,6 @@
 //! The definitions that types and uses count for.
 ghost use Rattle.std.specs.Prelude.{◌≡◌, ◌↔◌, ◌<◌, ℕ, Some, length};
-ghost use Rattle.yv_link_scopes.specs.Rows.{row};
-ghost use Rattle.yv_link_scopes.specs.Views.{rows_in};
+ghost use Rattle.yv_link_scopes.specs.{Rows.{row}, Views.{rows_in}};
 ghost use Rattle.yv_link_definitions.specs.Leads.{CountsFor, is_between};
 
 use crate::draft::{Draft, is_of};

@@ -1,7 +1,6 @@
 //! The names of files, and what readers ask of them.
 ghost use Rattle.std.specs.Prelude.{◌≡◌, ◌↔◌, ℕ, Some, map, codes};
-ghost use Rattle.yv_link_scopes.specs.Files.{Files, brief_of};
-ghost use Rattle.yv_link_scopes.specs.RowList.{rows_of};
+ghost use Rattle.yv_link_scopes.specs.{Files.{Files, brief_of}, RowList.{rows_of}};
 
 use crate::references::{DefRef, References};
 
@@ -16,11 +15,7 @@ pub struct Names {
 }
 
 impl Names {
-    ghost use Rattle.yv_link_definitions.specs.Refers.{RefersTo};
-    ghost use Rattle.yv_link_definitions.specs.Leads.{IsOrderOf};
-    ghost use Rattle.yv_link_definitions.specs.References.{RefersAt};
-    ghost use Rattle.yv_link_definitions.specs.Meanings.{AreNames, definition_in, meant_in};
-    ghost use Rattle.yv_link_definitions.specs.declared.references.DefRef.{DefRef};
+    ghost use Rattle.yv_link_definitions.specs.{Refers.{RefersTo}, Leads.{IsOrderOf}, References.{RefersAt}, Meanings.{AreNames, definition_in, meant_in}, declared.references.DefRef.{DefRef}};
 
     // What the statement of a number means.
     fn definition_at(&self, number: usize) -> Option<usize>

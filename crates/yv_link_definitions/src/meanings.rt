@@ -1,12 +1,7 @@
 //! What types and uses mean.
 ghost use Rattle.std.specs.Prelude.{◌≡◌, ◌↔◌, ℕ, Some, None, true, IsTrue, slice_get};
-ghost use Rattle.yv_link_scopes.specs.Rows.{row, name_in};
-ghost use Rattle.yv_link_scopes.specs.Scopes.{MeansIn};
-ghost use Rattle.yv_link_scopes.specs.Views.{files_in, rows_in};
-ghost use Rattle.yv_link_scopes.specs.declared.kind.NameKind.{NameKind};
-ghost use Rattle.yv_link_definitions.specs.Refers.{IsUnknown, RefersTo};
-ghost use Rattle.yv_link_definitions.specs.Refers.{is_type, is_uses, names_definition};
-ghost use Rattle.yv_link_definitions.specs.InnerAnswers.{AreMeant, meant_at};
+ghost use Rattle.yv_link_scopes.specs.{Rows.{row, name_in}, Scopes.{MeansIn}, Views.{files_in, rows_in}, declared.kind.NameKind.{NameKind}};
+ghost use Rattle.yv_link_definitions.specs.{Refers.{IsUnknown, RefersTo, is_type, is_uses, names_definition}, InnerAnswers.{AreMeant, meant_at}};
 
 use crate::built_in::is_built_in;
 use crate::draft::Draft;

@@ -1,10 +1,7 @@
 //! For each definition those to which it leads in one step.
 ghost use Rattle.std.specs.Prelude.{◌≡◌, ◌↔◌, ℕ, Some, length, slice_get, IfOk};
-ghost use Rattle.yv_link_scopes.specs.Rows.{row};
-ghost use Rattle.yv_link_scopes.specs.Views.{files_in, rows_in};
-ghost use Rattle.yv_link_definitions.specs.Leads.{Joins};
-ghost use Rattle.yv_link_definitions.specs.InnerGraph.{AreSteps, HasNoEdge};
-ghost use Rattle.yv_link_definitions.specs.InnerAnswers.{AreMeant};
+ghost use Rattle.yv_link_scopes.specs.{Rows.{row}, Views.{files_in, rows_in}};
+ghost use Rattle.yv_link_definitions.specs.{Leads.{Joins}, InnerGraph.{AreSteps, HasNoEdge}, InnerAnswers.{AreMeant}};
 
 use crate::draft::Draft;
 use crate::meanings::{meant_at, meant_kind};

@@ -1,9 +1,7 @@
 //! References to definitions, and where statements are.
 ghost use Rattle.std.specs.Prelude.{◌≡◌, ◌+◌, ℕ, List, take, Some, None, OnOk, slice_get};
-ghost use Rattle.yv_link_scopes.specs.Rows.{Row, row};
-ghost use Rattle.yv_link_scopes.specs.Files.{has_word};
-ghost use Rattle.yv_link_definitions.specs.References.{number_at, ref_of};
-ghost use Rattle.yv_link_definitions.specs.InnerPlaces.{placed_in, keep_first};
+ghost use Rattle.yv_link_scopes.specs.{Rows.{Row, row}, Files.{has_word}};
+ghost use Rattle.yv_link_definitions.specs.{References.{number_at, ref_of}, InnerPlaces.{placed_in, keep_first}};
 
 use std::alloc::{AllocError, Global};
 use std::collections::BTreeMap;

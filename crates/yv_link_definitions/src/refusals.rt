@@ -1,12 +1,8 @@
 //! What is wrong with the names of definitions.
-ghost use Rattle.std.specs.Prelude.{◌≡◌, ◌↔◌, ◌||◌, IsTrue, false, if◌then◌else◌, Some, None};
-ghost use Rattle.std.specs.Prelude.{slice_get, slice_index_or};
+ghost use Rattle.std.specs.Prelude.{◌≡◌, ◌↔◌, ◌||◌, IsTrue, false, if◌then◌else◌, Some, None, slice_get, slice_index_or};
 ghost use Rattle.yv_statement.specs.Order.{IsLeast, refusal_at};
-ghost use Rattle.yv_link_scopes.specs.Rows.{row};
-ghost use Rattle.yv_link_scopes.specs.Views.{files_in, rows_in};
-ghost use Rattle.yv_link_definitions.specs.Refusals.{BadIn, BadRow, IsOnCycle};
-ghost use Rattle.yv_link_definitions.specs.InnerGraph.{AreDefinitionCycles};
-ghost use Rattle.yv_link_definitions.specs.InnerAnswers.{AreMeant};
+ghost use Rattle.yv_link_scopes.specs.{Rows.{row}, Views.{files_in, rows_in}};
+ghost use Rattle.yv_link_definitions.specs.{Refusals.{BadIn, BadRow, IsOnCycle}, InnerGraph.{AreDefinitionCycles}, InnerAnswers.{AreMeant}};
 
 use crate::draft::{Draft, is_of};
 use yv_link_scopes::{Entry, NameKind};

@@ -1,16 +1,8 @@
 //! The features of files.
 ghost use Rattle.std.specs.Prelude.{◌≡◌, ◌≢◌, None, OnOk, IfOk, Some, Err};
-ghost use Rattle.yv_statement.specs.Order.{IsLeast};
-ghost use Rattle.yv_statement.specs.declared.refusal.Refusal.{Refusal};
-ghost use Rattle.yv_statement.specs.declared.refusal.Stop.TheVariants.{Fault, PatternBuild};
-ghost use Rattle.yv_statement.specs.Selection.{Selected, selected_of};
-ghost use Rattle.yv_link_scopes.specs.Views.{lent_in, rows_in};
-ghost use Rattle.yv_link_scopes.specs.Tables.{first_of, table_of};
-ghost use Rattle.yv_link_scopes.specs.declared.kind.NameKind.TheVariants.{Feature};
-ghost use Rattle.yv_link_features.specs.Refusals.{BadFeatures};
-ghost use Rattle.yv_link_features.specs.Features.{AreFeatures, from_marks, truth_of};
-ghost use Rattle.yv_link_features.specs.InnerMarks.{AreOnIn, BadIn};
-ghost use Rattle.yv_link_features.specs.On.{Holds};
+ghost use Rattle.yv_statement.specs.{Order.{IsLeast}, declared.refusal.Refusal.{Refusal}, declared.refusal.Stop.TheVariants.{Fault, PatternBuild}, Selection.{Selected, selected_of}};
+ghost use Rattle.yv_link_scopes.specs.{Views.{lent_in, rows_in}, Tables.{first_of, table_of}, declared.kind.NameKind.TheVariants.{Feature}};
+ghost use Rattle.yv_link_features.specs.{Refusals.{BadFeatures}, Features.{AreFeatures, from_marks, truth_of}, InnerMarks.{AreOnIn, BadIn}, On.{Holds}};
 
 use crate::if_features::if_features;
 use crate::names::FeatureNames;

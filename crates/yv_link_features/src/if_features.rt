@@ -1,10 +1,7 @@
 //! The conditions of each statement, and the features that they name.
 ghost use Rattle.std.specs.Prelude.{◌≡◌, ℕ, [], length, map, IfOk};
-ghost use Rattle.yv_link_scopes.specs.Views.{rows_in};
-ghost use Rattle.yv_link_scopes.specs.Rows.{row};
-ghost use Rattle.yv_link_features.specs.InnerGraph.{AreLists, meant_from, numbers_at, steps_of};
-ghost use Rattle.yv_link_features.specs.InnerNames.{means_in};
-ghost use Rattle.yv_link_features.specs.Meaning.{is_if_feature};
+ghost use Rattle.yv_link_scopes.specs.{Views.{rows_in}, Rows.{row}};
+ghost use Rattle.yv_link_features.specs.{InnerGraph.{AreLists, meant_from, numbers_at, steps_of}, InnerNames.{means_in}, Meaning.{is_if_feature}};
 
 use crate::names::FeatureNames;
 use std::alloc::{AllocError, Global};

@@ -1,12 +1,8 @@
 //! Laws about the definitions only.
 ghost use Rattle.std.specs.Prelude.{◌≡◌, ℕ, Bool, List, None};
-ghost use Rattle.yv_statement.specs.Order.{IsLeast};
-ghost use Rattle.yv_statement.specs.Selection.{Selected};
+ghost use Rattle.yv_statement.specs.{Order.{IsLeast}, Selection.{Selected}};
 ghost use Rattle.yv_link_scopes.specs.Files.{Files};
-ghost use Rattle.yv_link_features.specs.Refusals.{BadFeatures};
-ghost use Rattle.yv_link_features.specs.Features.{AreFeatures, Tell, truth_of};
-ghost use Rattle.yv_link_features.specs.On.{Holds};
-ghost use Rattle.yv_link_features.specs.declared.features.Features.{Features};
+ghost use Rattle.yv_link_features.specs.{Refusals.{BadFeatures}, Features.{AreFeatures, Tell, truth_of}, On.{Holds}, declared.features.Features.{Features}};
 
 /// What the features that were found answer for an expression in a file is its value by them, and
 /// no other.

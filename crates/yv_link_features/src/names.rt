@@ -1,14 +1,8 @@
 //! What the names in conditions mean, and the value that a condition has by it.
-ghost use Rattle.std.specs.Prelude.{◌≡◌, ◌++◌, ◌&&◌, OnOk, slice_get};
-ghost use Rattle.std.specs.List.{list_all};
-ghost use Rattle.std.specs.Option.{option_map};
-ghost use Rattle.yv_text_if_feature.specs.WordTokens.{token_shown};
-ghost use Rattle.yv_text_if_feature.specs.Tokens.{names_among, tokens};
-ghost use Rattle.yv_link_scopes.specs.Views.{rows_in};
-ghost use Rattle.yv_link_scopes.specs.Rows.{row};
-ghost use Rattle.yv_link_features.specs.Features.{from_marks};
-ghost use Rattle.yv_link_features.specs.InnerNames.{is_settled, means_in, meant_among, feature_of_word};
-ghost use Rattle.yv_link_features.specs.Value.{HasValue, is_known, is_on};
+ghost use Rattle.std.specs.{Prelude.{◌≡◌, ◌++◌, ◌&&◌, OnOk, slice_get}, List.{list_all}, Option.{option_map}};
+ghost use Rattle.yv_text_if_feature.specs.{WordTokens.{token_shown}, Tokens.{names_among, tokens}};
+ghost use Rattle.yv_link_scopes.specs.{Views.{rows_in}, Rows.{row}};
+ghost use Rattle.yv_link_features.specs.{Features.{from_marks}, InnerNames.{is_settled, means_in, meant_among, feature_of_word}, Value.{HasValue, is_known, is_on}};
 
 use std::alloc::AllocError;
 use yv_link_scopes::{Entry, NamePlaces, Rows, local};

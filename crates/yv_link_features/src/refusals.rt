@@ -2,11 +2,8 @@
 ghost use Rattle.std.specs.Prelude.{◌≡◌, ◌↔◌, ℕ, IsTrue, length};
 ghost use Rattle.yv_statement.specs.Order.{Among, IsLeast};
 ghost use Rattle.yv_base_graph.specs.Graph.{IsMarked};
-ghost use Rattle.yv_link_scopes.specs.Views.{rows_in};
-ghost use Rattle.yv_link_scopes.specs.Rows.{row};
-ghost use Rattle.yv_link_features.specs.Depends.{LeadsTo};
-ghost use Rattle.yv_link_features.specs.Refusals.{BadRow, has_unknown};
-ghost use Rattle.yv_link_features.specs.InnerNames.{means_in};
+ghost use Rattle.yv_link_scopes.specs.{Views.{rows_in}, Rows.{row}};
+ghost use Rattle.yv_link_features.specs.{Depends.{LeadsTo}, Refusals.{BadRow, has_unknown}, InnerNames.{means_in}};
 
 use crate::if_features::is_if_feature;
 use crate::names::FeatureNames;

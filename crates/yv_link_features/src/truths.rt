@@ -1,13 +1,8 @@
 //! Which features are on.
 ghost use Rattle.std.specs.Prelude.{◌≡◌, ◌↔◌, ◌<◌, ℕ, Some, IsTrue, IfOk, length, slice_get, true};
 ghost use Rattle.yv_statement.specs.Selection.{selected_of};
-ghost use Rattle.yv_link_scopes.specs.Views.{files_in, rows_in};
-ghost use Rattle.yv_link_scopes.specs.Rows.{Row, row};
-ghost use Rattle.yv_link_features.specs.Features.{from_marks};
-ghost use Rattle.yv_link_features.specs.InnerGraph.{AllTrue, AreLists, IsOrderOf, IsTrueAt};
-ghost use Rattle.yv_link_features.specs.InnerNames.{means_in};
-ghost use Rattle.yv_link_features.specs.Meaning.{is_feature};
-ghost use Rattle.yv_link_features.specs.On.{AllHold, IsOn, has_support, module_name_in};
+ghost use Rattle.yv_link_scopes.specs.{Views.{files_in, rows_in}, Rows.{Row, row}};
+ghost use Rattle.yv_link_features.specs.{Features.{from_marks}, InnerGraph.{AllTrue, AreLists, IsOrderOf, IsTrueAt}, InnerNames.{means_in}, Meaning.{is_feature}, On.{AllHold, IsOn, has_support, module_name_in}};
 
 use crate::names::{FeatureNames, both};
 use std::alloc::{AllocError, Global};

@@ -1,12 +1,8 @@
 //! Reading the identities of files.
 ghost use Rattle.std.specs.Prelude.{◌≡◌, ◌≢◌, IfOk, OnOk};
-ghost use Rattle.yv_statement.specs.Order.{IsLeast};
-ghost use Rattle.yv_statement.specs.declared.refusal.Refusal.{Refusal};
-ghost use Rattle.yv_statement.specs.declared.refusal.Stop.TheVariants.{Fault, PatternBuild};
+ghost use Rattle.yv_statement.specs.{Order.{IsLeast}, declared.refusal.Refusal.{Refusal}, declared.refusal.Stop.TheVariants.{Fault, PatternBuild}};
 ghost use Rattle.yv_link_scopes.specs.Views.{lent_in, files_in, rows_in};
-ghost use Rattle.yv_link_identities.specs.Refusals.{BadIdentities};
-ghost use Rattle.yv_link_identities.specs.InnerPairs.{AreBases};
-ghost use Rattle.yv_link_identities.specs.Tables.{AreIdentities};
+ghost use Rattle.yv_link_identities.specs.{Refusals.{BadIdentities}, InnerPairs.{AreBases}, Tables.{AreIdentities}};
 
 use crate::draft::Draft;
 use crate::hierarchy::Hierarchy;

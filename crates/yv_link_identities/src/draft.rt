@@ -1,11 +1,7 @@
 //! What is known of the identities before their bases are followed.
 ghost use Rattle.std.specs.Prelude.{◌≡◌, IfOk};
-ghost use Rattle.yv_link_scopes.specs.Rows.{row};
-ghost use Rattle.yv_link_scopes.specs.Tables.{table_of, first_of};
-ghost use Rattle.yv_link_scopes.specs.Views.{files_in, rows_in};
-ghost use Rattle.yv_link_scopes.specs.declared.kind.NameKind.TheVariants.{Identity};
-ghost use Rattle.yv_link_identities.specs.Names.{is_base, identity_meant};
-ghost use Rattle.yv_link_identities.specs.InnerNumbers.{AreNumbers};
+ghost use Rattle.yv_link_scopes.specs.{Rows.{row}, Tables.{table_of, first_of}, Views.{files_in, rows_in}, declared.kind.NameKind.TheVariants.{Identity}};
+ghost use Rattle.yv_link_identities.specs.{Names.{is_base, identity_meant}, InnerNumbers.{AreNumbers}};
 
 use crate::numbers::Numbers;
 use std::alloc::{AllocError, Global};

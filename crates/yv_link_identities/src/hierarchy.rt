@@ -1,6 +1,5 @@
 //! The identities by their numbers, in an order in which each comes after its bases.
-ghost use Rattle.std.specs.Prelude.{◌↔◌, ◌<◌, ◌≤◌, length, slice_index, IsTrue, IfOk, OnOk};
-ghost use Rattle.std.specs.List.{All};
+ghost use Rattle.std.specs.{Prelude.{◌↔◌, ◌<◌, ◌≤◌, length, slice_index, IsTrue, IfOk, OnOk}, List.{All}};
 ghost use Rattle.yv_base_graph.specs.Graph.{IsGraph, AreRanks, ArePlaces, LeadsTo};
 ghost use Rattle.yv_link_identities.specs.InnerWays.{AddsRanks, AreBelow, AreReversed, EntersBelow};
 

@@ -1,8 +1,6 @@
 //! The identities of files, and what readers ask of them.
-ghost use Rattle.std.specs.Prelude.{◌≡◌, ◌↔◌, ◌<◌, length, map, IsTrue, IfOk, IfSome};
-ghost use Rattle.std.specs.Option.{option_map};
-ghost use Rattle.yv_link_scopes.specs.Files.{Files, brief_of};
-ghost use Rattle.yv_link_scopes.specs.RowList.{rows_of};
+ghost use Rattle.std.specs.{Prelude.{◌≡◌, ◌↔◌, ◌<◌, length, map, IsTrue, IfOk, IfSome}, Option.{option_map}};
+ghost use Rattle.yv_link_scopes.specs.{Files.{Files, brief_of}, RowList.{rows_of}};
 
 use crate::hierarchy::{Hierarchy, STEPS};
 use crate::references::{IdentityRef, References, reference};
@@ -20,9 +18,7 @@ pub struct Identities<'a> {
 
 impl<'a> Identities<'a> {
     ghost use Rattle.yv_link_scopes.specs.Views.{lent_in, files_in, rows_in};
-    ghost use Rattle.yv_link_identities.specs.References.{AreDescendants, IsDerived, number_of, reference_of};
-    ghost use Rattle.yv_link_identities.specs.InnerIdentityNumbers.{number_at};
-    ghost use Rattle.yv_link_identities.specs.Tables.{AreIdentities};
+    ghost use Rattle.yv_link_identities.specs.{References.{AreDescendants, IsDerived, number_of, reference_of}, InnerIdentityNumbers.{number_at}, Tables.{AreIdentities}};
 
     /// The identity that a name means in a file of the statements from which these identities are.
     pub fn identity(&self, rows: &Rows<'a, '_>, file: usize, name: &'a str) -> Option<IdentityRef>

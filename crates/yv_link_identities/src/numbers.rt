@@ -1,10 +1,7 @@
 //! The identities, numbered by themselves in the order of the statements.
 ghost use Rattle.std.specs.Prelude.{◌≡◌, List, IfOk};
-ghost use Rattle.yv_link_scopes.specs.Rows.{Row, row};
-ghost use Rattle.yv_link_scopes.specs.Views.{rows_in};
-ghost use Rattle.yv_link_identities.specs.Names.{is_identity};
-ghost use Rattle.yv_link_identities.specs.InnerIdentityNumbers.{node_of};
-ghost use Rattle.yv_link_identities.specs.InnerNumbers.{AreNumbers};
+ghost use Rattle.yv_link_scopes.specs.{Rows.{Row, row}, Views.{rows_in}};
+ghost use Rattle.yv_link_identities.specs.{Names.{is_identity}, InnerIdentityNumbers.{node_of}, InnerNumbers.{AreNumbers}};
 
 use crate::references::{IdentityRef, reference};
 use std::alloc::{AllocError, Global};

@@ -1,7 +1,6 @@
 //! For each identity the bases that it names, by their numbers among the identities.
 ghost use Rattle.std.specs.Prelude.{◌≡◌, length, IfOk};
-ghost use Rattle.yv_link_scopes.specs.Rows.{row};
-ghost use Rattle.yv_link_scopes.specs.Views.{files_in, rows_in};
+ghost use Rattle.yv_link_scopes.specs.{Rows.{row}, Views.{files_in, rows_in}};
 ghost use Rattle.yv_link_identities.specs.InnerPairs.{AreBases, HasNoEdge, pair_of};
 
 use crate::draft::{Draft, is_base};

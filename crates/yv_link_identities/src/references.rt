@@ -1,9 +1,7 @@
 //! References to identities, and the first identity at each place.
 ghost use Rattle.std.specs.Prelude.{◌≡◌, ℕ, OnOk, IfOk};
-ghost use Rattle.yv_link_scopes.specs.Names.{first_where};
-ghost use Rattle.yv_link_scopes.specs.Rows.{row};
-ghost use Rattle.yv_link_identities.specs.References.{is_at, ref_of};
-ghost use Rattle.yv_link_identities.specs.InnerPlaces.{placed_in, keep_first};
+ghost use Rattle.yv_link_scopes.specs.{Names.{first_where}, Rows.{row}};
+ghost use Rattle.yv_link_identities.specs.{References.{is_at, ref_of}, InnerPlaces.{placed_in, keep_first}};
 
 use std::alloc::{AllocError, Global};
 use std::collections::BTreeMap;

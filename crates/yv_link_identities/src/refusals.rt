@@ -1,11 +1,8 @@
 //! What is wrong with identities and bases.
 ghost use Rattle.std.specs.Prelude.{◌≡◌, ◌↔◌, slice_index_or, false, IsTrue};
 ghost use Rattle.yv_statement.specs.Order.{IsLeast};
-ghost use Rattle.yv_link_scopes.specs.Rows.{row};
-ghost use Rattle.yv_link_scopes.specs.Views.{files_in, rows_in};
-ghost use Rattle.yv_link_identities.specs.Derivation.{IsDerivedFrom};
-ghost use Rattle.yv_link_identities.specs.Refusals.{BadIdentities, BadRow, is_unknown};
-ghost use Rattle.yv_link_identities.specs.InnerPairs.{AreIdentityCycles};
+ghost use Rattle.yv_link_scopes.specs.{Rows.{row}, Views.{files_in, rows_in}};
+ghost use Rattle.yv_link_identities.specs.{Derivation.{IsDerivedFrom}, Refusals.{BadIdentities, BadRow, is_unknown}, InnerPairs.{AreIdentityCycles}};
 
 use crate::draft::{Draft, is_base};
 use yv_link_scopes::Entry;

@@ -1,6 +1,5 @@
 //! The edges of a graph turned round.
-ghost use Rattle.std.specs.Prelude.{◌<◌, length, IfOk, OnOk};
-ghost use Rattle.std.specs.List.{All};
+ghost use Rattle.std.specs.{Prelude.{◌<◌, length, IfOk, OnOk}, List.{All}};
 ghost use Rattle.yv_base_graph.specs.Graph.{IsGraph};
 ghost use Rattle.yv_link_identities.specs.InnerWays.{AddsEdges, AreReversed};
 

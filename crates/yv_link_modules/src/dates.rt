@@ -1,10 +1,7 @@
 //! The revisions of files, and the dates that imports and includes ask for.
 ghost use Rattle.std.specs.Prelude.{◌≡◌, ◌<◌, ◌≢◌, ℕ, Some, length, IfOk, codes};
-ghost use Rattle.yv_link_scopes.specs.Files.{has_word};
-ghost use Rattle.yv_link_scopes.specs.Rows.{row};
-ghost use Rattle.yv_link_scopes.specs.Views.{files_in, rows_in};
-ghost use Rattle.yv_link_modules.specs.Dates.{dated_file, takes_date};
-ghost use Rattle.yv_link_modules.specs.InnerDates.{AreGreatest, date_at, is_date, is_other_date, later, text_of};
+ghost use Rattle.yv_link_scopes.specs.{Files.{has_word}, Rows.{row}, Views.{files_in, rows_in}};
+ghost use Rattle.yv_link_modules.specs.{Dates.{dated_file, takes_date}, InnerDates.{AreGreatest, date_at, is_date, is_other_date, later, text_of}};
 
 use std::alloc::{AllocError, Global};
 use std::cmp::Ordering;

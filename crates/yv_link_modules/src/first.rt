@@ -1,14 +1,8 @@
 //! The first of all that is wrong with modules.
 ghost use Rattle.std.specs.Prelude.{◌≡◌, ◌<◌, length, map, IfOk};
 ghost use Rattle.yv_statement.specs.Order.{IsLeast};
-ghost use Rattle.yv_link_scopes.specs.Files.{brief};
-ghost use Rattle.yv_link_scopes.specs.Rows.{row};
-ghost use Rattle.yv_link_scopes.specs.Tables.{table_of, first_of};
-ghost use Rattle.yv_link_scopes.specs.Views.{files_in, rows_in};
-ghost use Rattle.yv_link_scopes.specs.declared.kind.NameKind.TheVariants.{Prefix, Include};
-ghost use Rattle.yv_link_modules.specs.Modules.{BadFile, BadFiles, BadModules, BadRow, BadRows};
-ghost use Rattle.yv_link_modules.specs.InnerDates.{AreGreatest};
-ghost use Rattle.yv_link_modules.specs.InnerImports.{AreLeads};
+ghost use Rattle.yv_link_scopes.specs.{Files.{brief}, Rows.{row}, Tables.{table_of, first_of}, Views.{files_in, rows_in}, declared.kind.NameKind.TheVariants.{Prefix, Include}};
+ghost use Rattle.yv_link_modules.specs.{Modules.{BadFile, BadFiles, BadModules, BadRow, BadRows}, InnerDates.{AreGreatest}, InnerImports.{AreLeads}};
 
 use crate::dates::{greatest_dates, is_other_date};
 use crate::imports::{import_leads, is_import_cycle};

@@ -1,10 +1,8 @@
 //! Chains of imports.
 ghost use Rattle.std.specs.Prelude.{◌≡◌, ◌<◌, length, All, IfOk, OnOk};
 ghost use Rattle.yv_base_graph.specs.Graph.{IsGraph};
-ghost use Rattle.yv_link_scopes.specs.Rows.{row};
-ghost use Rattle.yv_link_scopes.specs.Views.{files_in, rows_in};
-ghost use Rattle.yv_link_modules.specs.Imports.{imported_module};
-ghost use Rattle.yv_link_modules.specs.InnerImports.{AreImports, AreLeads, HasOneMore, is_import_cycle, is_marked};
+ghost use Rattle.yv_link_scopes.specs.{Rows.{row}, Views.{files_in, rows_in}};
+ghost use Rattle.yv_link_modules.specs.{Imports.{imported_module}, InnerImports.{AreImports, AreLeads, HasOneMore, is_import_cycle, is_marked}};
 
 use crate::links::is_module_at;
 use std::alloc::{AllocError, Global};

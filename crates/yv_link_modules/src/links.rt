@@ -1,10 +1,6 @@
 //! Imports, includes and belongs-tos, and the files that they name.
-ghost use Rattle.std.specs.Prelude.{◌≡◌, ◌&&◌, map, is_none, slice_get};
-ghost use Rattle.std.specs.Option.{option_and_then};
-ghost use Rattle.yv_link_scopes.specs.Files.{brief};
-ghost use Rattle.yv_link_scopes.specs.Rows.{row};
-ghost use Rattle.yv_link_scopes.specs.Tables.{table_of};
-ghost use Rattle.yv_link_scopes.specs.Views.{files_in};
+ghost use Rattle.std.specs.{Prelude.{◌≡◌, ◌&&◌, map, is_none, slice_get}, Option.{option_and_then}};
+ghost use Rattle.yv_link_scopes.specs.{Files.{brief}, Rows.{row}, Tables.{table_of}, Views.{files_in}};
 ghost use Rattle.yv_link_modules.specs.Links.{is_at, is_not_included, is_link, is_missing, is_module_at, is_wrong, is_wrong_link};
 
 use yv_link_scopes::{Entry, File, NamePlaces, Rows, name_of};

@@ -1,9 +1,6 @@
 //! Prefixes, and where they are declared.
-ghost use Rattle.std.specs.Prelude.{◌≡◌, ◌||◌};
-ghost use Rattle.std.specs.Option.{option_map};
-ghost use Rattle.yv_link_scopes.specs.Names.{prefix_of as prefix_at};
-ghost use Rattle.yv_link_scopes.specs.Rows.{row};
-ghost use Rattle.yv_link_scopes.specs.Tables.{table_of};
+ghost use Rattle.std.specs.{Prelude.{◌≡◌, ◌||◌}, Option.{option_map}};
+ghost use Rattle.yv_link_scopes.specs.{Names.{prefix_of as prefix_at}, Rows.{row}, Tables.{table_of}};
 ghost use Rattle.yv_link_modules.specs.Prefixes.{has_names, has_undeclared, is_cut, is_second, is_undeclared, is_unknown};
 
 use crate::links::is_at;

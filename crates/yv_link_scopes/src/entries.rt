@@ -1,10 +1,7 @@
 //! The statements of the files, one by one.
 ghost use Rattle.std.specs.Prelude.{◌≡◌, ◌≤◌, ◌<◌, ◌++◌, ℕ, List, length, map, OnOk, IfOk};
 ghost use Rattle.yv_statement.specs.Tree.{Then, End, forest};
-ghost use Rattle.yv_link_scopes.specs.Tables.{table_of};
-ghost use Rattle.yv_link_scopes.specs.Files.{brief, brief_of, file_named};
-ghost use Rattle.yv_link_scopes.specs.Rows.{row, tree, row_list, is_extended};
-ghost use Rattle.yv_link_scopes.specs.RowList.{rows_of, statements_in, statements_of};
+ghost use Rattle.yv_link_scopes.specs.{Tables.{table_of}, Files.{brief, brief_of, file_named}, Rows.{row, tree, row_list, is_extended}, RowList.{rows_of, statements_in, statements_of}};
 
 use crate::files::{File, module_file};
 use crate::places::NamePlaces;

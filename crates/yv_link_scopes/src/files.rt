@@ -1,8 +1,6 @@
 //! The files, and the modules to which they belong.
-ghost use Rattle.std.specs.Prelude.{◌≡◌, ℕ, List, map, slice_get, IfOk};
-ghost use Rattle.std.specs.Option.{unwrap_or};
-ghost use Rattle.yv_link_scopes.specs.Tables.{table_of};
-ghost use Rattle.yv_link_scopes.specs.Files.{brief, brief_of, module_file_at, is_module, module_name, file_named};
+ghost use Rattle.std.specs.{Prelude.{◌≡◌, ℕ, List, map, slice_get, IfOk}, Option.{unwrap_or}};
+ghost use Rattle.yv_link_scopes.specs.{Tables.{table_of}, Files.{brief, brief_of, module_file_at, is_module, module_name, file_named}};
 
 use crate::names::name_of;
 use crate::places::NamePlaces;

@@ -1,13 +1,6 @@
 //! The kinds of names, and where a name of a kind occurs first.
 ghost use Rattle.std.specs.Prelude.{◌≡◌, ◌+◌, ℕ, List, Some, map, slice_get, take, IfOk, OnOk};
-ghost use Rattle.yv_link_scopes.specs.Tables.{table_of, word_of, place_of_kind, first_of};
-ghost use Rattle.yv_link_scopes.specs.Files.{has_word};
-ghost use Rattle.yv_link_scopes.specs.Rows.{Row, row};
-ghost use Rattle.yv_link_scopes.specs.Views.{rows_in};
-ghost use Rattle.yv_link_scopes.specs.InnerPlaces.{AreFirst};
-ghost use Rattle.yv_link_scopes.specs.InnerDefinitions.{ArePlaces};
-ghost use Rattle.yv_link_scopes.specs.declared.kind.NameKind.TheVariants.{Typedef, Grouping};
-ghost use Rattle.yv_link_scopes.specs.declared.kind.NameKind.TheVariants.{Feature, Identity, Extension};
+ghost use Rattle.yv_link_scopes.specs.{Tables.{table_of, word_of, place_of_kind, first_of}, Files.{has_word}, Rows.{Row, row}, Views.{rows_in}, InnerPlaces.{AreFirst}, InnerDefinitions.{ArePlaces}, declared.kind.NameKind.TheVariants.{Typedef, Grouping, Feature, Identity, Extension}};
 
 use crate::entries::Entry;
 use crate::names::name_of;

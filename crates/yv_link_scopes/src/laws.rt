@@ -1,13 +1,7 @@
 //! Laws about the definitions only.
 ghost use Rattle.std.specs.Prelude.{◌≡◌, ◌<◌, ◌≤◌, ℕ, List, Option, Some, map, length, slice_get};
 ghost use Rattle.yv_statement.specs.Tree.{Tree};
-ghost use Rattle.yv_link_scopes.specs.declared.kind.NameKind.{NameKind};
-ghost use Rattle.yv_link_scopes.specs.Files.{Files, Briefs, brief_of, module_file_at, file_named};
-ghost use Rattle.yv_link_scopes.specs.Rows.{Row};
-ghost use Rattle.yv_link_scopes.specs.RowList.{rows_of, statements_of};
-ghost use Rattle.yv_link_scopes.specs.Blocks.{StandsIn};
-ghost use Rattle.yv_link_scopes.specs.Order.{IsInOrder, FollowOffsets};
-ghost use Rattle.yv_link_scopes.specs.Scopes.{AreNested, MeansIn, module_of};
+ghost use Rattle.yv_link_scopes.specs.{declared.kind.NameKind.{NameKind}, Files.{Files, Briefs, brief_of, module_file_at, file_named}, Rows.{Row}, RowList.{rows_of, statements_of}, Blocks.{StandsIn}, Order.{IsInOrder, FollowOffsets}, Scopes.{AreNested, MeansIn, module_of}};
 
 /// The name of a typedef or of a grouping means one thing in a statement.
 pub fn a_name_means_one_thing()

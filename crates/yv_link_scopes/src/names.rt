@@ -1,6 +1,5 @@
 //! Names, and the prefixes before them.
-ghost use Rattle.std.specs.Prelude.{◌≡◌};
-ghost use Rattle.std.specs.Option.{option_map};
+ghost use Rattle.std.specs.{Prelude.{◌≡◌}, Option.{option_map}};
 ghost use Rattle.yv_statement.specs.Tree.{name_of as name_at};
 ghost use Rattle.yv_link_scopes.specs.Names.{prefix_of, local_of};
 

@@ -1,7 +1,6 @@
 //! Where names occur first.
 ghost use Rattle.std.specs.Prelude.{◌≡◌, ℕ, List, Option, None, OnOk};
-ghost use Rattle.yv_link_scopes.specs.Tables.{table_of};
-ghost use Rattle.yv_link_scopes.specs.InnerPlaces.{keep_first};
+ghost use Rattle.yv_link_scopes.specs.{Tables.{table_of}, InnerPlaces.{keep_first}};
 
 use std::alloc::{AllocError, Global};
 use std::collections::BTreeMap;

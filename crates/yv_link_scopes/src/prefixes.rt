@@ -1,12 +1,6 @@
 //! The modules that prefixes identify.
-ghost use Rattle.std.specs.Prelude.{◌≡◌, List, map, slice_get, IfOk};
-ghost use Rattle.std.specs.Option.{option_and_then};
-ghost use Rattle.yv_link_scopes.specs.Rows.{Row, row};
-ghost use Rattle.yv_link_scopes.specs.Files.{Briefs, brief_of};
-ghost use Rattle.yv_link_scopes.specs.RowList.{rows_of};
-ghost use Rattle.yv_link_scopes.specs.Views.{files_in, lent_in, rows_in};
-ghost use Rattle.yv_link_scopes.specs.Scopes.{module_of};
-ghost use Rattle.yv_link_scopes.specs.InnerModuleFiles.{declared_module_file, module_file_of_prefix};
+ghost use Rattle.std.specs.{Prelude.{◌≡◌, List, map, slice_get, IfOk}, Option.{option_and_then}};
+ghost use Rattle.yv_link_scopes.specs.{Rows.{Row, row}, Files.{Briefs, brief_of}, RowList.{rows_of}, Views.{files_in, lent_in, rows_in}, Scopes.{module_of}, InnerModuleFiles.{declared_module_file, module_file_of_prefix}};
 
 use crate::entries::Entry;
 use crate::kind::{NameKind, first_places};

@@ -1,12 +1,6 @@
 //! The statements of the files, and what prefixes and names in them mean.
-ghost use Rattle.std.specs.Prelude.{◌≡◌, ◌<◌, ◌≤◌, ℕ, List, map, length, slice_get, IfOk, IsErr};
-ghost use Rattle.std.specs.Option.{option_map, unwrap_or};
-ghost use Rattle.yv_link_scopes.specs.Tables.{table_of, first_of};
-ghost use Rattle.yv_link_scopes.specs.Files.{brief, brief_of, file_named, module_file_at};
-ghost use Rattle.yv_link_scopes.specs.Rows.{row, tree};
-ghost use Rattle.yv_link_scopes.specs.RowList.{rows_of, statements_of};
-ghost use Rattle.yv_link_scopes.specs.declared.kind.NameKind.{NameKind};
-ghost use Rattle.yv_link_scopes.specs.declared.kind.NameKind.TheVariants.{Prefix};
+ghost use Rattle.std.specs.{Prelude.{◌≡◌, ◌<◌, ◌≤◌, ℕ, List, map, length, slice_get, IfOk, IsErr}, Option.{option_map, unwrap_or}};
+ghost use Rattle.yv_link_scopes.specs.{Tables.{table_of, first_of}, Files.{brief, brief_of, file_named, module_file_at}, Rows.{row, tree}, RowList.{rows_of, statements_of}, declared.kind.NameKind.{NameKind}, declared.kind.NameKind.TheVariants.{Prefix}};
 
 use crate::entries::{Entry, read_entries};
 use crate::files::{File, file_places, module_files, read_files};
@@ -41,8 +35,7 @@ pub struct Rows<'a, 'b> {
 }
 
 impl<'a, 'b> Rows<'a, 'b> {
-    ghost use Rattle.yv_link_scopes.specs.Views.{lent_in, files_in, rows_in, trees_in};
-    ghost use Rattle.yv_link_scopes.specs.Scopes.{Means, MeansIn, block_of, module_of, start_of};
+    ghost use Rattle.yv_link_scopes.specs.{Views.{lent_in, files_in, rows_in, trees_in}, Scopes.{Means, MeansIn, block_of, module_of, start_of}};
 
     /// The statements of files that have these roots. Err if memory runs out, and where there are
     /// more than 2^32 - 3 statements.

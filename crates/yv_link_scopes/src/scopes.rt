@@ -1,10 +1,6 @@
 //! What a name means in a block.
 ghost use Rattle.std.specs.Prelude.{◌≡◌, map};
-ghost use Rattle.yv_link_scopes.specs.Tables.{first_of, table_of};
-ghost use Rattle.yv_link_scopes.specs.Rows.{row};
-ghost use Rattle.yv_link_scopes.specs.Scopes.{Means, AreNested};
-ghost use Rattle.yv_link_scopes.specs.InnerPlaces.{lesser_of};
-ghost use Rattle.yv_link_scopes.specs.declared.kind.NameKind.{NameKind};
+ghost use Rattle.yv_link_scopes.specs.{Tables.{first_of, table_of}, Rows.{row}, Scopes.{Means, AreNested}, InnerPlaces.{lesser_of}, declared.kind.NameKind.{NameKind}};
 
 use crate::entries::Entry;
 use crate::places::NamePlaces;

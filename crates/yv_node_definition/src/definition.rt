@@ -1,11 +1,7 @@
 //! What a statement says of the schema node that it defines.
-ghost use Rattle.std.specs.Prelude.{◌≡◌, ◌≤◌, length, not, map, IfOk};
-ghost use Rattle.std.specs.Option.{option_map};
-ghost use Rattle.std.specs.Rc.{rc_slice_items, rc_str_bytes};
-ghost use Rattle.yv_values.specs.Types.{plain_of};
-ghost use Rattle.yv_values.specs.Same.{has_same};
-ghost use Rattle.yv_node_definition.specs.Definition.{defaults_said, is_empty, own_default, paths_in, with_types, written_of};
-ghost use Rattle.yv_node_definition.specs.Steps.{has_step};
+ghost use Rattle.std.specs.{Prelude.{◌≡◌, ◌≤◌, length, not, map, IfOk}, Option.{option_map}, Rc.{rc_slice_items, rc_str_bytes}};
+ghost use Rattle.yv_values.specs.{Types.{plain_of}, Same.{has_same}};
+ghost use Rattle.yv_node_definition.specs.{Definition.{defaults_said, is_empty, own_default, paths_in, with_types, written_of}, Steps.{has_step}};
 
 use crate::keys::Keys;
 use crate::kind::{NodeKind, NodeStatus};
@@ -73,9 +69,7 @@ pub struct DefinitionDraft {
 }
 
 impl Model for DefinitionDraft {
-    ghost use Rattle.std.specs.Prelude.{map};
-    ghost use Rattle.std.specs.Option.{option_map};
-    ghost use Rattle.std.specs.Rc.{rc_slice_items, rc_str_bytes};
+    ghost use Rattle.std.specs.{Prelude.{map}, Option.{option_map}, Rc.{rc_slice_items, rc_str_bytes}};
     ghost use Rattle.yv_values.specs.Types.{plain_of};
     ghost use Rattle.yv_node_definition.specs.Definition.{Definition, paths_in, written_of};
 
@@ -168,8 +162,7 @@ pub struct Definition {
 }
 
 impl Model for Definition {
-    ghost use Rattle.std.specs.Prelude.{map};
-    ghost use Rattle.std.specs.Rc.{rc_slice_items};
+    ghost use Rattle.std.specs.{Prelude.{map}, Rc.{rc_slice_items}};
     ghost use Rattle.yv_values.specs.Types.{plain_of};
     ghost use Rattle.yv_node_definition.specs.Definition.{Definition, with_types};
 

@@ -1,8 +1,6 @@
 //! The keys of a list.
-ghost use Rattle.std.specs.Prelude.{◌≡◌, ◌||◌, ℕ, List, Option, Some, IfOk, OnOk};
-ghost use Rattle.std.specs.Rc.{rc_str_bytes};
-ghost use Rattle.yv_node_definition.specs.Steps.{has_step, is_step};
-ghost use Rattle.yv_node_definition.specs.InnerNames.{has};
+ghost use Rattle.std.specs.{Prelude.{◌≡◌, ◌||◌, ℕ, List, Option, Some, IfOk, OnOk}, Rc.{rc_str_bytes}};
+ghost use Rattle.yv_node_definition.specs.{Steps.{has_step, is_step}, InnerNames.{has}};
 
 use crate::step::PathStep;
 use std::alloc::{AllocError, Global};
@@ -20,8 +18,7 @@ pub struct Keys {
 
 impl Model for Keys {
     ghost use Rattle.std.specs.Prelude.{◌≡◌, ℕ, List, Option};
-    ghost use Rattle.yv_node_definition.specs.Steps.{Step, has_step};
-    ghost use Rattle.yv_node_definition.specs.InnerNames.{has};
+    ghost use Rattle.yv_node_definition.specs.{Steps.{Step, has_step}, InnerNames.{has}};
 
     ghost Value = { List (Option Step) };
 

@@ -1,6 +1,5 @@
 //! A piece of the path of a leafref, as it is written.
-ghost use Rattle.std.specs.Prelude.{◌≡◌};
-ghost use Rattle.std.specs.Option.{option_map};
+ghost use Rattle.std.specs.{Prelude.{◌≡◌}, Option.{option_map}};
 
 use std::marker::Model;
 use std::rc::RcStr;
@@ -19,8 +18,7 @@ pub struct PathPiece {
 }
 
 impl Model for PathPiece {
-    ghost use Rattle.std.specs.Option.{option_map};
-    ghost use Rattle.std.specs.Rc.{rc_str_bytes};
+    ghost use Rattle.std.specs.{Option.{option_map}, Rc.{rc_str_bytes}};
     ghost use Rattle.yv_node_definition.specs.Steps.{Piece};
 
     ghost Value = { Piece };

@@ -1,10 +1,7 @@
 //! The default cases of choices.
-ghost use Rattle.std.specs.Prelude.{◌≡◌};
-ghost use Rattle.std.specs.List.{find};
-ghost use Rattle.std.specs.Option.{option_map};
+ghost use Rattle.std.specs.{Prelude.{◌≡◌}, List.{find}, Option.{option_map}};
 ghost use Rattle.yv_node_definition.specs.Definition.{written_of};
-ghost use Rattle.yv_node_keys.specs.Numbers.{children_at, default_of, default_case_at, is_called_at};
-ghost use Rattle.yv_node_keys.specs.InnerNamesakes.{HaveName, NamesDefault};
+ghost use Rattle.yv_node_keys.specs.{Numbers.{children_at, default_of, default_case_at, is_called_at}, InnerNamesakes.{HaveName, NamesDefault}};
 
 use crate::node_numbers::{children_at, is_called_at, module_file_at, node_at};
 use yv_node_definition::{NodeKind, WrittenText};

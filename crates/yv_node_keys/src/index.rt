@@ -1,7 +1,6 @@
 //! The nodes below nodes by module and name, found as they are asked for.
 ghost use Rattle.std.specs.Prelude.{◌≡◌, IfOk, IfSome};
-ghost use Rattle.yv_node_keys.specs.Numbers.{child_at, children_at};
-ghost use Rattle.yv_node_keys.specs.InnerNames.{AreNames, told_of};
+ghost use Rattle.yv_node_keys.specs.{Numbers.{child_at, children_at}, InnerNames.{AreNames, told_of}};
 
 use crate::names::ChildNames;
 use std::alloc::{AllocError, Global};

@@ -1,14 +1,8 @@
 //! The leafs that a key names.
-ghost use Rattle.std.specs.Prelude.{◌≡◌, ℕ, Some, not, map, slice_get, is_some, IfOk, IfSome};
-ghost use Rattle.std.specs.List.{list_any};
+ghost use Rattle.std.specs.{Prelude.{◌≡◌, ℕ, Some, not, map, slice_get, is_some, IfOk, IfSome}, List.{list_any}};
 ghost use Rattle.yv_node_definition.specs.Steps.{Step};
-ghost use Rattle.yv_nodes.specs.Tree.{Forest};
-ghost use Rattle.yv_nodes.specs.Places.{Place, places};
-ghost use Rattle.yv_nodes.specs.Numbers.{rows_from};
-ghost use Rattle.yv_node_keys.specs.Numbers.{child_at, children_at, key_leaf_at, tree_in};
-ghost use Rattle.yv_node_keys.specs.Refusals.{is_bad_key};
-ghost use Rattle.yv_node_keys.specs.InnerNames.{AreNamesIfKept};
-ghost use Rattle.yv_node_keys.specs.InnerNamesakes.{HaveName, HaveNames};
+ghost use Rattle.yv_nodes.specs.{Tree.{Forest}, Places.{Place, places}, Numbers.{rows_from}};
+ghost use Rattle.yv_node_keys.specs.{Numbers.{child_at, children_at, key_leaf_at, tree_in}, Refusals.{is_bad_key}, InnerNames.{AreNamesIfKept}, InnerNamesakes.{HaveName, HaveNames}};
 
 use crate::cases::first_called;
 use crate::names::ChildNames;

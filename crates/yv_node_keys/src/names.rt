@@ -1,8 +1,6 @@
 //! The nodes directly below one by module and name.
-ghost use Rattle.std.specs.Prelude.{◌≡◌, ℕ, List, None, OnOk, IfOk};
-ghost use Rattle.std.specs.Option.{option_map};
-ghost use Rattle.yv_node_keys.specs.Numbers.{children_at};
-ghost use Rattle.yv_node_keys.specs.InnerNames.{AreNames, told_before, told_of, told_with};
+ghost use Rattle.std.specs.{Prelude.{◌≡◌, ℕ, List, None, OnOk, IfOk}, Option.{option_map}};
+ghost use Rattle.yv_node_keys.specs.{Numbers.{children_at}, InnerNames.{AreNames, told_before, told_of, told_with}};
 
 use crate::node_numbers::{children_at, node_at};
 use std::alloc::{AllocError, Global};

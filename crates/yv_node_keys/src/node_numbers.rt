@@ -1,6 +1,5 @@
 //! Nodes by their numbers.
-ghost use Rattle.std.specs.Prelude.{◌≡◌, slice_get};
-ghost use Rattle.std.specs.Option.{option_map};
+ghost use Rattle.std.specs.{Prelude.{◌≡◌, slice_get}, Option.{option_map}};
 ghost use Rattle.yv_node_definition.specs.Kinds.{is_case, is_choice, is_leaf, is_list};
 ghost use Rattle.yv_node_keys.specs.Numbers.{arrived_at, children_at, module_file_at, is_called_at, is_kind_at, leaf_of};
 

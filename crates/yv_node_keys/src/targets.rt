@@ -1,16 +1,8 @@
 //! What all lists and choices name.
-ghost use Rattle.std.specs.Prelude.{◌≡◌, ◌<◌, ◌+◌, ℕ, List, Some, None, map, slice_get, length, IfOk, OnOk};
-ghost use Rattle.std.specs.declared.vec.Vec.{Vec};
-ghost use Rattle.std.specs.declared.alloc.Global.{Global};
+ghost use Rattle.std.specs.{Prelude.{◌≡◌, ◌<◌, ◌+◌, ℕ, List, Some, None, map, slice_get, length, IfOk, OnOk}, declared.vec.Vec.{Vec}, declared.alloc.Global.{Global}};
 ghost use Rattle.yv_statement.specs.Order.{IsLeast};
-ghost use Rattle.yv_nodes.specs.Tree.{Forest};
-ghost use Rattle.yv_nodes.specs.Places.{Place, places};
-ghost use Rattle.yv_nodes.specs.Rows.{Row};
-ghost use Rattle.yv_nodes.specs.Numbers.{rows_from};
-ghost use Rattle.yv_node_keys.specs.Numbers.{default_case_at, key_leaf_at, unique_leaf_at};
-ghost use Rattle.yv_node_keys.specs.Bad.{BadLeafs, BadOfLeafs};
-ghost use Rattle.yv_node_keys.specs.LeafTargets.{AreLeafTargets};
-ghost use Rattle.yv_node_keys.specs.InnerTargets.{AreRight, AreUpTo, HasCase, HasLeafs, IsKeptUpTo, IsRight, cases_at, keys_in, lists_at};
+ghost use Rattle.yv_nodes.specs.{Tree.{Forest}, Places.{Place, places}, Rows.{Row}, Numbers.{rows_from}};
+ghost use Rattle.yv_node_keys.specs.{Numbers.{default_case_at, key_leaf_at, unique_leaf_at}, Bad.{BadLeafs, BadOfLeafs}, LeafTargets.{AreLeafTargets}, InnerTargets.{AreRight, AreUpTo, HasCase, HasLeafs, IsKeptUpTo, IsRight, cases_at, keys_in, lists_at}};
 
 use crate::cases::default_case;
 use crate::keys::key_leafs_like;

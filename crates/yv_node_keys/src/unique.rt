@@ -1,13 +1,8 @@
 //! The leafs that `unique` statements name.
-ghost use Rattle.std.specs.Prelude.{◌≡◌, ◌&&◌, ℕ, Some, not, map, slice_get, is_some, IfOk, IfSome};
-ghost use Rattle.std.specs.List.{list_any};
-ghost use Rattle.yv_nodes.specs.Tree.{Forest};
-ghost use Rattle.yv_nodes.specs.Places.{Place, places};
-ghost use Rattle.yv_nodes.specs.Numbers.{rows_from};
-ghost use Rattle.yv_node_keys.specs.Numbers.{tree_in, unique_leaf_at};
+ghost use Rattle.std.specs.{Prelude.{◌≡◌, ◌&&◌, ℕ, Some, not, map, slice_get, is_some, IfOk, IfSome}, List.{list_any}};
+ghost use Rattle.yv_nodes.specs.{Tree.{Forest}, Places.{Place, places}, Numbers.{rows_from}};
+ghost use Rattle.yv_node_keys.specs.{Numbers.{tree_in, unique_leaf_at}, Refusals.{is_bad_unique}, InnerMixedConfig.{is_bad_statement_at, is_config_at, is_mixed_at}};
 ghost use Rattle.yv_node_definition.specs.Definition.{paths_in};
-ghost use Rattle.yv_node_keys.specs.Refusals.{is_bad_unique};
-ghost use Rattle.yv_node_keys.specs.InnerMixedConfig.{is_bad_statement_at, is_config_at, is_mixed_at};
 
 use crate::index::Index;
 use crate::node_numbers::node_at;

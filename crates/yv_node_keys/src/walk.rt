@@ -1,8 +1,6 @@
 //! Where paths lead.
-ghost use Rattle.std.specs.Prelude.{◌≡◌, Some, None, IfOk, if◌then◌else◌};
-ghost use Rattle.std.specs.Option.{option_and_then};
-ghost use Rattle.yv_node_keys.specs.declared.place.Way.TheVariants.{AtNode};
-ghost use Rattle.yv_node_keys.specs.Numbers.{arrived_at, is_called_at, leaf_at_end_of, led_by_at, unique_leaf_at};
+ghost use Rattle.std.specs.{Prelude.{◌≡◌, Some, None, IfOk, if◌then◌else◌}, Option.{option_and_then}};
+ghost use Rattle.yv_node_keys.specs.{declared.place.Way.TheVariants.{AtNode}, Numbers.{arrived_at, is_called_at, leaf_at_end_of, led_by_at, unique_leaf_at}};
 
 use crate::index::Index;
 use crate::node_numbers::{arrived_at, is_called_at, leaf_of, module_file_at};

@@ -1,8 +1,7 @@
 //! The places above nodes.
 ghost use Rattle.std.specs.Prelude.{◌≡◌, ◌<◌, ◌≤◌, ◌↔◌, ℕ, List, Some, length, IfOk, IsTrue, slice_get};
 ghost use Rattle.yv_nodes.specs.Rows.{Row};
-ghost use Rattle.yv_node_leafrefs.specs.Above.{AreBehind, Closest, IsInside, parent_of, place_of};
-ghost use Rattle.yv_node_leafrefs.specs.InnerOutline.{AreAbove, AreInside};
+ghost use Rattle.yv_node_leafrefs.specs.{Above.{AreBehind, Closest, IsInside, parent_of, place_of}, InnerOutline.{AreAbove, AreInside}};
 
 use std::alloc::{AllocError, Global};
 use yv_nodes::{Node, NodeId};

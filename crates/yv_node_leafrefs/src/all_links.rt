@@ -1,12 +1,7 @@
 //! The links of a schema's leafrefs.
-ghost use Rattle.std.specs.Prelude.{◌≡◌, ◌↔◌, Some, length, IfOk};
-ghost use Rattle.std.specs.Option.{option_map};
+ghost use Rattle.std.specs.{Prelude.{◌≡◌, ◌↔◌, Some, length, IfOk}, Option.{option_map}};
 ghost use Rattle.yv_nodes.specs.Link as spec;
-ghost use Rattle.yv_node_leafrefs.specs.Above.{AreBehind};
-ghost use Rattle.yv_node_leafrefs.specs.Leafrefs.{AreLeafrefs};
-ghost use Rattle.yv_node_leafrefs.specs.Schema.{Schema, leafref_of_row};
-ghost use Rattle.yv_node_leafrefs.specs.Links.{AreLinks, IsLinkOf};
-ghost use Rattle.yv_node_leafrefs.specs.InnerWays.{AreAbove};
+ghost use Rattle.yv_node_leafrefs.specs.{Above.{AreBehind}, Leafrefs.{AreLeafrefs}, Schema.{Schema, leafref_of_row}, Links.{AreLinks, IsLinkOf}, InnerWays.{AreAbove}};
 
 use crate::inner_nodes::inner_above;
 use crate::leafref::Leafref;

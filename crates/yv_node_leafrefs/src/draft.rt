@@ -1,9 +1,6 @@
 //! What is read of nodes and leafrefs before paths are followed.
 ghost use Rattle.std.specs.Prelude.{◌≡◌, ◌<◌, ◌^◌, length, IfOk};
-ghost use Rattle.yv_node_leafrefs.specs.Above.{AreBehind};
-ghost use Rattle.yv_node_leafrefs.specs.DefiningStatements.{AreNamed};
-ghost use Rattle.yv_node_leafrefs.specs.InnerOutline.{rows_in};
-ghost use Rattle.yv_node_leafrefs.specs.InnerIndex.{IsDraft, AreKeys, data_key};
+ghost use Rattle.yv_node_leafrefs.specs.{Above.{AreBehind}, DefiningStatements.{AreNamed}, InnerOutline.{rows_in}, InnerIndex.{IsDraft, AreKeys, data_key}};
 
 use crate::above::{operation_marks, places_above};
 use crate::index::{Index, Key, rank};

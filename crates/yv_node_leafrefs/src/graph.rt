@@ -1,10 +1,7 @@
 //! The graph of leafrefs: the nodes that lead to themselves, and the nodes whose types leafrefs
 //! have.
-ghost use Rattle.std.specs.Prelude.{◌≡◌, ◌<◌, ◌^◌, ℕ, length, map, option_to_list, Some, IfOk, slice_index};
-ghost use Rattle.std.specs.List.{All};
-ghost use Rattle.yv_node_leafrefs.specs.Schema.{Schema};
-ghost use Rattle.yv_node_leafrefs.specs.Targets.{LeadsTo, HasTypesOf};
-ghost use Rattle.yv_node_leafrefs.specs.InnerGraph.{AreTargets, AreLeafrefCycles, AreEdges, IsBehind, IsVisited, origin_of};
+ghost use Rattle.std.specs.{Prelude.{◌≡◌, ◌<◌, ◌^◌, ℕ, length, map, option_to_list, Some, IfOk, slice_index}, List.{All}};
+ghost use Rattle.yv_node_leafrefs.specs.{Schema.{Schema}, Targets.{LeadsTo, HasTypesOf}, InnerGraph.{AreTargets, AreLeafrefCycles, AreEdges, IsBehind, IsVisited, origin_of}};
 
 use std::alloc::{AllocError, Global};
 use yv_base_graph::{Ranking, nodes_on_cycles, rank};

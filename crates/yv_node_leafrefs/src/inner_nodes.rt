@@ -1,9 +1,6 @@
 //! The containers and lists above nodes.
-ghost use Rattle.std.specs.Prelude.{◌≡◌, ◌<◌, ◌≤◌, ◌↔◌, ℕ, None, Some, length, IfOk};
-ghost use Rattle.std.specs.List.{slice_index_or};
-ghost use Rattle.yv_node_leafrefs.specs.Above.{AreBehind, Closest, parent_of, place_of};
-ghost use Rattle.yv_node_leafrefs.specs.Links.{IsInner};
-ghost use Rattle.yv_node_leafrefs.specs.InnerWays.{AreAbove};
+ghost use Rattle.std.specs.{Prelude.{◌≡◌, ◌<◌, ◌≤◌, ◌↔◌, ℕ, None, Some, length, IfOk}, List.{slice_index_or}};
+ghost use Rattle.yv_node_leafrefs.specs.{Above.{AreBehind, Closest, parent_of, place_of}, Links.{IsInner}, InnerWays.{AreAbove}};
 
 use std::alloc::{AllocError, Global};
 use yv_node_definition::NodeKind;

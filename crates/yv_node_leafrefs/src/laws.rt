@@ -1,16 +1,8 @@
 //! Laws about the definitions only: what users of leafrefs may rely on. These functions do nothing:
 //! the contract of each is the law.
 ghost use Rattle.std.specs.Prelude.{List, ◌≡◌, ◌⊎◌, ◌≤◌, ℕ, Some, None, true, slice_get};
-ghost use Rattle.yv_nodes.specs.Tree.{Forest};
-ghost use Rattle.yv_nodes.specs.Rows.{Row};
-ghost use Rattle.yv_nodes.specs.Numbers.{numbers_from, rows_from};
-ghost use Rattle.yv_nodes.specs.NodeTypes.{typed_from, typed_rows};
-ghost use Rattle.yv_node_leafrefs.specs.Schema.{AreAlike, Schema};
-ghost use Rattle.yv_node_leafrefs.specs.Above.{AreBehind, IsDepth, IsInside, IsUnder};
-ghost use Rattle.yv_node_leafrefs.specs.Targets.{RefersTo, HasTypesOf, has_values};
-ghost use Rattle.yv_node_leafrefs.specs.Leafrefs.{AreLeafrefs};
-ghost use Rattle.yv_node_leafrefs.specs.declared.leafrefs.Leafrefs.{Leafrefs};
-ghost use Rattle.yv_node_leafrefs.specs.Resolution.{IsResolved, IsTyped};
+ghost use Rattle.yv_nodes.specs.{Tree.{Forest}, Rows.{Row}, Numbers.{numbers_from, rows_from}, NodeTypes.{typed_from, typed_rows}};
+ghost use Rattle.yv_node_leafrefs.specs.{Schema.{AreAlike, Schema}, Above.{AreBehind, IsDepth, IsInside, IsUnder}, Targets.{RefersTo, HasTypesOf, has_values}, Leafrefs.{AreLeafrefs}, declared.leafrefs.Leafrefs.{Leafrefs}, Resolution.{IsResolved, IsTyped}};
 ghost use Rattle.yv_values.specs.Types.{Plain};
 
 /// Each row of a schema tree is after the one above it.

@@ -1,14 +1,7 @@
 //! The leafrefs of a schema tree.
-ghost use Rattle.std.specs.Prelude.{◌≡◌, ◌<◌, ◌↔◌, ◌^◌, All, ℕ, List, Option, Some, None, map, length, IfErr, IfOk, OnOk, slice_get};
-ghost use Rattle.std.specs.List.{slice_index_or};
-ghost use Rattle.std.specs.Option.{option_map};
-ghost use Rattle.yv_nodes.specs.declared.node.NodeId.{NodeId};
-ghost use Rattle.yv_nodes.specs.Numbers.{rows_from};
-ghost use Rattle.yv_nodes.specs.Rows.{Row};
-ghost use Rattle.yv_nodes.specs.Tree.{Forest};
-ghost use Rattle.yv_node_leafrefs.specs.Schema.{Referral, Schema, leafref_of_row};
-ghost use Rattle.yv_node_leafrefs.specs.Above.{AreBehind};
-ghost use Rattle.yv_node_leafrefs.specs.DefiningStatements.{AreNamed};
+ghost use Rattle.std.specs.{Prelude.{◌≡◌, ◌<◌, ◌↔◌, ◌^◌, All, ℕ, List, Option, Some, None, map, length, IfErr, IfOk, OnOk, slice_get}, List.{slice_index_or}, Option.{option_map}};
+ghost use Rattle.yv_nodes.specs.{declared.node.NodeId.{NodeId}, Numbers.{rows_from}, Rows.{Row}, Tree.{Forest}};
+ghost use Rattle.yv_node_leafrefs.specs.{Schema.{Referral, Schema, leafref_of_row}, Above.{AreBehind}, DefiningStatements.{AreNamed}};
 
 use crate::draft::Draft;
 use crate::graph::{cycles, origins};
@@ -58,10 +51,7 @@ fn all_numbered(alloc: Global, numbers: &[usize]) -> Result<Vec<NodeId>, AllocEr
 
 impl Leafrefs {
     ghost use Rattle.yv_statement.specs.Order.{IsLeast};
-    ghost use Rattle.yv_node_leafrefs.specs.Targets.{RefersTo, HasTypesOf};
-    ghost use Rattle.yv_node_leafrefs.specs.Bad.{BadLeafrefs};
-    ghost use Rattle.yv_node_leafrefs.specs.Leafrefs.{AreLeafrefs};
-    ghost use Rattle.yv_node_leafrefs.specs.Resolution.{IsTyped};
+    ghost use Rattle.yv_node_leafrefs.specs.{Targets.{RefersTo, HasTypesOf}, Bad.{BadLeafrefs}, Leafrefs.{AreLeafrefs}, Resolution.{IsTyped}};
 
     /// The leafrefs among these nodes. For each node `statements` has the number of the statement
     /// that defines it, so that a long name is compared once for all copies of a node, and `of`

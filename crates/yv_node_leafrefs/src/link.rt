@@ -1,6 +1,5 @@
 //! The link of one leafref.
-ghost use Rattle.std.specs.Prelude.{◌≡◌, map, reverse, IfOk, Some};
-ghost use Rattle.std.specs.Option.{option_map};
+ghost use Rattle.std.specs.{Prelude.{◌≡◌, map, reverse, IfOk, Some}, Option.{option_map}};
 ghost use Rattle.yv_node_leafrefs.specs.InnerWays.{is_path, link_of_path, upwards};
 
 use crate::inner_nodes::above_at;

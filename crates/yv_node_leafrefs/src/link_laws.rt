@@ -2,13 +2,8 @@
 //! the contract of each is the law.
 ghost use Rattle.std.specs.Prelude.{◌≡◌, ◌≢◌, ℕ, List, Option, Some, true};
 ghost use Rattle.yv_values.specs.Types.{Plain};
-ghost use Rattle.yv_nodes.specs.Link.{AreLinked, Link, link_in, reference_in};
-ghost use Rattle.yv_nodes.specs.Numbers.{rows_from};
-ghost use Rattle.yv_nodes.specs.Tree.{Forest};
-ghost use Rattle.yv_nodes.specs.NodeTypes.{typed_from};
-ghost use Rattle.yv_node_leafrefs.specs.Schema.{AreAlike, Schema};
-ghost use Rattle.yv_node_leafrefs.specs.Targets.{RefersTo};
-ghost use Rattle.yv_node_leafrefs.specs.Links.{AreLinks, OnlyInnerHold};
+ghost use Rattle.yv_nodes.specs.{Link.{AreLinked, Link, link_in, reference_in}, Numbers.{rows_from}, Tree.{Forest}, NodeTypes.{typed_from}};
+ghost use Rattle.yv_node_leafrefs.specs.{Schema.{AreAlike, Schema}, Targets.{RefersTo}, Links.{AreLinks, OnlyInnerHold}};
 
 /// The links of a schema lead in its trees from where they climb to, to their targets.
 pub fn links_lead()

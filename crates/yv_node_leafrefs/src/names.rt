@@ -1,8 +1,7 @@
 //! The names of nodes as numbers.
 ghost use Rattle.std.specs.Prelude.{◌≡◌, ◌==◌, ◌+◌, ◌<◌, ◌^◌, ℕ, List, None, Some, length, slice_get, IfOk, OnOk, if◌then◌else◌};
 ghost use Rattle.yv_nodes.specs.Rows.{Row};
-ghost use Rattle.yv_node_leafrefs.specs.DefiningStatements.{AreNamed};
-ghost use Rattle.yv_node_leafrefs.specs.InnerNames.{told_of, given_to, keep_first, AreOfNodes, AreNumbers, AreNumbered};
+ghost use Rattle.yv_node_leafrefs.specs.{DefiningStatements.{AreNamed}, InnerNames.{told_of, given_to, keep_first, AreOfNodes, AreNumbers, AreNumbered}};
 
 use std::alloc::{AllocError, Global};
 use std::collections::BTreeMap;

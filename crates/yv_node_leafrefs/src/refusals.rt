@@ -2,11 +2,7 @@
 ghost use Rattle.std.specs.Prelude.{◌≡◌, ◌<◌, ◌↔◌, ℕ, Some, None, length, slice_get, IsTrue};
 ghost use Rattle.yv_statement.specs.Order.{IsLeast};
 ghost use Rattle.yv_nodes.specs.Rows.{Row};
-ghost use Rattle.yv_node_leafrefs.specs.Bad.{BadLeafrefs, BadLeafref, IsLost};
-ghost use Rattle.yv_node_leafrefs.specs.Targets.{RefersTo};
-ghost use Rattle.yv_node_leafrefs.specs.InnerOutline.{rows_in, schema_in};
-ghost use Rattle.yv_node_leafrefs.specs.InnerIndex.{IsDraft};
-ghost use Rattle.yv_node_leafrefs.specs.InnerGraph.{AreTargets, AreLeafrefCycles};
+ghost use Rattle.yv_node_leafrefs.specs.{Bad.{BadLeafrefs, BadLeafref, IsLost}, Targets.{RefersTo}, InnerOutline.{rows_in, schema_in}, InnerIndex.{IsDraft}, InnerGraph.{AreTargets, AreLeafrefCycles}};
 
 use crate::draft::Draft;
 use crate::outline::Outline;

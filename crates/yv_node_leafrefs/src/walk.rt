@@ -1,11 +1,7 @@
 //! Where paths lead.
 ghost use Rattle.std.specs.Prelude.{◌≡◌, ◌↔◌, ◌<◌, ℕ, List, Option, Some, map, length};
 ghost use Rattle.yv_node_definition.specs.Steps.{Step};
-ghost use Rattle.yv_node_leafrefs.specs.Ways.{Climbs, Begins, Leads};
-ghost use Rattle.yv_node_leafrefs.specs.InnerNames.{told_of, stride_of};
-ghost use Rattle.yv_node_leafrefs.specs.InnerOutline.{rows_in};
-ghost use Rattle.yv_node_leafrefs.specs.InnerIndex.{IsDraft, target_of_stride, table_of};
-ghost use Rattle.yv_node_leafrefs.specs.declared.outline.Outline.{Outline};
+ghost use Rattle.yv_node_leafrefs.specs.{Ways.{Climbs, Begins, Leads}, InnerNames.{told_of, stride_of}, InnerOutline.{rows_in}, InnerIndex.{IsDraft, target_of_stride, table_of}, declared.outline.Outline.{Outline}};
 
 use crate::draft::Draft;
 use crate::index::rank;

@@ -1,6 +1,5 @@
 //! A text that is cut at its first blank.
-ghost use Rattle.std.specs.Prelude.{◌≡◌, position, IfSome, IsUtf8};
-ghost use Rattle.std.specs.Option.{option_map};
+ghost use Rattle.std.specs.{Prelude.{◌≡◌, position, IfSome, IsUtf8}, Option.{option_map}};
 ghost use Rattle.yv_text_grammar.specs.Bytes.{is_blank};
 ghost use Rattle.yv_node_paths.specs.InnerFirstWord.{first_word};
 

@@ -1,13 +1,8 @@
 //! Laws about the definitions only. These functions do nothing: the contract of each is the law.
 ghost use Rattle.std.specs.Prelude.{◌≡◌, ◌≢◌, ℕ, List, true, slice_get, Some};
-ghost use Rattle.yv_statement.specs.Tree.{Tree, trees};
-ghost use Rattle.yv_text_grammar.specs.Refusals.{keyword_at};
-ghost use Rattle.yv_text_grammar.specs.Fits.{Fits, FitsIn};
-ghost use Rattle.yv_statement.specs.declared.keyword.Keyword.{Keyword};
-ghost use Rattle.yv_statement.specs.declared.keyword.Keyword.TheVariants.{Extended, Path};
-ghost use Rattle.yv_text_grammar.specs.Texts.{is_leafref_path};
-ghost use Rattle.yv_link_scopes.specs.Files.{Files};
-ghost use Rattle.yv_link_scopes.specs.RowList.{statements_of};
+ghost use Rattle.yv_statement.specs.{Tree.{Tree, trees}, declared.keyword.Keyword.{Keyword}, declared.keyword.Keyword.TheVariants.{Extended, Path}};
+ghost use Rattle.yv_text_grammar.specs.{Refusals.{keyword_at}, Fits.{Fits, FitsIn}, Texts.{is_leafref_path}};
+ghost use Rattle.yv_link_scopes.specs.{Files.{Files}, RowList.{statements_of}};
 ghost use Rattle.yv_node_paths.specs.Referral.{climbs_of};
 
 /// A text that a leafref may have as its path is absolute, or climbs once or more (RFC 7950,

@@ -1,10 +1,7 @@
 //! The paths of arguments.
 ghost use Rattle.std.specs.Prelude.{◌≡◌, ◌++◌, map, IfOk, OnOk};
-ghost use Rattle.yv_link_scopes.specs.Files.{Files};
-ghost use Rattle.yv_link_scopes.specs.Views.{lent_in};
-ghost use Rattle.yv_node_paths.specs.InnerPrefixes.{IsPrefixTable};
-ghost use Rattle.yv_node_paths.specs.InnerFirstWord.{name_in, path_in};
-ghost use Rattle.yv_node_paths.specs.Steps.{names_of, paths_of};
+ghost use Rattle.yv_link_scopes.specs.{Files.{Files}, Views.{lent_in}};
+ghost use Rattle.yv_node_paths.specs.{InnerPrefixes.{IsPrefixTable}, InnerFirstWord.{name_in, path_in}, Steps.{names_of, paths_of}};
 
 use crate::first_word::cut;
 use crate::referral::LeafrefPath;
@@ -82,8 +79,7 @@ pub struct LeafPaths<'a> {
 }
 
 impl<'a> LeafPaths<'a> {
-    ghost use Rattle.yv_node_paths.specs.LeafPaths.{AreLeafPaths};
-    ghost use Rattle.yv_node_paths.specs.Referral.{climbs_of, pieces_of, steps_in};
+    ghost use Rattle.yv_node_paths.specs.{LeafPaths.{AreLeafPaths}, Referral.{climbs_of, pieces_of, steps_in}};
 
     /// The prefixes that files declare, in time n log n and memory linear in the text. Err only if
     /// memory runs out.

@@ -1,8 +1,7 @@
 //! The paths of leafrefs as they are written.
 ghost use Rattle.std.specs.Prelude.{◌≡◌, map, IfOk};
 ghost use Rattle.yv_link_scopes.specs.Files.{Files};
-ghost use Rattle.yv_node_paths.specs.InnerPrefixes.{IsPrefixTable};
-ghost use Rattle.yv_node_paths.specs.Referral.{piece_of, pieces_of};
+ghost use Rattle.yv_node_paths.specs.{InnerPrefixes.{IsPrefixTable}, Referral.{piece_of, pieces_of}};
 
 use crate::steps::{PathReader, texts_of};
 use std::alloc::AllocError;

@@ -1,10 +1,7 @@
 //! The paths of leafrefs.
-ghost use Rattle.std.specs.Prelude.{◌≡◌, ◌≤◌, true, false, Some, None, drop, length, map, IfOk, MatchOption};
-ghost use Rattle.std.specs.List.{prefix_len};
+ghost use Rattle.std.specs.{Prelude.{◌≡◌, ◌≤◌, true, false, Some, None, drop, length, map, IfOk, MatchOption}, List.{prefix_len}};
 ghost use Rattle.yv_link_scopes.specs.Files.{Files};
-ghost use Rattle.yv_node_paths.specs.InnerPrefixes.{IsPrefixTable};
-ghost use Rattle.yv_node_paths.specs.Referral.{climbs_of, is_absolute, is_up, names_behind, steps_in, ups_of};
-ghost use Rattle.yv_node_paths.specs.Steps.{path_of, step_of};
+ghost use Rattle.yv_node_paths.specs.{InnerPrefixes.{IsPrefixTable}, Referral.{climbs_of, is_absolute, is_up, names_behind, steps_in, ups_of}, Steps.{path_of, step_of}};
 
 use crate::steps::{PathReader, texts_of};
 use std::alloc::AllocError;

@@ -1,9 +1,7 @@
 //! The steps of paths.
-ghost use Rattle.std.specs.Prelude.{◌≡◌, Some, None, map, IfOk};
-ghost use Rattle.std.specs.Option.{option_map};
+ghost use Rattle.std.specs.{Prelude.{◌≡◌, Some, None, map, IfOk}, Option.{option_map}};
 ghost use Rattle.yv_link_scopes.specs.Files.{Files};
-ghost use Rattle.yv_node_paths.specs.Steps.{path_of, step_of, texts_of};
-ghost use Rattle.yv_node_paths.specs.InnerPrefixes.{IsPrefixTable};
+ghost use Rattle.yv_node_paths.specs.{Steps.{path_of, step_of, texts_of}, InnerPrefixes.{IsPrefixTable}};
 
 use std::alloc::{AllocError, Global};
 use std::rc::RcStr;

@@ -1,8 +1,7 @@
 //! Laws about the definitions only. These functions do nothing: the contract of each is the law.
 ghost use Rattle.std.specs.Prelude.{◌≡◌, ℕ, List, [], ◌∷◌};
 ghost use Rattle.yv_link_scopes.specs.Files.{Files};
-ghost use Rattle.yv_node_properties.specs.Marks.{over, silent, stated_of};
-ghost use Rattle.yv_node_properties.specs.Properties.{last_said, said_at};
+ghost use Rattle.yv_node_properties.specs.{Marks.{over, silent, stated_of}, Properties.{last_said, said_at}};
 
 /// Of several statements the last that says something decides it.
 pub fn the_last_statement_stands()

@@ -1,9 +1,7 @@
 //! What statements say of a node that doesn't wait for its types.
-ghost use Rattle.std.specs.Prelude.{◌≡◌, ℕ};
-ghost use Rattle.std.specs.Option.{option_map};
+ghost use Rattle.std.specs.{Prelude.{◌≡◌, ℕ}, Option.{option_map}};
 ghost use Rattle.yv_statement.specs.declared.keyword.Keyword.TheVariants as word;
-ghost use Rattle.yv_node_properties.specs.Marks.{is_mandatory, over, silent, stated_of};
-ghost use Rattle.yv_node_properties.specs.Properties.{elements_of, is_true, least_of, substatements_of};
+ghost use Rattle.yv_node_properties.specs.{Marks.{is_mandatory, over, silent, stated_of}, Properties.{elements_of, is_true, least_of, substatements_of}};
 
 use crate::substatements::{first_of, has, name_of};
 use yv_base_numbers::{Integer, integer_of};

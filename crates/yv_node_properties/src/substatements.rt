@@ -1,6 +1,5 @@
 //! The statements of a block by their keyword.
-ghost use Rattle.std.specs.Prelude.{◌≡◌, is_some};
-ghost use Rattle.std.specs.Option.{option_map};
+ghost use Rattle.std.specs.{Prelude.{◌≡◌, is_some}, Option.{option_map}};
 ghost use Rattle.yv_statement.specs.Tree.{name_of as name_at};
 ghost use Rattle.yv_node_properties.specs.Statements.{argument_of, first_of, is_of};
 

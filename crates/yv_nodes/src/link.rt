@@ -1,10 +1,6 @@
 //! Where the paths of leafrefs lead.
-ghost use Rattle.std.specs.Prelude.{◌≡◌, ◌||◌, ◌-◌, ◌≤◌, ℕ, None, IfOk, OnOk, drop, length, replicate};
-ghost use Rattle.std.specs.BTreeSet.{contains};
-ghost use Rattle.std.specs.Option.{option_map};
-ghost use Rattle.std.specs.Ordering.{nat_cmp};
-ghost use Rattle.yv_nodes.specs.Link.{is_target, leads_to, link_in, reference_in};
-ghost use Rattle.yv_nodes.specs.InnerLinks.{padded};
+ghost use Rattle.std.specs.{Prelude.{◌≡◌, ◌||◌, ◌-◌, ◌≤◌, ℕ, None, IfOk, OnOk, drop, length, replicate}, BTreeSet.{contains}, Option.{option_map}, Ordering.{nat_cmp}};
+ghost use Rattle.yv_nodes.specs.{Link.{is_target, leads_to, link_in, reference_in}, InnerLinks.{padded}};
 
 use crate::node::NodeId;
 use std::alloc::{AllocError, Global};
@@ -52,9 +48,7 @@ pub struct Links {
 }
 
 impl Model for Links {
-    ghost use Rattle.std.specs.Prelude.{◌≡◌, ℕ, List, Option};
-    ghost use Rattle.std.specs.BTreeSet.{contains};
-    ghost use Rattle.std.specs.Ordering.{nat_cmp};
+    ghost use Rattle.std.specs.{Prelude.{◌≡◌, ℕ, List, Option}, BTreeSet.{contains}, Ordering.{nat_cmp}};
     ghost use Rattle.yv_nodes.specs.Link as spec;
     ghost use Rattle.yv_nodes.specs.InnerLinks.{padded};
 

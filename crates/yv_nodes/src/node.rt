@@ -1,7 +1,5 @@
 //! A schema node, and its number.
-ghost use Rattle.std.specs.Prelude.{◌≡◌, ◌≤◌, ◌||◌, [], length, Some, None, IfOk, not, map, string_bytes, unwrap_or, if◌then◌else◌};
-ghost use Rattle.std.specs.Option.{option_map};
-ghost use Rattle.std.specs.Rc.{rc_slice_items, rc_str_bytes};
+ghost use Rattle.std.specs.{Prelude.{◌≡◌, ◌≤◌, ◌||◌, [], length, Some, None, IfOk, not, map, string_bytes, unwrap_or, if◌then◌else◌}, Option.{option_map}, Rc.{rc_slice_items, rc_str_bytes}};
 
 use std::alloc::{AllocError, Global};
 use std::marker::Model;
@@ -50,8 +48,7 @@ pub struct Node {
 
 impl Model for Node {
     ghost use Rattle.std.specs.Rc.{rc_str_bytes};
-    ghost use Rattle.yv_nodes.specs.Rows.{Row};
-    ghost use Rattle.yv_nodes.specs.Member.{row_with};
+    ghost use Rattle.yv_nodes.specs.{Rows.{Row}, Member.{row_with}};
 
     ghost Value = { Row };
 
@@ -59,13 +56,9 @@ impl Model for Node {
 }
 
 impl Node {
-    ghost use Rattle.yv_values.specs.Types.{plain_of};
-    ghost use Rattle.yv_values.specs.Same.{has_same};
+    ghost use Rattle.yv_values.specs.{Types.{plain_of}, Same.{has_same}};
     ghost use Rattle.yv_node_definition.specs.Definition.{defaults_said, is_empty, own_default, paths_in, written_of};
-    ghost use Rattle.yv_nodes.specs.Defaults.{defaults_of, width};
-    ghost use Rattle.yv_nodes.specs.Refusals.{refusal_of};
-    ghost use Rattle.yv_nodes.specs.Member.{behind, row_with};
-    ghost use Rattle.yv_nodes.specs.NodeTypes.{typed_row};
+    ghost use Rattle.yv_nodes.specs.{Defaults.{defaults_of, width}, Refusals.{refusal_of}, Member.{behind, row_with}, NodeTypes.{typed_row}};
 
     /// The node that a statement defines, in the namespace of the module of this name, the number
     /// of whose file is `module_file`, which has this place in the tree, with these numbers of the

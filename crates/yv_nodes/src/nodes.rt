@@ -1,8 +1,6 @@
 //! Numbered nodes.
-ghost use Rattle.std.specs.Prelude.{◌≡◌, ◌≢◌, ◌<◌, ◌≤◌, ◌+◌, All, ℕ, [], ◌∷◌, ◌++◌, length, map, slice_get, IfErr, IfOk, OnErr, OnOk};
-ghost use Rattle.std.specs.Option.{option_map};
-ghost use Rattle.yv_nodes.specs.NodeTypes.{typed_row, types_at};
-ghost use Rattle.yv_nodes.specs.InnerTypes.{with_own_types, types_in};
+ghost use Rattle.std.specs.{Prelude.{◌≡◌, ◌≢◌, ◌<◌, ◌≤◌, ◌+◌, All, ℕ, [], ◌∷◌, ◌++◌, length, map, slice_get, IfErr, IfOk, OnErr, OnOk}, Option.{option_map}};
+ghost use Rattle.yv_nodes.specs.{NodeTypes.{typed_row, types_at}, InnerTypes.{with_own_types, types_in}};
 
 use crate::node::{Node, NodeId};
 use std::alloc::{AllocError, Global};
@@ -66,8 +64,7 @@ pub struct Nodes {
 
 impl Model for Nodes {
     ghost use Rattle.std.specs.Prelude.{◌≤◌, length, min, vec_capacity};
-    ghost use Rattle.yv_nodes.specs.InnerAlike.{AreFirsts};
-    ghost use Rattle.yv_nodes.specs.Rows.{WithinLimit, StandBehind};
+    ghost use Rattle.yv_nodes.specs.{InnerAlike.{AreFirsts}, Rows.{WithinLimit, StandBehind}};
 
     ghost Value = { WithinLimit };
 
@@ -77,12 +74,8 @@ impl Model for Nodes {
 }
 
 impl Nodes {
-    ghost use Rattle.std.specs.List.{slice_index_or};
-    ghost use Rattle.yv_nodes.specs.Rows.{StandBehind, blank_row, rank};
-    ghost use Rattle.std.specs.Str.{bytes_eq};
-    ghost use Rattle.yv_nodes.specs.Alike.{untyped_at};
-    ghost use Rattle.yv_nodes.specs.InnerAlike.{IsFirst};
-    ghost use Rattle.yv_nodes.specs.NodeTypes.{typed_rows, types_from};
+    ghost use Rattle.std.specs.{List.{slice_index_or}, Str.{bytes_eq}};
+    ghost use Rattle.yv_nodes.specs.{Rows.{StandBehind, blank_row, rank}, Alike.{untyped_at}, InnerAlike.{IsFirst}, NodeTypes.{typed_rows, types_from}};
 
     /// No nodes.
     pub fn new(alloc: Global, limit: u32) -> Nodes

@@ -1,7 +1,6 @@
 //! The line of a file at a place, for a reader of standard error.
 ghost use Rattle.std.specs.Prelude.{◌≡◌, ◌≢◌, ◌≤◌, ◌<◌, ◌+◌, ◌-◌, ◌++◌, ℕ, length, replicate, slice_index, IfOk, OnOk, string_bytes};
-ghost use Rattle.yv_note_text.specs.Quotes.{Extends};
-ghost use Rattle.yv_note_text.specs.Excerpt.{begins_character, shown_byte, ascii_text as shown_bytes, ShowsPlace};
+ghost use Rattle.yv_note_text.specs.{Quotes.{Extends}, Excerpt.{begins_character, shown_byte, ascii_text as shown_bytes, ShowsPlace}};
 
 use std::alloc::{AllocError, Global};
 

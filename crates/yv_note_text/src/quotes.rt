@@ -1,7 +1,6 @@
 //! Names of strangers, as a terminal may show them.
 ghost use Rattle.std.specs.Prelude.{◌≡◌, ◌++◌, ◌∷◌, [], OnOk, OnErr, string_bytes};
-ghost use Rattle.yv_note_text.specs.Excerpt.{ascii_text};
-ghost use Rattle.yv_note_text.specs.Quotes.{Extends, dots, front, in_quotes};
+ghost use Rattle.yv_note_text.specs.{Excerpt.{ascii_text}, Quotes.{Extends, dots, front, in_quotes}};
 
 use crate::place::push_shown;
 use std::alloc::AllocError;

@@ -1,9 +1,7 @@
 //! A pattern that texts are held against.
-ghost use Rattle.std.specs.Prelude.{◌≡◌, ◌≢◌, ℕ, List, IfOk, IfErr, MatchOption, string_bytes};
-ghost use Rattle.std.specs.Str.{chars};
+ghost use Rattle.std.specs.{Prelude.{◌≡◌, ◌≢◌, ℕ, List, IfOk, IfErr, MatchOption, string_bytes}, Str.{chars}};
 ghost use Rattle.yv_statement.specs.declared.refusal.Stop.TheVariants.{NoMemory};
-ghost use Rattle.yv_pattern.specs.Meaning.{verdict};
-ghost use Rattle.yv_pattern.specs.Spells.{Translates, IsRefusedAs, anchor, bad_pattern};
+ghost use Rattle.yv_pattern.specs.{Meaning.{verdict}, Spells.{Translates, IsRefusedAs, anchor, bad_pattern}};
 
 use crate::reader::translate;
 use regex::{Error, Regex, RegexBuilder};
@@ -25,8 +23,7 @@ pub struct Pattern {
 
 impl Model for Pattern {
     ghost use Rattle.std.specs.Prelude.{◌≡◌, ℕ, List};
-    ghost use Rattle.regex.specs.Patterns.{default_config};
-    ghost use Rattle.regex.specs.Strings.{regex_source, regex_config, IsReadFromSource};
+    ghost use Rattle.regex.specs.{Patterns.{default_config}, Strings.{regex_source, regex_config, IsReadFromSource}};
 
     ghost Value = { List ℕ };
 

@@ -21,8 +21,7 @@ pub struct Ready<'p> {
 
 impl<'p> Model for Ready<'p> {
     ghost use Rattle.std.specs.Prelude.{◌≡◌, ℕ, List};
-    ghost use Rattle.regex.specs.Patterns.{default_config};
-    ghost use Rattle.regex.specs.Strings.{regex_source, regex_config, regex_pattern, matcher_pattern, IsReadFromSource};
+    ghost use Rattle.regex.specs.{Patterns.{default_config}, Strings.{regex_source, regex_config, regex_pattern, matcher_pattern, IsReadFromSource}};
 
     ghost Value = { List ℕ };
 

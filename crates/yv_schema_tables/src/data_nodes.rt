@@ -1,6 +1,5 @@
 //! The data nodes of a schema, one by one.
-ghost use Rattle.std.specs.Prelude.{◌≡◌, ◌≤◌, length};
-ghost use Rattle.std.specs.Iterator.{YieldsFirst, item_count};
+ghost use Rattle.std.specs.{Prelude.{◌≡◌, ◌≤◌, length}, Iterator.{YieldsFirst, item_count}};
 ghost use Rattle.yv_schema_tables.specs.DataNodes.{data_nodes_from};
 
 use std::marker::Model;

@@ -1,8 +1,7 @@
 //! The directory by which the nodes of an object are found.
 ghost use Rattle.std.specs.Prelude.{◌≡◌, None, is_some, IfOk, OnOk};
 ghost use Rattle.indexmap.specs.IndexMap.{get};
-ghost use Rattle.yv_schema_tables.specs.declared.member.Member.{Member};
-ghost use Rattle.yv_schema_tables.specs.InnerTables.{first_held, held_at, kept_first, same_member};
+ghost use Rattle.yv_schema_tables.specs.{declared.member.Member.{Member}, InnerTables.{first_held, held_at, kept_first, same_member}};
 
 use crate::member::Member;
 use indexmap::IndexMap;

@@ -1,14 +1,8 @@
 //! From numbered nodes to their schema.
 ghost use Rattle.std.specs.Prelude.{◌≡◌, ◌≢◌, All, IfOk, OnOk, Some, None, Err};
-ghost use Rattle.yv_statement.specs.declared.refusal.Refusal.{Refusal};
-ghost use Rattle.yv_statement.specs.declared.refusal.Stop.TheVariants.{Fault, PatternBuild};
-ghost use Rattle.yv_statement.specs.Order.{IsLeast};
-ghost use Rattle.yv_nodes.specs.Tree.{Forest};
-ghost use Rattle.yv_nodes.specs.Numbers.{numbers_from, rows_from};
-ghost use Rattle.yv_nodes.specs.Rows.{whole};
-ghost use Rattle.yv_schema_tables.specs.Bad.{BadRows};
-ghost use Rattle.yv_schema_tables.specs.NodeNumbers.{AreModules, AreNumbered, made_of};
-ghost use Rattle.yv_schema_tables.specs.Sound.{IsNote};
+ghost use Rattle.yv_statement.specs.{declared.refusal.Refusal.{Refusal}, declared.refusal.Stop.TheVariants.{Fault, PatternBuild}, Order.{IsLeast}};
+ghost use Rattle.yv_nodes.specs.{Tree.{Forest}, Numbers.{numbers_from, rows_from}, Rows.{whole}};
+ghost use Rattle.yv_schema_tables.specs.{Bad.{BadRows}, NodeNumbers.{AreModules, AreNumbered, made_of}, Sound.{IsNote}};
 
 use crate::module_files::module_files_of;
 use crate::names::node_names;

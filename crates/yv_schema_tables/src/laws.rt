@@ -1,13 +1,8 @@
 //! Laws about the definitions only. These functions do nothing: the contract of each is the law.
 ghost use Rattle.std.specs.Prelude.{ℕ, List, [], All, Option};
 ghost use Rattle.yv_values.specs.Types.{Plain};
-ghost use Rattle.yv_nodes.specs.declared.node.NodeId.{NodeId};
-ghost use Rattle.yv_nodes.specs.Link.{AreLinked, Link};
-ghost use Rattle.yv_nodes.specs.Rows.{AreTrees, Module, Note, Row, Rows};
-ghost use Rattle.yv_nodes.specs.Tree.{Forest};
-ghost use Rattle.yv_nodes.specs.NodeTypes.{typed_from, typed_rows};
-ghost use Rattle.yv_schema_tables.specs.NodeNumbers.{AreFormed, made_of};
-ghost use Rattle.yv_schema_tables.specs.Sound.{IsChild, IsNote, IsSound};
+ghost use Rattle.yv_nodes.specs.{declared.node.NodeId.{NodeId}, Link.{AreLinked, Link}, Rows.{AreTrees, Module, Note, Row, Rows}, Tree.{Forest}, NodeTypes.{typed_from, typed_rows}};
+ghost use Rattle.yv_schema_tables.specs.{NodeNumbers.{AreFormed, made_of}, Sound.{IsChild, IsNote, IsSound}};
 
 /// Numbers of children represent the trees of these, whichever children they are.
 pub fn children_are_trees()

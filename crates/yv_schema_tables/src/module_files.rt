@@ -1,7 +1,6 @@
 //! The files of modules, by name.
 ghost use Rattle.std.specs.Prelude.{◌≡◌, ℕ, List, IfOk};
-ghost use Rattle.yv_schema_tables.specs.InnerNames.{get_by_name};
-ghost use Rattle.yv_schema_tables.specs.InnerTables.{module_file_named};
+ghost use Rattle.yv_schema_tables.specs.{InnerNames.{get_by_name}, InnerTables.{module_file_named}};
 
 use crate::notes::Module;
 use std::alloc::{AllocError, Global};

@@ -64,17 +64,10 @@ impl Model for Schema {
 }
 
 impl Schema {
-    ghost use Rattle.std.specs.Option.{option_map};
-    ghost use Rattle.std.specs.Prelude.{ℕ, List, ◌∷◌, ◌++◌, Some, None, is_some, map, IfNone};
+    ghost use Rattle.std.specs.{Option.{option_map}, Prelude.{ℕ, List, ◌∷◌, ◌++◌, Some, None, is_some, map, IfNone}};
     ghost use Rattle.yv_node_keys.specs.Numbers.{default_case_at, key_leaf_at, unique_leaf_at};
-    ghost use Rattle.yv_nodes.specs.Link.{AreLinked, reference_in};
-    ghost use Rattle.yv_nodes.specs.Tree.{count};
-    ghost use Rattle.yv_nodes.specs.Rows.{AreTrees, row_at, children_of, rank, whole};
-    ghost use Rattle.yv_schema_tables.specs.Sound.{IsSound, IsChild, IsInside, IsNote, inside, is_known, member_named, object_trees};
-    ghost use Rattle.yv_nodes.specs.declared.node.NodeId.{NodeId};
-    ghost use Rattle.yv_schema_tables.specs.DataNodes.{data_nodes_from};
-    ghost use Rattle.yv_schema_tables.specs.InnerTables.{IsAnswering, directory_entry, module_file_named};
-    ghost use Rattle.yv_schema_tables.specs.NodeNumbers.{HasNoColon};
+    ghost use Rattle.yv_nodes.specs.{Link.{AreLinked, reference_in}, Tree.{count}, Rows.{AreTrees, row_at, children_of, rank, whole}, declared.node.NodeId.{NodeId}};
+    ghost use Rattle.yv_schema_tables.specs.{Sound.{IsSound, IsChild, IsInside, IsNote, inside, is_known, member_named, object_trees}, DataNodes.{data_nodes_from}, InnerTables.{IsAnswering, directory_entry, module_file_named}, NodeNumbers.{HasNoColon}};
 
     /// The parent of the nodes at the top.
     pub const ROOT: NodeId = NodeId(u32::MAX);

@@ -2,10 +2,7 @@
 ghost use Rattle.std.specs.Prelude.{◌≡◌, ◌<◌, All, length, IfOk, Some};
 ghost use Rattle.yv_statement.specs.Order.{IsLeast};
 ghost use Rattle.yv_node_definition.specs.Kinds.{is_choice};
-ghost use Rattle.yv_schema_tables.specs.DuplicateNodes.{names_that_differ};
-ghost use Rattle.yv_schema_tables.specs.InnerNames.{AreOfNodes};
-ghost use Rattle.yv_schema_tables.specs.InnerSits.{HaveTrees, family_in, inside_of, pick_trees};
-ghost use Rattle.yv_schema_tables.specs.InnerTables.{IsDirectory, IsOfRow, Namesakes, labels_at};
+ghost use Rattle.yv_schema_tables.specs.{DuplicateNodes.{names_that_differ}, InnerNames.{AreOfNodes}, InnerSits.{HaveTrees, family_in, inside_of, pick_trees}, InnerTables.{IsDirectory, IsOfRow, Namesakes, labels_at}};
 
 use crate::data_children::{DataChildren, are_data, is_case};
 use crate::directory::Directory;

@@ -1,9 +1,7 @@
 //! The directories of all nodes.
 ghost use Rattle.std.specs.Prelude.{◌≡◌, All, length, IfOk};
 ghost use Rattle.yv_statement.specs.Order.{Among, IsLeast};
-ghost use Rattle.yv_schema_tables.specs.InnerTables.{AreDirectories, Namesakes};
-ghost use Rattle.yv_schema_tables.specs.InnerNames.{AreOfNodes};
-ghost use Rattle.yv_schema_tables.specs.InnerSits.{HaveTrees, family_in};
+ghost use Rattle.yv_schema_tables.specs.{InnerTables.{AreDirectories, Namesakes}, InnerNames.{AreOfNodes}, InnerSits.{HaveTrees, family_in}};
 
 use crate::directory::Directory;
 use crate::table::Family;

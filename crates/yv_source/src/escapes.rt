@@ -2,9 +2,7 @@
 
 ghost use Rattle.std.specs.Prelude.{◌≡◌, ◌≤◌, ◌<◌, ◌+◌, false, length, IfSome};
 ghost use Rattle.yv_statement.specs.Tree.{trees};
-ghost use Rattle.yv_source.specs.Escapes.{begins_escape, is_escape};
-ghost use Rattle.yv_source.specs.Inner.Turn.{length_of};
-ghost use Rattle.yv_source.specs.Inner.Pairs.{bad_found, bad_pair, is_newer, is_version};
+ghost use Rattle.yv_source.specs.{Escapes.{begins_escape, is_escape}, Inner.Turn.{length_of}, Inner.Pairs.{bad_found, bad_pair, is_newer, is_version}};
 
 use crate::scan::{FoundPiece, first_byte};
 use yv_statement::Statement;

@@ -1,8 +1,7 @@
 // The refusal of a text at a place.
 
 ghost use Rattle.std.specs.Prelude.{◌≡◌, ◌≤◌, take, length};
-ghost use Rattle.yv_source.specs.Answer.{refusal_in};
-ghost use Rattle.yv_source.specs.Place.{line_of};
+ghost use Rattle.yv_source.specs.{Answer.{refusal_in}, Place.{line_of}};
 
 use crate::place::line_feeds;
 use yv_statement::{Code, Refusal, Stop};

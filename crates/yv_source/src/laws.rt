@@ -1,9 +1,7 @@
 //! Laws about the definitions only. These functions do nothing: the contract of each is the law.
 ghost use Rattle.std.specs.Prelude.{◌≡◌, ℕ, List};
-ghost use Rattle.yv_statement.specs.Tree.{Tree};
-ghost use Rattle.yv_statement.specs.declared.refusal.Refusal.{Refusal};
-ghost use Rattle.yv_source.specs.Answer.{IsBadFile, IsSpelled, IsRefused};
-ghost use Rattle.yv_source.specs.Legal.{IsLegalFile};
+ghost use Rattle.yv_statement.specs.{Tree.{Tree}, declared.refusal.Refusal.{Refusal}};
+ghost use Rattle.yv_source.specs.{Answer.{IsBadFile, IsSpelled, IsRefused}, Legal.{IsLegalFile}};
 
 /// A bad file is refused in one way, and isn't legal.
 pub fn a_bad_file_is_refused_once()

@@ -1,12 +1,7 @@
 // Statements from tokens, one at a time.
 
-ghost use Rattle.std.specs.Prelude.{◌≡◌, ◌≤◌, length, IfOk, reverse, MatchResult};
-ghost use Rattle.std.specs.Cow.{cow_str_bytes};
-ghost use Rattle.yv_source.specs.Inner.Machine.{Next, step_at, between_at, start_at, after_keyword, after_argument, after_quoted, after_plus, give_word, give_quoted, close, finish};
-ghost use Rattle.yv_source.specs.Inner.Steps.{Gives, piece_of};
-ghost use Rattle.yv_source.specs.Inner.Place.{AreCounted, place_of};
-ghost use Rattle.yv_source.specs.Legal.{most_bytes};
-ghost use Rattle.yv_source.specs.Outcome.{most_deep};
+ghost use Rattle.std.specs.{Prelude.{◌≡◌, ◌≤◌, length, IfOk, reverse, MatchResult}, Cow.{cow_str_bytes}};
+ghost use Rattle.yv_source.specs.{Inner.Machine.{Next, step_at, between_at, start_at, after_keyword, after_argument, after_quoted, after_plus, give_word, give_quoted, close, finish}, Inner.Steps.{Gives, piece_of}, Inner.Place.{AreCounted, place_of}, Legal.{most_bytes}, Outcome.{most_deep}};
 
 use crate::double_quotes::read_quoted;
 use crate::identifier::is_keyword;

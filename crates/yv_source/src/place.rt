@@ -1,12 +1,7 @@
 // Lines, columns and blanks of a text.
 
-ghost use Rattle.std.specs.Prelude.{◌≡◌, ◌≤◌, ◌<◌, ◌*◌, ◌^◌, ◌+◌, ◌==◌, count_by, length, take, IsTrue};
-ghost use Rattle.std.specs.List.{list_all};
-ghost use Rattle.yv_source.specs.Characters.{line_feed};
-ghost use Rattle.yv_source.specs.Legal.{most_bytes};
-ghost use Rattle.yv_source.specs.Place.{mark_len, columns, column_of, column_past, line_of};
-ghost use Rattle.yv_source.specs.Pieces.{is_blank};
-ghost use Rattle.yv_source.specs.Inner.Place.{AreCounted};
+ghost use Rattle.std.specs.{Prelude.{◌≡◌, ◌≤◌, ◌<◌, ◌*◌, ◌^◌, ◌+◌, ◌==◌, count_by, length, take, IsTrue}, List.{list_all}};
+ghost use Rattle.yv_source.specs.{Characters.{line_feed}, Legal.{most_bytes}, Place.{mark_len, columns, column_of, column_past, line_of}, Pieces.{is_blank}, Inner.Place.{AreCounted}};
 
 use memchr::memrchr;
 

@@ -1,15 +1,8 @@
 // The statement that a text spells.
 
 ghost use Rattle.std.specs.Prelude.{◌≡◌, ◌≤◌, ◌+◌, ◌*◌, ◌⊎◌, None, IfOk, IfSome, drop, length, reverse};
-ghost use Rattle.yv_statement.specs.Tree.{Tree};
-ghost use Rattle.yv_statement.specs.declared.refusal.Refusal.{Refusal};
-ghost use Rattle.yv_source.specs.Answer.{IsSpelled, IsRefused};
-ghost use Rattle.yv_source.specs.Legal.{IsLegalFile, most_bytes};
-ghost use Rattle.yv_source.specs.Order.{IsInOrder};
-ghost use Rattle.yv_source.specs.Place.{mark_len};
-ghost use Rattle.yv_source.specs.Inner.Place.{IsPastGap};
-ghost use Rattle.yv_source.specs.Inner.Scan.{before_of};
-ghost use Rattle.yv_source.specs.Inner.End.{Comes, ended_in, refusal_of_halt, IsChecked, IsEnd};
+ghost use Rattle.yv_statement.specs.{Tree.{Tree}, declared.refusal.Refusal.{Refusal}};
+ghost use Rattle.yv_source.specs.{Answer.{IsSpelled, IsRefused}, Legal.{IsLegalFile, most_bytes}, Order.{IsInOrder}, Place.{mark_len}, Inner.Place.{IsPastGap}, Inner.Scan.{before_of}, Inner.End.{Comes, ended_in, refusal_of_halt, IsChecked, IsEnd}};
 
 use crate::escapes::{bad_found, is_newer};
 use crate::fault::refuse;

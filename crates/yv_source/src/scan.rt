@@ -1,11 +1,8 @@
 // What a text begins with.
 
 ghost use Rattle.std.specs.Prelude.{◌≡◌, ◌<◌, ◌≤◌, ◌^◌, length, drop, false};
-ghost use Rattle.yv_source.specs.Characters.{single_quote, asterisk, slash};
-ghost use Rattle.yv_source.specs.Pieces.{begins, begins_two, until, ends_word, up_to_quote, past_gap};
+ghost use Rattle.yv_source.specs.{Characters.{single_quote, asterisk, slash}, Pieces.{begins, begins_two, until, ends_word, up_to_quote, past_gap}, Inner.Scan.{ahead_in, before_of, ahead_of, is_unquoted, unless_unquoted, closed_piece, closed_by_two, word_or_plus, from, from_quote, begins_mark, ends_comment, pair_len}, Inner.Turn.{length_of, past_found}};
 ghost use Rattle.yv_source.specs.Pieces as Piece;
-ghost use Rattle.yv_source.specs.Inner.Scan.{ahead_in, before_of, ahead_of, is_unquoted, unless_unquoted, closed_piece, closed_by_two, word_or_plus, from, from_quote, begins_mark, ends_comment, pair_len};
-ghost use Rattle.yv_source.specs.Inner.Turn.{length_of, past_found};
 
 use memchr::{memchr, memchr2};
 

@@ -1,11 +1,7 @@
 // A file's text.
 
-ghost use Rattle.std.specs.Prelude.{◌≡◌, ◌≤◌, ◌++◌, [], length, take, drop, encode_utf8, IfSome, IfNone, IsTrue};
-ghost use Rattle.std.specs.Char.{len_utf8};
-ghost use Rattle.std.specs.List.{list_all};
-ghost use Rattle.std.specs.Str.{chars};
-ghost use Rattle.yv_source.specs.Legal.{most_bytes, is_legal, IsIllegalAt};
-ghost use Rattle.yv_source.specs.Inner.Plain.{is_common};
+ghost use Rattle.std.specs.{Prelude.{◌≡◌, ◌≤◌, ◌++◌, [], length, take, drop, encode_utf8, IfSome, IfNone, IsTrue}, Char.{len_utf8}, List.{list_all}, Str.{chars}};
+ghost use Rattle.yv_source.specs.{Legal.{most_bytes, is_legal, IsIllegalAt}, Inner.Plain.{is_common}};
 
 use crate::fault::refuse;
 use std::alloc::Global;
@@ -43,8 +39,7 @@ impl Model for Source {
 impl Source {
     ghost use Rattle.std.specs.Prelude.{◌≡◌, ◌↔◌, ◌⊎◌, OnOk, IfOk};
     ghost use Rattle.yv_statement.specs.declared.refusal.Refusal.{Refusal};
-    ghost use Rattle.yv_source.specs.Answer.{IsBadFile};
-    ghost use Rattle.yv_source.specs.Legal.{IsLegalFile};
+    ghost use Rattle.yv_source.specs.{Answer.{IsBadFile}, Legal.{IsLegalFile}};
 
     /// The text of a file, or what is refused: TooLarge at offset 0, else NotUtf8 at the first byte
     /// that isn't UTF-8, else BadCharacter at the first character that isn't legal (RFC 7950,

@@ -1,10 +1,7 @@
 //! The statements of texts.
-ghost use Rattle.std.specs.Prelude.{◌≡◌, ◌≢◌, ◌<◌, ◌≤◌, ◌⊎◌, IfOk, OnErr, Err};
-ghost use Rattle.std.specs.List.{AllZip};
-ghost use Rattle.yv_statement.specs.declared.refusal.Refusal.{Refusal as TheRefusal};
-ghost use Rattle.yv_statement.specs.declared.refusal.Stop.TheVariants.{Fault, NoMemory, PatternBuild};
-ghost use Rattle.yv_source.specs.FileStatements.{in_file};
-ghost use Rattle.yv_source.specs.Texts.{Spells, SpellsNone};
+ghost use Rattle.std.specs.{Prelude.{◌≡◌, ◌≢◌, ◌<◌, ◌≤◌, ◌⊎◌, IfOk, OnErr, Err}, List.{AllZip}};
+ghost use Rattle.yv_statement.specs.{declared.refusal.Refusal.{Refusal as TheRefusal}, declared.refusal.Stop.TheVariants.{Fault, NoMemory, PatternBuild}};
+ghost use Rattle.yv_source.specs.{FileStatements.{in_file}, Texts.{Spells, SpellsNone}};
 
 use crate::reader::parse;
 use crate::source::Source;

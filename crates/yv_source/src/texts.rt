@@ -1,11 +1,8 @@
 //! The texts of files.
-ghost use Rattle.std.specs.Prelude.{◌≡◌, ◌≢◌, List, map, IfOk, Err};
-ghost use Rattle.std.specs.List.{AllZip};
-ghost use Rattle.yv_statement.specs.declared.refusal.Refusal.{Refusal as TheRefusal};
-ghost use Rattle.yv_statement.specs.declared.refusal.Stop.TheVariants.{Fault, PatternBuild};
+ghost use Rattle.std.specs.{Prelude.{◌≡◌, ◌≢◌, List, map, IfOk, Err}, List.{AllZip}};
+ghost use Rattle.yv_statement.specs.{declared.refusal.Refusal.{Refusal as TheRefusal}, declared.refusal.Stop.TheVariants.{Fault, PatternBuild}};
 ghost use Rattle.yv_streams.specs.Files.{File, file_of};
-ghost use Rattle.yv_source.specs.FileStatements.{IsRead, IsUnreadAt};
-ghost use Rattle.yv_source.specs.Texts.{AreTexts};
+ghost use Rattle.yv_source.specs.{FileStatements.{IsRead, IsUnreadAt}, Texts.{AreTexts}};
 
 use crate::source::Source;
 use crate::statements::{in_file, parse_all};

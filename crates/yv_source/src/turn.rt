@@ -1,11 +1,7 @@
 // One turn of the reader.
 
-ghost use Rattle.std.specs.Prelude.{◌≡◌, ◌≤◌, ◌+◌, length, take, drop, reverse, IsCharBoundary};
-ghost use Rattle.std.specs.Option.{option_map};
-ghost use Rattle.yv_source.specs.Inner.Place.{AreCounted, place_at};
-ghost use Rattle.yv_source.specs.Inner.Steps.{Gives, piece_of};
-ghost use Rattle.yv_source.specs.Inner.Turn.{opener, inner, token_at, turn};
-ghost use Rattle.yv_source.specs.Legal.{most_bytes};
+ghost use Rattle.std.specs.{Prelude.{◌≡◌, ◌≤◌, ◌+◌, length, take, drop, reverse, IsCharBoundary}, Option.{option_map}};
+ghost use Rattle.yv_source.specs.{Inner.Place.{AreCounted, place_at}, Inner.Steps.{Gives, piece_of}, Inner.Turn.{opener, inner, token_at, turn}, Legal.{most_bytes}};
 
 use crate::machine::{Halt, Phase, Token, step};
 use crate::place::Lines;

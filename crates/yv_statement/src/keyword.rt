@@ -1,7 +1,6 @@
 //! The keywords of YANG statements.
 ghost use Rattle.std.specs.Prelude.{◌≡◌, map};
-ghost use Rattle.yv_statement.specs.InnerKeywords.{entry};
-ghost use Rattle.yv_statement.specs.Keywords.{keyword_in, keyword_of};
+ghost use Rattle.yv_statement.specs.{InnerKeywords.{entry}, Keywords.{keyword_in, keyword_of}};
 
 /// What a statement's keyword means (RFC 7950, section 14).
 #[derive(Clone, Copy, PartialEq, Eq, Debug)]

@@ -1,7 +1,6 @@
 //! Laws about the definitions only.
 ghost use Rattle.std.specs.Prelude.{◌≡◌};
-ghost use Rattle.yv_statement.specs.declared.refusal.Refusal.{Refusal};
-ghost use Rattle.yv_statement.specs.Order.{IsUpTo};
+ghost use Rattle.yv_statement.specs.{declared.refusal.Refusal.{Refusal}, Order.{IsUpTo}};
 
 /// Two refusals that are each up to the other are the same, so that the least of several is one
 /// refusal.

@@ -1,5 +1,4 @@
-ghost use Rattle.std.specs.Prelude.{◌≡◌};
-ghost use Rattle.std.specs.Str.{chars};
+ghost use Rattle.std.specs.{Prelude.{◌≡◌}, Str.{chars}};
 ghost use Rattle.yv_statement.specs.Legal.{is_legal, all_legal};
 
 /// Whether a YANG text may have the character: all but the controls other than tab, line feed and

@@ -1,6 +1,5 @@
 ghost use Rattle.std.specs.Prelude.{◌≡◌, IsTrue, ◌↔◌, if◌then◌else◌, Some, None};
-ghost use Rattle.yv_statement.specs.Codes.{name_of, number_of, phase_of};
-ghost use Rattle.yv_statement.specs.Order.{IsLesser, IsUpTo, refusal_at};
+ghost use Rattle.yv_statement.specs.{Codes.{name_of, number_of, phase_of}, Order.{IsLesser, IsUpTo, refusal_at}};
 
 use crate::statement::Statement;
 use std::alloc::{AllocError, AllocFailed};

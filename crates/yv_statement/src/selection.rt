@@ -1,7 +1,5 @@
 //! Which modules are implemented, and which features are supported.
-ghost use Rattle.std.specs.Prelude.{◌≡◌, [], string_bytes};
-ghost use Rattle.std.specs.List.{list_any};
-ghost use Rattle.std.specs.Str.{bytes_eq};
+ghost use Rattle.std.specs.{Prelude.{◌≡◌, [], string_bytes}, List.{list_any}, Str.{bytes_eq}};
 ghost use Rattle.yv_statement.specs.Selection.{selected_of, entry_of, is_implemented, is_listed, is_of, is_supported};
 
 use std::alloc::Global;

@@ -1,9 +1,5 @@
-ghost use Rattle.std.specs.Prelude.{◌≡◌, OnOk, OnErr};
-ghost use Rattle.std.specs.Cow.{cow_str_bytes};
-ghost use Rattle.std.specs.Option.{option_map};
-ghost use Rattle.yv_statement.specs.Keywords.{keyword_of};
-ghost use Rattle.yv_statement.specs.Tree.{trees};
-ghost use Rattle.yv_statement.specs.Builder.{bare, push_child, with_argument, with_more};
+ghost use Rattle.std.specs.{Prelude.{◌≡◌, OnOk, OnErr}, Cow.{cow_str_bytes}, Option.{option_map}};
+ghost use Rattle.yv_statement.specs.{Keywords.{keyword_of}, Tree.{trees}, Builder.{bare, push_child, with_argument, with_more}};
 
 use crate::keyword::Keyword;
 use std::alloc::{AllocError, Global};
@@ -31,8 +27,7 @@ impl<'a> Model for Statement<'a> {
 
     ghost coded = { tree_code };
 
-    ghost use Rattle.yv_statement.specs.View.{tree_of};
-    ghost use Rattle.yv_statement.specs.Keywords.{keyword_of};
+    ghost use Rattle.yv_statement.specs.{View.{tree_of}, Keywords.{keyword_of}};
 
     ghost invariant = { λ a. a.kind ≡ keyword_of a.keyword.now };
 

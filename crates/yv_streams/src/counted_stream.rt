@@ -1,8 +1,5 @@
 //! A reader or a writer that counts what goes wrong in its calls.
-ghost use Rattle.std.specs.Prelude.{◌≡◌, ◌≢◌, ◌<◌, true, length, OnOk, IfOk, IfErr};
-ghost use Rattle.std.specs.IoError.{error_kind};
-ghost use Rattle.std.specs.Io.{ReadsAtMost, WritesAtMost};
-ghost use Rattle.std.specs.Io.KnownBytes.{Keeps, ReadConsumes, WriteAppends};
+ghost use Rattle.std.specs.{Prelude.{◌≡◌, ◌≢◌, ◌<◌, true, length, OnOk, IfOk, IfErr}, IoError.{error_kind}, Io.{ReadsAtMost, WritesAtMost}, Io.KnownBytes.{Keeps, ReadConsumes, WriteAppends}};
 ghost use Rattle.yv_streams.specs.Stream.{stream_inner, stream_faults, stream_interrupts, has_failed, CountsNothing, CountsFault, CountsInterrupt, GivesUp};
 
 use std::io;

@@ -1,8 +1,6 @@
 //! A file that is read before a run.
-ghost use Rattle.std.specs.Prelude.{◌≡◌, ◌≤◌, ◌+◌, ◌↔◌, true, length, take, IfOk, IfSome, IsErrOf};
-ghost use Rattle.std.specs.Io.KnownBytes.{Consumes};
-ghost use Rattle.yv_streams.specs.Files.{file_of, file_limit};
-ghost use Rattle.yv_streams.specs.Stream.{stream_inner, has_failed, IsFresh, FailsOnceAtMost, TakesAtMost};
+ghost use Rattle.std.specs.{Prelude.{◌≡◌, ◌≤◌, ◌+◌, ◌↔◌, true, length, take, IfOk, IfSome, IsErrOf}, Io.KnownBytes.{Consumes}};
+ghost use Rattle.yv_streams.specs.{Files.{file_of, file_limit}, Stream.{stream_inner, has_failed, IsFresh, FailsOnceAtMost, TakesAtMost}};
 
 use crate::counted_stream::Counted;
 use crate::stream::{InputFault, read_up_to};

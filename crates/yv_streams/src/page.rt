@@ -1,7 +1,6 @@
 //! Bytes on their way to a stream.
 ghost use Rattle.std.specs.Prelude.{◌≡◌, ◌<◌, ◌≤◌, ◌++◌, ◌∷◌, [], ℕ, List, Option, false, length, take};
-ghost use Rattle.yv_streams.specs.Stream.{has_failed, stream_failures, stream_inner};
-ghost use Rattle.yv_streams.specs.Pages.{Adds, IsEmptied, Keeps, output_of};
+ghost use Rattle.yv_streams.specs.{Stream.{has_failed, stream_failures, stream_inner}, Pages.{Adds, IsEmptied, Keeps, output_of}};
 
 use crate::counted_stream::Counted;
 use crate::stream::write_whole;

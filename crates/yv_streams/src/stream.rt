@@ -1,7 +1,5 @@
 //! Reading a stream to its end, and writing a text whole.
-ghost use Rattle.std.specs.Prelude.{◌≡◌, ◌≤◌, ◌<◌, ◌+◌, ◌↔◌, ℕ, true, false, Ok, Err, length, take, drop, vec_len, IfOk, IfSome, OnOk, IsErrOf};
-ghost use Rattle.std.specs.Io.{StartsWith};
-ghost use Rattle.std.specs.Io.KnownBytes.{Appends, Consumes, IsAtEnd};
+ghost use Rattle.std.specs.{Prelude.{◌≡◌, ◌≤◌, ◌<◌, ◌+◌, ◌↔◌, ℕ, true, false, Ok, Err, length, take, drop, vec_len, IfOk, IfSome, OnOk, IsErrOf}, Io.{StartsWith}, Io.KnownBytes.{Appends, Consumes, IsAtEnd}};
 ghost use Rattle.yv_streams.specs.Stream.{stream_inner, stream_interrupts, has_failed, FailsOnceAtMost, TakesAtMost};
 
 use crate::counted_stream::Counted;

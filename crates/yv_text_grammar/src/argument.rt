@@ -1,6 +1,5 @@
 //! Whether a statement's argument fits.
-ghost use Rattle.std.specs.Prelude.{◌≡◌, ◌↔◌, IsTrue, MatchBool};
-ghost use Rattle.std.specs.Option.{option_copied};
+ghost use Rattle.std.specs.{Prelude.{◌≡◌, ◌↔◌, IsTrue, MatchBool}, Option.{option_copied}};
 ghost use Rattle.yv_text_grammar.specs.Argument.{ArgumentFits, IfFeatureFits, argument_has, has_form};
 
 use crate::form::{Form, find_form};

@@ -3,14 +3,8 @@
 //! Words that fill a table on the stack are sorted there, the words after them are looked up among
 //! them, and so on. So n words cost about n * n / (2 * N) searches by a table of N words: 4 MiB of
 //! different short words fill the largest table six times, and take half a second.
-ghost use Rattle.std.specs.Prelude.{◌≡◌, ◌≤◌, ◌<◌, ℕ, [], ◌++◌, length, map, take};
-ghost use Rattle.std.specs.List.{list_any};
-ghost use Rattle.std.specs.List.Sorted.{IsSorted};
-ghost use Rattle.std.specs.Str.{bytes_eq};
-ghost use Rattle.yv_text_grammar.specs.InnerDistinct.{by_text, share, text_of};
-ghost use Rattle.yv_text_grammar.specs.InnerWords.{words_left};
-ghost use Rattle.yv_text_grammar.specs.Texts.{none_twice};
-ghost use Rattle.yv_text_grammar.specs.Words.{words};
+ghost use Rattle.std.specs.{Prelude.{◌≡◌, ◌≤◌, ◌<◌, ℕ, [], ◌++◌, length, map, take}, List.{list_any}, List.Sorted.{IsSorted}, Str.{bytes_eq}};
+ghost use Rattle.yv_text_grammar.specs.{InnerDistinct.{by_text, share, text_of}, InnerWords.{words_left}, Texts.{none_twice}, Words.{words}};
 
 use crate::words::Words;
 

@@ -1,8 +1,7 @@
 //! A set of keywords.
 ghost use Rattle.std.specs.Prelude.{◌≡◌, ◌<◌, ◌||◌, false};
-ghost use Rattle.yv_statement.specs.Keywords.{same};
+ghost use Rattle.yv_statement.specs.{Keywords.{same}, declared.keyword.Keyword.{Keyword}};
 ghost use Rattle.yv_text_grammar.specs.InnerKeywordSet.{number, is_marked};
-ghost use Rattle.yv_statement.specs.declared.keyword.Keyword.{Keyword};
 
 use yv_statement::Keyword as Word;
 

@@ -1,9 +1,7 @@
 //! The arguments that are lists of words: those of `key` and `unique`.
-ghost use Rattle.std.specs.Prelude.{◌≡◌};
-ghost use Rattle.std.specs.List.{list_all};
+ghost use Rattle.std.specs.{Prelude.{◌≡◌}, List.{list_all}};
 ghost use Rattle.yv_text_if_feature.specs.Names.{is_name};
-ghost use Rattle.yv_text_grammar.specs.Texts.{is_descendant_path, is_key, is_unique};
-ghost use Rattle.yv_text_grammar.specs.Words.{words};
+ghost use Rattle.yv_text_grammar.specs.{Texts.{is_descendant_path, is_key, is_unique}, Words.{words}};
 
 use crate::distinct::none_twice;
 use crate::text::{is_descendant_path, is_trimmed};

@@ -1,14 +1,7 @@
 //! What is wrong with the statements of a file.
-ghost use Rattle.std.specs.Prelude.{◌≡◌, ◌↔◌, not, ◌&&◌, map, IfNone, IsOk};
-ghost use Rattle.std.specs.List.{list_any};
-ghost use Rattle.std.specs.Option.{option_copied};
-ghost use Rattle.std.specs.Result.{result_err};
+ghost use Rattle.std.specs.{Prelude.{◌≡◌, ◌↔◌, not, ◌&&◌, map, IfNone, IsOk}, List.{list_any}, Option.{option_copied}, Result.{result_err}};
 ghost use Rattle.yv_statement.specs.Order.{IsLeast};
-ghost use Rattle.yv_text_grammar.specs.InnerEntries.{row};
-ghost use Rattle.yv_text_grammar.specs.InnerKeywordSet.{is_marked};
-ghost use Rattle.yv_text_grammar.specs.Refusals.{Bad, Faulty, CountsBadly, OwnRefusal, has_call_or_filter, is_excess, is_misplaced, is_module, is_unsupported, keyword_at};
-ghost use Rattle.yv_text_grammar.specs.Fits.{Fits, FitsIn, OwnFits};
-ghost use Rattle.yv_text_grammar.specs.Table.{is_one, occurs_in};
+ghost use Rattle.yv_text_grammar.specs.{InnerEntries.{row}, InnerKeywordSet.{is_marked}, Refusals.{Bad, Faulty, CountsBadly, OwnRefusal, has_call_or_filter, is_excess, is_misplaced, is_module, is_unsupported, keyword_at}, Fits.{Fits, FitsIn, OwnFits}, Table.{is_one, occurs_in}};
 
 use crate::argument;
 use crate::keyword_set::KeywordSet;

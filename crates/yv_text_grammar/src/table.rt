@@ -1,7 +1,6 @@
 //! Which substatements each statement may have, and how often.
 ghost use Rattle.std.specs.Prelude.{◌≡◌, map};
-ghost use Rattle.yv_text_grammar.specs.InnerEntries.{row};
-ghost use Rattle.yv_text_grammar.specs.Table.{is_one, rows_of};
+ghost use Rattle.yv_text_grammar.specs.{InnerEntries.{row}, Table.{is_one, rows_of}};
 
 use yv_statement::Keyword;
 

@@ -1,11 +1,7 @@
 //! One pass over the words of an expression.
 ghost use Rattle.std.specs.Prelude.{◌≡◌, ℕ, Bool, false, List, [], ◌∷◌, ◌++◌};
-ghost use Rattle.yv_text_if_feature.specs.State.{completion};
-ghost use Rattle.yv_text_if_feature.specs.Reads.{Agrees, HasRead};
-ghost use Rattle.yv_text_if_feature.specs.WordTokens.{token_shown};
+ghost use Rattle.yv_text_if_feature.specs.{State.{completion}, Reads.{Agrees, HasRead}, WordTokens.{token_shown}, Tokens.{Token}, Truth.{IsTruth}};
 ghost use Rattle.yv_text_if_feature.specs.Tokens as token;
-ghost use Rattle.yv_text_if_feature.specs.Tokens.{Token};
-ghost use Rattle.yv_text_if_feature.specs.Truth.{IsTruth};
 
 use crate::frame::Frame;
 use crate::stack::{MOST_OPEN, Stack};

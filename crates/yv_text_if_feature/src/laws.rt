@@ -1,7 +1,6 @@
 //! Laws about the definitions only.
 ghost use Rattle.std.specs.Prelude.{◌≡◌, ◌⊎◌, ℕ, List};
-ghost use Rattle.yv_text_if_feature.specs.IfFeature.{IfFeature, Spells, names_in};
-ghost use Rattle.yv_text_if_feature.specs.Tokens.{names_among, tokens};
+ghost use Rattle.yv_text_if_feature.specs.{IfFeature.{IfFeature, Spells, names_in}, Tokens.{names_among, tokens}};
 
 /// A text spells at most one condition.
 pub fn a_text_spells_one_if_feature()

@@ -1,8 +1,6 @@
 //! Identifiers and names.
-ghost use Rattle.std.specs.Prelude.{◌≡◌, ◌==◌};
-ghost use Rattle.std.specs.List.{list_all, slice_split};
-ghost use Rattle.yv_text_if_feature.specs.Bytes.{colon, is_digit};
-ghost use Rattle.yv_text_if_feature.specs.Names.{is_identifier, is_name, is_part, is_start};
+ghost use Rattle.std.specs.{Prelude.{◌≡◌, ◌==◌}, List.{list_all, slice_split}};
+ghost use Rattle.yv_text_if_feature.specs.{Bytes.{colon, is_digit}, Names.{is_identifier, is_name, is_part, is_start}};
 
 fn is_digit(byte: u8) -> bool
     ensures { result ≡ is_digit byte }

@@ -16,8 +16,7 @@ pub struct Stack {
 
 impl Model for Stack {
     ghost use Rattle.std.specs.Prelude.{◌≤◌, List};
-    ghost use Rattle.yv_text_if_feature.specs.InnerFrames.{frames_below};
-    ghost use Rattle.yv_text_if_feature.specs.declared.frame.Frame.{Frame};
+    ghost use Rattle.yv_text_if_feature.specs.{InnerFrames.{frames_below}, declared.frame.Frame.{Frame}};
 
     ghost Value = { List Frame };
 

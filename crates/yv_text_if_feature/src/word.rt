@@ -1,12 +1,7 @@
 //! The words of an expression, one by one.
-ghost use Rattle.std.specs.Prelude.{◌≡◌, ◌≤◌, ◌<◌, false, length, slice_index, if◌then◌else◌};
-ghost use Rattle.std.specs.Iterator.{YieldsFirstBy, item_count};
-ghost use Rattle.yv_text_if_feature.specs.Bytes.{is_blank, is_parenthesis};
-ghost use Rattle.yv_text_if_feature.specs.InnerWords.{first_len, word_len};
-ghost use Rattle.yv_text_if_feature.specs.Names.{is_name};
-ghost use Rattle.yv_text_if_feature.specs.WordTokens.{token_shown, tokens_left};
+ghost use Rattle.std.specs.{Prelude.{◌≡◌, ◌≤◌, ◌<◌, false, length, slice_index, if◌then◌else◌}, Iterator.{YieldsFirstBy, item_count}};
+ghost use Rattle.yv_text_if_feature.specs.{Bytes.{is_blank, is_parenthesis}, InnerWords.{first_len, word_len}, Names.{is_name}, WordTokens.{token_shown, tokens_left}, Tokens.{token_of, tokens, words}};
 ghost use Rattle.yv_text_if_feature.specs.Tokens as token;
-ghost use Rattle.yv_text_if_feature.specs.Tokens.{token_of, tokens, words};
 
 use crate::name::is_name;
 

@@ -1,10 +1,7 @@
 //! The built-in types to which types lead.
 ghost use Rattle.std.specs.Prelude.{◌≡◌, ◌↔◌, ℕ, Some, IfOk, IsTrue};
 ghost use Rattle.yv_link_scopes.specs.Views.{files_in, rows_in};
-ghost use Rattle.yv_type_chains.specs.Types.{Follows, HasBase};
-ghost use Rattle.yv_type_chains.specs.InnerOrder.{IsOrderOfAll};
-ghost use Rattle.yv_type_chains.specs.InnerBase.{NamesBuiltIn};
-ghost use Rattle.yv_type_chains.specs.InnerTables.{AreBased, AreFollowed, at};
+ghost use Rattle.yv_type_chains.specs.{Types.{Follows, HasBase}, InnerOrder.{IsOrderOfAll}, InnerBase.{NamesBuiltIn}, InnerTables.{AreBased, AreFollowed, at}};
 
 use crate::draft::Draft;
 use crate::inside::is_type;

@@ -1,9 +1,7 @@
 //! The bases of types, and what readers ask of them.
 ghost use Rattle.std.specs.Prelude.{◌≡◌, ◌↔◌, ℕ, Some, map, IfOk};
 ghost use Rattle.yv_statement.specs.Order.{IsLeast};
-ghost use Rattle.yv_link_scopes.specs.Files.{Files, brief_of};
-ghost use Rattle.yv_link_scopes.specs.RowList.{rows_of};
-ghost use Rattle.yv_link_scopes.specs.Views.{lent_in};
+ghost use Rattle.yv_link_scopes.specs.{Files.{Files, brief_of}, RowList.{rows_of}, Views.{lent_in}};
 ghost use Rattle.yv_link_definitions.specs.Meanings.{AreNames};
 
 use crate::draft::Draft;
@@ -24,9 +22,7 @@ pub struct Bases {
 }
 
 impl Bases {
-    ghost use Rattle.yv_type_chains.specs.Types.{Follows, HasBase, IsOrderOfTypes};
-    ghost use Rattle.yv_type_chains.specs.Refusals.{BadKinds};
-    ghost use Rattle.yv_type_chains.specs.Bases.{AreBases};
+    ghost use Rattle.yv_type_chains.specs.{Types.{Follows, HasBase, IsOrderOfTypes}, Refusals.{BadKinds}, Bases.{AreBases}};
 
     /// Reads the types of these statements, the names being theirs. Want of memory is the only
     /// error.

@@ -1,10 +1,7 @@
 //! How many plain types the values of a type may have.
 ghost use Rattle.std.specs.Prelude.{◌≡◌, ◌+◌, ℕ, IfOk};
 ghost use Rattle.yv_link_scopes.specs.Views.{files_in, rows_in};
-ghost use Rattle.yv_type_chains.specs.Types.{RestsOn};
-ghost use Rattle.yv_type_chains.specs.InnerOrder.{IsOrderOfAll};
-ghost use Rattle.yv_type_chains.specs.InnerTables.{AreFollowed, at};
-ghost use Rattle.yv_type_chains.specs.InnerCounts.{AreCounts, IsCount, cap, total_from};
+ghost use Rattle.yv_type_chains.specs.{Types.{RestsOn}, InnerOrder.{IsOrderOfAll}, InnerTables.{AreFollowed, at}, InnerCounts.{AreCounts, IsCount, cap, total_from}};
 
 use crate::draft::Draft;
 use crate::slots::{get, no_numbers, put};

@@ -2,8 +2,7 @@
 ghost use Rattle.std.specs.Prelude.{◌≡◌, ◌<◌, ℕ, Some, length, IfOk};
 ghost use Rattle.yv_link_scopes.specs.Views.{files_in, lent_in, rows_in};
 ghost use Rattle.yv_link_definitions.specs.Meanings.{AreNames};
-ghost use Rattle.yv_type_chains.specs.Types.{types_in};
-ghost use Rattle.yv_type_chains.specs.InnerTables.{AreFollowed, at, items_at};
+ghost use Rattle.yv_type_chains.specs.{Types.{types_in}, InnerTables.{AreFollowed, at, items_at}};
 
 use crate::follows::all_followed;
 use crate::inside::types_inside;

@@ -1,9 +1,7 @@
 //! What is found on the types before they are judged.
 ghost use Rattle.std.specs.Prelude.{◌≡◌, IfOk};
 ghost use Rattle.yv_link_scopes.specs.Views.{files_in, rows_in};
-ghost use Rattle.yv_type_chains.specs.InnerOrder.{IsOrderOfAll};
-ghost use Rattle.yv_type_chains.specs.InnerTables.{AreFollowed};
-ghost use Rattle.yv_type_chains.specs.InnerFindings.{AreFound};
+ghost use Rattle.yv_type_chains.specs.{InnerOrder.{IsOrderOfAll}, InnerTables.{AreFollowed}, InnerFindings.{AreFound}};
 
 use crate::draft::Draft;
 use std::alloc::{AllocError, Global};

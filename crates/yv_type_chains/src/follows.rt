@@ -1,10 +1,8 @@
 //! The type that each type follows.
 ghost use Rattle.std.specs.Prelude.{◌≡◌, ◌↔◌, ◌<◌, ℕ, Some, length, IfOk, slice_get};
-ghost use Rattle.yv_link_scopes.specs.Rows.{row};
-ghost use Rattle.yv_link_scopes.specs.Views.{files_in, lent_in, rows_in};
+ghost use Rattle.yv_link_scopes.specs.{Rows.{row}, Views.{files_in, lent_in, rows_in}};
 ghost use Rattle.yv_link_definitions.specs.Meanings.{AreNames};
-ghost use Rattle.yv_type_chains.specs.Types.{Follows, types_in};
-ghost use Rattle.yv_type_chains.specs.InnerTables.{AreFollowed, at, items_at};
+ghost use Rattle.yv_type_chains.specs.{Types.{Follows, types_in}, InnerTables.{AreFollowed, at, items_at}};
 
 use crate::inside::is_type;
 use std::alloc::{AllocError, Global};

@@ -1,10 +1,8 @@
 //! The types in each block.
 ghost use Rattle.std.specs.Prelude.{◌≡◌, ℕ, [], length, IfOk};
-ghost use Rattle.yv_link_scopes.specs.Rows.{row};
-ghost use Rattle.yv_link_scopes.specs.Views.{rows_in};
+ghost use Rattle.yv_link_scopes.specs.{Rows.{row}, Views.{rows_in}};
 ghost use Rattle.yv_link_definitions.specs.Refers.{is_type};
-ghost use Rattle.yv_type_chains.specs.Types.{is_inner, types_in};
-ghost use Rattle.yv_type_chains.specs.InnerTables.{items_at};
+ghost use Rattle.yv_type_chains.specs.{Types.{is_inner, types_in}, InnerTables.{items_at}};
 
 use std::alloc::{AllocError, Global};
 use yv_link_scopes::{Entry, Rows};

@@ -1,7 +1,6 @@
 //! The built-in types, and the substatements that each takes.
 ghost use Rattle.std.specs.Prelude.{◌≡◌, map};
-ghost use Rattle.yv_type_chains.specs.Kinds.{has_kind, has_pair, is_of_built_in, is_foreign, needs, needs_any};
-ghost use Rattle.yv_type_chains.specs.InnerPairs.{pair};
+ghost use Rattle.yv_type_chains.specs.{Kinds.{has_kind, has_pair, is_of_built_in, is_foreign, needs, needs_any}, InnerPairs.{pair}};
 
 use yv_statement::is_among;
 

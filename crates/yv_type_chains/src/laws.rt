@@ -1,9 +1,7 @@
 //! Laws about the definitions only.
 ghost use Rattle.std.specs.Prelude.{◌≡◌, ℕ, List};
-ghost use Rattle.yv_link_scopes.specs.Files.{Briefs};
-ghost use Rattle.yv_link_scopes.specs.Rows.{Row};
-ghost use Rattle.yv_type_chains.specs.Types.{Follows, HasBase};
-ghost use Rattle.yv_type_chains.specs.Counts.{Counts};
+ghost use Rattle.yv_link_scopes.specs.{Files.{Briefs}, Rows.{Row}};
+ghost use Rattle.yv_type_chains.specs.{Types.{Follows, HasBase}, Counts.{Counts}};
 
 /// A type follows one type.
 pub fn a_type_follows_one_type()

@@ -1,9 +1,7 @@
 //! Marks on the blocks that contain statements.
 ghost use Rattle.std.specs.Prelude.{◌≡◌, ◌≢◌, ◌<◌, ℕ, true, length, IfOk};
 ghost use Rattle.yv_link_scopes.specs.Views.{files_in, rows_in};
-ghost use Rattle.yv_type_chains.specs.Refusals.{IsMisfit};
-ghost use Rattle.yv_type_chains.specs.InnerTables.{AreBased};
-ghost use Rattle.yv_type_chains.specs.InnerMarks.{AreMarked, Meets, is_marked};
+ghost use Rattle.yv_type_chains.specs.{Refusals.{IsMisfit}, InnerTables.{AreBased}, InnerMarks.{AreMarked, Meets, is_marked}};
 
 use crate::draft::Draft;
 use std::alloc::{AllocError, Global};

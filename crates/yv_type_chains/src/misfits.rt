@@ -1,13 +1,7 @@
 //! Substatements that types don't take, or need.
-ghost use Rattle.std.specs.Prelude.{◌≡◌, ◌↔◌, ℕ, List, Some, IsTrue, true, codes};
-ghost use Rattle.std.specs.Option.{option_map};
-ghost use Rattle.yv_link_scopes.specs.Rows.{row, name_in};
-ghost use Rattle.yv_link_scopes.specs.Views.{files_in, rows_in};
-ghost use Rattle.yv_type_chains.specs.Kinds.{is_of_built_in, needs};
-ghost use Rattle.yv_type_chains.specs.Types.{HasKind, is_union};
-ghost use Rattle.yv_type_chains.specs.Refusals.{IsMisfit, is_derived};
-ghost use Rattle.yv_type_chains.specs.InnerTables.{AreBased};
-ghost use Rattle.yv_type_chains.specs.InnerMarks.{IsForeign, IsInherited, IsJoined, Meets, Passes};
+ghost use Rattle.std.specs.{Prelude.{◌≡◌, ◌↔◌, ℕ, List, Some, IsTrue, true, codes}, Option.{option_map}};
+ghost use Rattle.yv_link_scopes.specs.{Rows.{row, name_in}, Views.{files_in, rows_in}};
+ghost use Rattle.yv_type_chains.specs.{Kinds.{is_of_built_in, needs}, Types.{HasKind, is_union}, Refusals.{IsMisfit, is_derived}, InnerTables.{AreBased}, InnerMarks.{IsForeign, IsInherited, IsJoined, Meets, Passes}};
 
 use crate::draft::Draft;
 use crate::inside::is_type;

@@ -1,12 +1,8 @@
 //! An order of the types.
 ghost use Rattle.std.specs.Prelude.{◌↔◌, IfOk, IsTrue};
 ghost use Rattle.yv_link_scopes.specs.Views.{files_in, lent_in, rows_in};
-ghost use Rattle.yv_link_definitions.specs.Meanings.{AreNames};
-ghost use Rattle.yv_link_definitions.specs.declared.meaning_table.Names.{Names};
-ghost use Rattle.yv_type_chains.specs.Types.{IsOrderOfTypes, IsTypeAt};
-ghost use Rattle.yv_type_chains.specs.InnerOrder.{IsOrderOfAll};
-ghost use Rattle.yv_type_chains.specs.InnerTables.{AreFollowed};
-ghost use Rattle.yv_type_chains.specs.InnerSteps.{AreSteps};
+ghost use Rattle.yv_link_definitions.specs.{Meanings.{AreNames}, declared.meaning_table.Names.{Names}};
+ghost use Rattle.yv_type_chains.specs.{Types.{IsOrderOfTypes, IsTypeAt}, InnerOrder.{IsOrderOfAll}, InnerTables.{AreFollowed}, InnerSteps.{AreSteps}};
 
 use crate::draft::Draft;
 use crate::inside::is_type;

@@ -1,14 +1,9 @@
 //! What is wrong with the types.
 ghost use Rattle.std.specs.Prelude.{◌≡◌, ◌↔◌, ◌&&◌, ◌||◌, not, IsTrue, Some, slice_get};
 ghost use Rattle.yv_statement.specs.Order.{IsLeast};
-ghost use Rattle.yv_link_scopes.specs.Rows.{row, name_in};
-ghost use Rattle.yv_link_scopes.specs.Views.{files_in, rows_in};
+ghost use Rattle.yv_link_scopes.specs.{Rows.{row, name_in}, Views.{files_in, rows_in}};
 ghost use Rattle.yv_link_definitions.specs.Refers.{is_type};
-ghost use Rattle.yv_type_chains.specs.Kinds.{needs_any};
-ghost use Rattle.yv_type_chains.specs.Counts.{HasTooMany};
-ghost use Rattle.yv_type_chains.specs.Refusals.{BadIn, BadRow, IsBadType};
-ghost use Rattle.yv_type_chains.specs.InnerFindings.{AreFound};
-ghost use Rattle.yv_type_chains.specs.InnerMarks.{is_marked};
+ghost use Rattle.yv_type_chains.specs.{Kinds.{needs_any}, Counts.{HasTooMany}, Refusals.{BadIn, BadRow, IsBadType}, InnerFindings.{AreFound}, InnerMarks.{is_marked}};
 
 use crate::draft::Draft;
 use crate::findings::Findings;

@@ -1,10 +1,7 @@
 //! For each type those from which it takes its values.
-ghost use Rattle.std.specs.Prelude.{◌≡◌, ◌↔◌, ℕ, Some, IfOk, slice_get};
-ghost use Rattle.std.specs.List.{Contains};
-ghost use Rattle.yv_link_scopes.specs.Rows.{row};
-ghost use Rattle.yv_link_scopes.specs.Views.{rows_in};
-ghost use Rattle.yv_type_chains.specs.Types.{is_kind};
-ghost use Rattle.yv_type_chains.specs.InnerSteps.{AreEdges, AreSteps};
+ghost use Rattle.std.specs.{Prelude.{◌≡◌, ◌↔◌, ℕ, Some, IfOk, slice_get}, List.{Contains}};
+ghost use Rattle.yv_link_scopes.specs.{Rows.{row}, Views.{rows_in}};
+ghost use Rattle.yv_type_chains.specs.{Types.{is_kind}, InnerSteps.{AreEdges, AreSteps}};
 
 use crate::draft::Draft;
 use crate::inside::is_type;

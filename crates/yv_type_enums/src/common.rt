@@ -1,9 +1,7 @@
 //! What types share.
 ghost use Rattle.std.specs.Prelude.{◌≡◌, ℕ, List, true};
-ghost use Rattle.yv_values.specs.NameOrder.{is_named};
-ghost use Rattle.yv_values.specs.Types.{plain_of};
-ghost use Rattle.yv_type_enums.specs.InnerValues.{is_list, list_in};
-ghost use Rattle.yv_type_enums.specs.Values.{has};
+ghost use Rattle.yv_values.specs.{NameOrder.{is_named}, Types.{plain_of}};
+ghost use Rattle.yv_type_enums.specs.{InnerValues.{is_list, list_in}, Values.{has}};
 
 use crate::values::Values;
 use yv_base_numbers::Numbering;

@@ -1,6 +1,5 @@
 //! The entries of a `type` statement: its `enum` or its `bit` statements.
-ghost use Rattle.std.specs.Prelude.{◌≡◌, ◌||◌, map, not, codes, IfOk, option_map};
-ghost use Rattle.std.specs.List.{find};
+ghost use Rattle.std.specs.{Prelude.{◌≡◌, ◌||◌, map, not, codes, IfOk, option_map}, List.{find}};
 ghost use Rattle.yv_statement.specs.Tree.{name_of as name_at, trees};
 ghost use Rattle.yv_link_scopes.specs.Files.{has_word};
 ghost use Rattle.yv_link.specs.LinkedFiles.{truth_in};

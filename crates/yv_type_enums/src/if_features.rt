@@ -2,9 +2,7 @@
 ghost use Rattle.std.specs.Prelude.{◌≡◌, ◌&&◌, ℕ, List, IfOk};
 ghost use Rattle.yv_statement.specs.Tree.{name_of as name_at};
 ghost use Rattle.yv_link.specs.LinkedFiles.{truth_in};
-ghost use Rattle.yv_type_enums.specs.Entries.{is_on, is_on_among};
-ghost use Rattle.yv_type_enums.specs.InnerEntries.{base_has, counts, borrow};
-ghost use Rattle.yv_type_enums.specs.Values.{has};
+ghost use Rattle.yv_type_enums.specs.{Entries.{is_on, is_on_among}, InnerEntries.{base_has, counts, borrow}, Values.{has}};
 
 use crate::entries::is_on;
 use crate::values::Values;

@@ -1,8 +1,6 @@
 //! The names of types, and what readers ask of them.
-ghost use Rattle.std.specs.Prelude.{◌≡◌, ◌↔◌, ℕ, Some, IfOk};
-ghost use Rattle.std.specs.Option.{option_map, option_copied};
-ghost use Rattle.yv_statement.specs.Order.{IsLeast};
-ghost use Rattle.yv_statement.specs.Selection.{Selected};
+ghost use Rattle.std.specs.{Prelude.{◌≡◌, ◌↔◌, ℕ, Some, IfOk}, Option.{option_map, option_copied}};
+ghost use Rattle.yv_statement.specs.{Order.{IsLeast}, Selection.{Selected}};
 ghost use Rattle.yv_link_scopes.specs.Files.{Files};
 ghost use Rattle.yv_type_chains.specs.Bases.{AreBases};
 ghost use Rattle.yv_link.specs.LinkedFiles.{AreLinked, truth_in};
@@ -23,10 +21,7 @@ pub struct Lists<'a> {
 }
 
 impl<'a> Lists<'a> {
-    ghost use Rattle.yv_type_enums.specs.Types.{HasNames, NamesView, Truth};
-    ghost use Rattle.yv_type_enums.specs.Refusals.{BadLists};
-    ghost use Rattle.yv_type_enums.specs.Lists.{AreLists};
-    ghost use Rattle.yv_type_enums.specs.TypeNames.{told_of};
+    ghost use Rattle.yv_type_enums.specs.{Types.{HasNames, NamesView, Truth}, Refusals.{BadLists}, Lists.{AreLists}, TypeNames.{told_of}};
 
     /// Reads the types of these files, the bases being theirs. Want of memory is the only error. It
     /// takes time n log n in statements; types that list nothing share the names of those that they

@@ -1,14 +1,9 @@
 //! One type.
-ghost use Rattle.std.specs.Prelude.{◌≡◌, ◌&&◌, None, IfOk};
-ghost use Rattle.std.specs.Option.{option_map};
-ghost use Rattle.yv_link_scopes.specs.Rows.{row};
-ghost use Rattle.yv_link_scopes.specs.Views.{lent_in};
-ghost use Rattle.yv_type_chains.specs.Bases.{AreBases};
-ghost use Rattle.yv_type_chains.specs.Types.{is_kind};
+ghost use Rattle.std.specs.{Prelude.{◌≡◌, ◌&&◌, None, IfOk}, Option.{option_map}};
+ghost use Rattle.yv_link_scopes.specs.{Rows.{row}, Views.{lent_in}};
+ghost use Rattle.yv_type_chains.specs.{Bases.{AreBases}, Types.{is_kind}};
 ghost use Rattle.yv_link.specs.LinkedFiles.{truth_in};
-ghost use Rattle.yv_type_enums.specs.Types.{from, kind_in, new};
-ghost use Rattle.yv_type_enums.specs.TypeNames.{told_of};
-ghost use Rattle.yv_type_enums.specs.InnerSteps.{AreKnown, IsFollowed, IsRead, IsStep};
+ghost use Rattle.yv_type_enums.specs.{Types.{from, kind_in, new}, TypeNames.{told_of}, InnerSteps.{AreKnown, IsFollowed, IsRead, IsStep}};
 
 use crate::table::{TypeNames, get};
 use crate::type_names::NamedEntries;

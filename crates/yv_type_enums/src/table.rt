@@ -1,6 +1,5 @@
 //! Names of types by number.
-ghost use Rattle.std.specs.Prelude.{◌≡◌, ◌≢◌, ◌<◌, ℕ, None, length, IfOk};
-ghost use Rattle.std.specs.Option.{option_map, option_copied};
+ghost use Rattle.std.specs.{Prelude.{◌≡◌, ◌≢◌, ◌<◌, ℕ, None, length, IfOk}, Option.{option_map, option_copied}};
 ghost use Rattle.yv_type_enums.specs.TypeNames.{told_at, told_of};
 
 use crate::type_names::NamedEntries;

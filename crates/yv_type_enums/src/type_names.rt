@@ -3,9 +3,7 @@ ghost use Rattle.std.specs.Prelude.{◌≡◌, ◌≢◌, ℕ, List, [], ◌&&�
 ghost use Rattle.yv_link.specs.LinkedFiles.{truth_in};
 ghost use Rattle.yv_base_numbers.specs.Numberings.{IsFirstWrong, is_wrong, is_wrong_in, keep_numbers, number_in, number_entries, table_of};
 ghost use Rattle.yv_values.specs.NameOrder.{Rises, is_named};
-ghost use Rattle.yv_type_enums.specs.Entries.{entries, is_on_among, listing};
-ghost use Rattle.yv_type_enums.specs.InnerEntries.{counts, entries_in, refusal_of_entry, borrow};
-ghost use Rattle.yv_type_enums.specs.Names.{IsRefusal, is_value, is_value_among, is_value_from, number_from, number_of};
+ghost use Rattle.yv_type_enums.specs.{Entries.{entries, is_on_among, listing}, InnerEntries.{counts, entries_in, refusal_of_entry, borrow}, Names.{IsRefusal, is_value, is_value_among, is_value_from, number_from, number_of}};
 
 use crate::common::Common;
 use crate::entries::listing;

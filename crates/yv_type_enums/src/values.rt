@@ -1,8 +1,6 @@
 //! The names that are values.
-ghost use Rattle.std.specs.Prelude.{◌≡◌, ◌||◌, ℕ, List, false, map, IfOk};
-ghost use Rattle.std.specs.Str.{bytes_eq};
-ghost use Rattle.yv_values.specs.NameOrder.{is_named};
-ghost use Rattle.yv_values.specs.Values.{texts};
+ghost use Rattle.std.specs.{Prelude.{◌≡◌, ◌||◌, ℕ, List, false, map, IfOk}, Str.{bytes_eq}};
+ghost use Rattle.yv_values.specs.{NameOrder.{is_named}, Values.{texts}};
 ghost use Rattle.yv_type_enums.specs.Values.{has};
 
 use std::alloc::{AllocError, Global};

@@ -1,12 +1,10 @@
 //! What is derived from all of some bases.
 ghost use Rattle.std.specs.Prelude.{◌↔◌, IsTrue, IfOk, map};
 ghost use Rattle.yv_statement.specs.Selection.{Selected};
-ghost use Rattle.yv_link_scopes.specs.Files.{Files, brief_of};
-ghost use Rattle.yv_link_scopes.specs.RowList.{rows_of};
+ghost use Rattle.yv_link_scopes.specs.{Files.{Files, brief_of}, RowList.{rows_of}};
 ghost use Rattle.yv_link_identities.specs.declared.references.IdentityRef.{IdentityRef};
 ghost use Rattle.yv_link.specs.LinkedFiles.{AreLinked};
-ghost use Rattle.yv_type_identities.specs.InnerBases.{IsBelowKey};
-ghost use Rattle.yv_type_identities.specs.InnerSets.{is_left};
+ghost use Rattle.yv_type_identities.specs.{InnerBases.{IsBelowKey}, InnerSets.{is_left}};
 
 use crate::sets::{References, intersect};
 use std::alloc::{AllocError, Global};

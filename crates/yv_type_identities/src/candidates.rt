@@ -1,16 +1,11 @@
 //! The identities that are values wherever they are derived from the bases.
-ghost use Rattle.std.specs.Prelude.{◌≡◌, map, slice_get, IfOk};
-ghost use Rattle.std.specs.Rc.{rc_str_bytes};
+ghost use Rattle.std.specs.{Prelude.{◌≡◌, map, slice_get, IfOk}, Rc.{rc_str_bytes}};
 ghost use Rattle.yv_statement.specs.Selection.{Selected};
-ghost use Rattle.yv_link_scopes.specs.Files.{Files, brief_of};
-ghost use Rattle.yv_link_scopes.specs.RowList.{rows_of};
-ghost use Rattle.yv_link_scopes.specs.Rows.{row};
+ghost use Rattle.yv_link_scopes.specs.{Files.{Files, brief_of}, RowList.{rows_of}, Rows.{row}};
 ghost use Rattle.yv_link_features.specs.On.{module_name_in};
-ghost use Rattle.yv_link_identities.specs.Names.{is_identity};
-ghost use Rattle.yv_link_identities.specs.References.{ref_of};
+ghost use Rattle.yv_link_identities.specs.{Names.{is_identity}, References.{ref_of}};
 ghost use Rattle.yv_link.specs.LinkedFiles.{AreLinked, truth_in};
-ghost use Rattle.yv_type_identities.specs.Values.{names_implemented};
-ghost use Rattle.yv_type_identities.specs.InnerCandidates.{AreCandidates, AreModuleNames, IsOf, passes};
+ghost use Rattle.yv_type_identities.specs.{Values.{names_implemented}, InnerCandidates.{AreCandidates, AreModuleNames, IsOf, passes}};
 
 use crate::if_features::off;
 use std::alloc::{AllocError, Global};

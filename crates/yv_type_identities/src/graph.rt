@@ -2,9 +2,7 @@
 ghost use Rattle.std.specs.Prelude.{◌≡◌, ◌↔◌, ◌<◌, ℕ, None, Some, true, length, map, IfOk, IfSome};
 ghost use Rattle.yv_base_graph.specs.Graph.{IsGraph};
 ghost use Rattle.yv_statement.specs.Selection.{Selected};
-ghost use Rattle.yv_link_scopes.specs.Files.{Files, brief_of};
-ghost use Rattle.yv_link_scopes.specs.RowList.{rows_of};
-ghost use Rattle.yv_link_scopes.specs.Rows.{row};
+ghost use Rattle.yv_link_scopes.specs.{Files.{Files, brief_of}, RowList.{rows_of}, Rows.{row}};
 ghost use Rattle.yv_link_identities.specs.InnerPairs.{HasNoEdge};
 ghost use Rattle.yv_link.specs.LinkedFiles.{AreLinked};
 ghost use Rattle.yv_type_identities.specs.InnerRuns.{AreDerived, AreIdentityPlaces, is_identity_in, pair_of};

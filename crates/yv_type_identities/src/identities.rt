@@ -1,12 +1,10 @@
 //! The values of identityref types.
-ghost use Rattle.std.specs.Prelude.{◌≡◌, ◌↔◌, ℕ, List, IsTrue, IfOk, IfSome, OnOk};
-ghost use Rattle.std.specs.List.{list_any};
+ghost use Rattle.std.specs.{Prelude.{◌≡◌, ◌↔◌, ℕ, List, IsTrue, IfOk, IfSome, OnOk}, List.{list_any}};
 ghost use Rattle.yv_statement.specs.Selection.{Selected};
 ghost use Rattle.yv_link_scopes.specs.Files.{Files};
 ghost use Rattle.yv_link.specs.LinkedFiles.{AreLinked, truth_in};
 ghost use Rattle.yv_values.specs.Identities.{RiseById, is_identity};
-ghost use Rattle.yv_type_identities.specs.Values.{HasValue};
-ghost use Rattle.yv_type_identities.specs.InnerBases.{bases_at};
+ghost use Rattle.yv_type_identities.specs.{Values.{HasValue}, InnerBases.{bases_at}};
 
 use crate::bases::below;
 use crate::inside::bases_inside;

@@ -1,11 +1,8 @@
 //! The identity at each place.
 ghost use Rattle.std.specs.Prelude.{◌≡◌, ◌≢◌, None, Some, true, cond, ℕ, List, map, slice_get, IfOk, IfSome};
 ghost use Rattle.yv_statement.specs.Selection.{Selected};
-ghost use Rattle.yv_link_scopes.specs.Files.{Files, brief_of};
-ghost use Rattle.yv_link_scopes.specs.RowList.{rows_of};
-ghost use Rattle.yv_link_scopes.specs.Rows.{Row, row};
-ghost use Rattle.yv_link_identities.specs.References.{is_at};
-ghost use Rattle.yv_link_identities.specs.declared.references.IdentityRef.{IdentityRef};
+ghost use Rattle.yv_link_scopes.specs.{Files.{Files, brief_of}, RowList.{rows_of}, Rows.{Row, row}};
+ghost use Rattle.yv_link_identities.specs.{References.{is_at}, declared.references.IdentityRef.{IdentityRef}};
 ghost use Rattle.yv_link.specs.LinkedFiles.{AreLinked};
 ghost use Rattle.yv_type_identities.specs.InnerRuns.{AreIdentityPlaces, number_at};
 

@@ -1,15 +1,10 @@
 //! The bases in each block.
-ghost use Rattle.std.specs.Prelude.{◌≡◌, ◌≢◌, ◌↔◌, ◌∷◌, ◌++◌, ◌<◌, ℕ, [], length, map, IsTrue, IfOk, OnOk};
-ghost use Rattle.std.specs.List.{list_any};
+ghost use Rattle.std.specs.{Prelude.{◌≡◌, ◌≢◌, ◌↔◌, ◌∷◌, ◌++◌, ◌<◌, ℕ, [], length, map, IsTrue, IfOk, OnOk}, List.{list_any}};
 ghost use Rattle.yv_statement.specs.Selection.{Selected};
-ghost use Rattle.yv_link_scopes.specs.Files.{Files, brief_of};
-ghost use Rattle.yv_link_scopes.specs.RowList.{rows_of};
-ghost use Rattle.yv_link_scopes.specs.Rows.{row};
-ghost use Rattle.yv_link_identities.specs.References.{is_at};
-ghost use Rattle.yv_link_identities.specs.declared.references.IdentityRef.{IdentityRef};
+ghost use Rattle.yv_link_scopes.specs.{Files.{Files, brief_of}, RowList.{rows_of}, Rows.{row}};
+ghost use Rattle.yv_link_identities.specs.{References.{is_at}, declared.references.IdentityRef.{IdentityRef}};
 ghost use Rattle.yv_link.specs.LinkedFiles.{AreLinked};
-ghost use Rattle.yv_type_identities.specs.Bases.{NamesBase};
-ghost use Rattle.yv_type_identities.specs.InnerBases.{base_of, bases_at};
+ghost use Rattle.yv_type_identities.specs.{Bases.{NamesBase}, InnerBases.{base_of, bases_at}};
 
 use std::alloc::{AllocError, Global};
 use yv_link::{IdentityRef, Linked};

@@ -1,8 +1,6 @@
 //! Sets of bases as keys.
-ghost use Rattle.std.specs.Prelude.{◌≡◌, IfOk};
-ghost use Rattle.std.specs.List.{list_any};
-ghost use Rattle.yv_link_identities.specs.References.{is_at};
-ghost use Rattle.yv_link_identities.specs.declared.references.IdentityRef.{IdentityRef};
+ghost use Rattle.std.specs.{Prelude.{◌≡◌, IfOk}, List.{list_any}};
+ghost use Rattle.yv_link_identities.specs.{References.{is_at}, declared.references.IdentityRef.{IdentityRef}};
 ghost use Rattle.yv_type_identities.specs.InnerSets.{has, is_key};
 
 use crate::sets::References;

@@ -1,15 +1,10 @@
 //! Laws about the definitions only. These functions do nothing: the contract of each is the law.
 ghost use Rattle.std.specs.Prelude.{◌≡◌, ◌↔◌, ℕ, List, Some, None, slice_get};
-ghost use Rattle.yv_statement.specs.Order.{IsLeast};
-ghost use Rattle.yv_statement.specs.Selection.{Selected};
-ghost use Rattle.yv_link_scopes.specs.Files.{Files, Briefs};
-ghost use Rattle.yv_link_scopes.specs.Rows.{Row};
-ghost use Rattle.yv_link_features.specs.Refusals.{BadFeatures};
-ghost use Rattle.yv_link_features.specs.On.{Holds};
-ghost use Rattle.yv_link_identities.specs.References.{IsDerived, ref_of};
-ghost use Rattle.yv_link_identities.specs.declared.references.IdentityRef.{IdentityRef};
-ghost use Rattle.yv_type_identities.specs.Bases.{IsBelow};
-ghost use Rattle.yv_type_identities.specs.Values.{Truth, HasValue};
+ghost use Rattle.yv_statement.specs.{Order.{IsLeast}, Selection.{Selected}};
+ghost use Rattle.yv_link_scopes.specs.{Files.{Files, Briefs}, Rows.{Row}};
+ghost use Rattle.yv_link_features.specs.{Refusals.{BadFeatures}, On.{Holds}};
+ghost use Rattle.yv_link_identities.specs.{References.{IsDerived, ref_of}, declared.references.IdentityRef.{IdentityRef}};
+ghost use Rattle.yv_type_identities.specs.{Bases.{IsBelow}, Values.{Truth, HasValue}};
 
 /// Where nothing is refused of the features, a type has the same values whatever decides the truth
 /// of conditions.

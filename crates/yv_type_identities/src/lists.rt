@@ -1,14 +1,10 @@
 //! The identities of a type, of those that might be.
-ghost use Rattle.std.specs.Prelude.{◌≡◌, ◌↔◌, ℕ, List, true, Some, nat_eq, nat_lt, slice_get, IsTrue, IfOk};
-ghost use Rattle.std.specs.List.{list_any};
+ghost use Rattle.std.specs.{Prelude.{◌≡◌, ◌↔◌, ℕ, List, true, Some, nat_eq, nat_lt, slice_get, IsTrue, IfOk}, List.{list_any}};
 ghost use Rattle.yv_statement.specs.Selection.{Selected};
 ghost use Rattle.yv_link_scopes.specs.Files.{Files};
 ghost use Rattle.yv_link.specs.LinkedFiles.{AreLinked, truth_in};
 ghost use Rattle.yv_values.specs.Identities.{RiseById, id_of, is_identity};
-ghost use Rattle.yv_type_identities.specs.InnerCandidates.{AreCandidates};
-ghost use Rattle.yv_type_identities.specs.InnerPlaces.{ArePlaced};
-ghost use Rattle.yv_type_identities.specs.InnerSets.{is_left};
-ghost use Rattle.yv_type_identities.specs.declared.candidates.Candidate.{Candidate};
+ghost use Rattle.yv_type_identities.specs.{InnerCandidates.{AreCandidates}, InnerPlaces.{ArePlaced}, InnerSets.{is_left}, declared.candidates.Candidate.{Candidate}};
 
 use crate::candidates::{Candidate, candidates};
 use crate::places::CandidatePlaces;

@@ -1,9 +1,7 @@
 //! Where candidates are.
-ghost use Rattle.std.specs.Prelude.{◌≡◌, ◌||◌, ◌&&◌, ◌==◌, ℕ, false, nat_eq, IfOk, OnOk};
-ghost use Rattle.std.specs.List.{list_any};
+ghost use Rattle.std.specs.{Prelude.{◌≡◌, ◌||◌, ◌&&◌, ◌==◌, ℕ, false, nat_eq, IfOk, OnOk}, List.{list_any}};
 ghost use Rattle.yv_link_identities.specs.declared.references.IdentityRef.{IdentityRef};
-ghost use Rattle.yv_type_identities.specs.InnerPlaces.{ArePlaced, is_kept, numbers_at};
-ghost use Rattle.yv_type_identities.specs.InnerSets.{is_key};
+ghost use Rattle.yv_type_identities.specs.{InnerPlaces.{ArePlaced, is_kept, numbers_at}, InnerSets.{is_key}};
 
 use crate::candidates::Candidate;
 use std::alloc::{AllocError, Global};

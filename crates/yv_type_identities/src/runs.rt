@@ -1,7 +1,6 @@
 //! Runs of numbers: where identities and their bases make a tree, the numbers of all that is
 //! derived from one follow one another.
-ghost use Rattle.std.specs.Prelude.{◌≡◌, ◌<◌, ◌||◌, ◌&&◌, ℕ, Some, true, false, length, slice_index, IfOk, IfSome};
-ghost use Rattle.std.specs.List.{All, Contains, list_any};
+ghost use Rattle.std.specs.{Prelude.{◌≡◌, ◌<◌, ◌||◌, ◌&&◌, ℕ, Some, true, false, length, slice_index, IfOk, IfSome}, List.{All, Contains, list_any}};
 ghost use Rattle.yv_base_graph.specs.Graph.{ArePlaces, IsGraph};
 ghost use Rattle.yv_type_identities.specs.InnerRuns.{AreRuns, IsKnown, in_node, is_in, run_at};
 

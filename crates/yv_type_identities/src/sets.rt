@@ -1,8 +1,6 @@
 //! Sets of identities by their places.
-ghost use Rattle.std.specs.Prelude.{◌≡◌, ◌||◌, ◌&&◌, false, OnOk, IfOk};
-ghost use Rattle.std.specs.List.{list_any};
-ghost use Rattle.yv_link_identities.specs.References.{is_at};
-ghost use Rattle.yv_link_identities.specs.declared.references.IdentityRef.{IdentityRef};
+ghost use Rattle.std.specs.{Prelude.{◌≡◌, ◌||◌, ◌&&◌, false, OnOk, IfOk}, List.{list_any}};
+ghost use Rattle.yv_link_identities.specs.{References.{is_at}, declared.references.IdentityRef.{IdentityRef}};
 ghost use Rattle.yv_type_identities.specs.InnerSets.{has, is_key, is_left};
 
 use std::alloc::{AllocError, Global};

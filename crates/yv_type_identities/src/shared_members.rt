@@ -1,15 +1,10 @@
 //! The identities that may be values as one list, which types share.
-ghost use Rattle.std.specs.Prelude.{◌≡◌, ◌↔◌, ◌&&◌, ℕ, List, Some, map, slice_get, IsTrue, IfOk, IfSome};
-ghost use Rattle.std.specs.Option.{option_and_then};
+ghost use Rattle.std.specs.{Prelude.{◌≡◌, ◌↔◌, ◌&&◌, ℕ, List, Some, map, slice_get, IsTrue, IfOk, IfSome}, Option.{option_and_then}};
 ghost use Rattle.yv_statement.specs.Selection.{Selected};
 ghost use Rattle.yv_link_scopes.specs.Files.{Files};
-ghost use Rattle.yv_link.specs.LinkedFiles.{AreLinked, truth_in};
-ghost use Rattle.yv_link.specs.declared.linked_files.Linked.{Linked};
+ghost use Rattle.yv_link.specs.{LinkedFiles.{AreLinked, truth_in}, declared.linked_files.Linked.{Linked}};
 ghost use Rattle.yv_values.specs.Identities.{RiseById, numbered_of};
-ghost use Rattle.yv_type_identities.specs.Identities.{IsFound};
-ghost use Rattle.yv_type_identities.specs.InnerCandidates.{AreCandidates};
-ghost use Rattle.yv_type_identities.specs.InnerRuns.{AreShared, HasRun, in_run, is_in, is_met, number_at, numbered_by, run_of};
-ghost use Rattle.yv_type_identities.specs.declared.candidates.Candidate.{Candidate};
+ghost use Rattle.yv_type_identities.specs.{Identities.{IsFound}, InnerCandidates.{AreCandidates}, InnerRuns.{AreShared, HasRun, in_run, is_in, is_met, number_at, numbered_by, run_of}, declared.candidates.Candidate.{Candidate}};
 
 use crate::candidates::Candidate;
 use crate::graph::read_graph;

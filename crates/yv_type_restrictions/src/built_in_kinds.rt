@@ -1,6 +1,5 @@
 //! Built-in types before any restriction.
-ghost use Rattle.std.specs.Prelude.{◌≡◌, ◌∷◌, [], true, int_le, pos, negsuc, Some, IfOk};
-ghost use Rattle.std.specs.Option.{option_map};
+ghost use Rattle.std.specs.{Prelude.{◌≡◌, ◌∷◌, [], true, int_le, pos, negsuc, Some, IfOk}, Option.{option_map}};
 ghost use Rattle.yv_base_numbers.specs.Numbers.{integer};
 ghost use Rattle.yv_values.specs.Types.{plain_of, wholes};
 ghost use Rattle.yv_type_restrictions.specs.BuiltIn.{built_in, signed_range, unsigned_range, whole_type};

@@ -1,9 +1,7 @@
 //! The digits that a type states.
-ghost use Rattle.std.specs.Prelude.{◌≡◌};
-ghost use Rattle.std.specs.Option.{option_copied};
-ghost use Rattle.yv_type_restrictions.specs.Facets.{child};
+ghost use Rattle.std.specs.{Prelude.{◌≡◌}, Option.{option_copied}};
+ghost use Rattle.yv_type_restrictions.specs.{Facets.{child}, Types.{digits_of_type, few_digits, stated_digits}};
 ghost use Rattle.yv_base_numbers.specs.Numbers.{integer_of};
-ghost use Rattle.yv_type_restrictions.specs.Types.{digits_of_type, few_digits, stated_digits};
 
 use yv_base_numbers::{Integer, integer_of};
 use yv_link_scopes::name_of;

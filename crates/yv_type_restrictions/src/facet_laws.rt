@@ -1,9 +1,7 @@
 //! Laws about the definitions only.
 ghost use Rattle.std.specs.Prelude.{◌≡◌, ℕ, List, Some};
 ghost use Rattle.yv_statement.specs.Tree.{Tree};
-ghost use Rattle.yv_values.specs.Scopes.{Place, text_value};
-ghost use Rattle.yv_values.specs.Types.{Plain};
-ghost use Rattle.yv_values.specs.Values.{Val};
+ghost use Rattle.yv_values.specs.{Scopes.{Place, text_value}, Types.{Plain}, Values.{Val}};
 ghost use Rattle.yv_type_restrictions.specs.Facets.{Narrows};
 
 /// What a statement leaves of a type is one type.

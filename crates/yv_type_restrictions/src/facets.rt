@@ -1,11 +1,8 @@
 //! What a type statement leaves of the type that it names.
 ghost use Rattle.std.specs.Prelude.{◌≡◌, ◌≢◌, Err, IfOk};
-ghost use Rattle.yv_statement.specs.Order.{IsLeast};
-ghost use Rattle.yv_statement.specs.Tree.{trees};
-ghost use Rattle.yv_statement.specs.declared.refusal.Stop.TheVariants.{Fault, PatternBuild};
+ghost use Rattle.yv_statement.specs.{Order.{IsLeast}, Tree.{trees}, declared.refusal.Stop.TheVariants.{Fault, PatternBuild}};
 ghost use Rattle.yv_values.specs.Types.{plain_of};
-ghost use Rattle.yv_type_restrictions.specs.Facets.{Narrows};
-ghost use Rattle.yv_type_restrictions.specs.FacetRefusals.{BadFacets, HasPattern};
+ghost use Rattle.yv_type_restrictions.specs.{Facets.{Narrows}, FacetRefusals.{BadFacets, HasPattern}};
 
 use crate::restricted_kinds::{NarrowedType, binary, decimal, text, whole};
 use std::alloc::Global;

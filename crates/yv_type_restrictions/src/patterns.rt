@@ -1,11 +1,8 @@
 //! The tests that the patterns of a type statement are.
-ghost use Rattle.std.specs.Prelude.{◌≡◌, ◌++◌, map, option_to_list, IfOk, IfErr, OnOk};
-ghost use Rattle.std.specs.Option.{option_map};
+ghost use Rattle.std.specs.{Prelude.{◌≡◌, ◌++◌, map, option_to_list, IfOk, IfErr, OnOk}, Option.{option_map}};
 ghost use Rattle.yv_statement.specs.Order.{IsLeast};
 ghost use Rattle.yv_values.specs.Types.{test_of};
-ghost use Rattle.yv_type_restrictions.specs.Facets.{AreTests, IsTest};
-ghost use Rattle.yv_type_restrictions.specs.FacetRefusals.{BadPattern, BadPatterns, HasPattern, IsPattern};
-ghost use Rattle.yv_type_restrictions.specs.InnerStops.{StopsWhere};
+ghost use Rattle.yv_type_restrictions.specs.{Facets.{AreTests, IsTest}, FacetRefusals.{BadPattern, BadPatterns, HasPattern, IsPattern}, InnerStops.{StopsWhere}};
 
 use crate::restriction::{child, text_of};
 use std::alloc::{AllocError, Global};

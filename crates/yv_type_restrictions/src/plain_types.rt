@@ -1,10 +1,7 @@
 //! The plain types of types, and what readers ask of them.
-ghost use Rattle.std.specs.Prelude.{◌≡◌, ◌≢◌, ◌↔◌, ℕ, Some, Err, IfOk, IfErr, length};
-ghost use Rattle.std.specs.Option.{option_map, option_copied};
-ghost use Rattle.yv_statement.specs.Order.{IsLeast};
-ghost use Rattle.yv_statement.specs.declared.refusal.Stop.TheVariants.{Fault, PatternBuild};
-ghost use Rattle.yv_link_scopes.specs.Files.{Files};
-ghost use Rattle.yv_link_scopes.specs.Views.{lent_in};
+ghost use Rattle.std.specs.{Prelude.{◌≡◌, ◌≢◌, ◌↔◌, ℕ, Some, Err, IfOk, IfErr, length}, Option.{option_map, option_copied}};
+ghost use Rattle.yv_statement.specs.{Order.{IsLeast}, declared.refusal.Stop.TheVariants.{Fault, PatternBuild}};
+ghost use Rattle.yv_link_scopes.specs.{Files.{Files}, Views.{lent_in}};
 ghost use Rattle.yv_type_chains.specs.Bases.{AreBases};
 ghost use Rattle.yv_values.specs.Types.{Plain, plain_of};
 
@@ -26,10 +23,7 @@ pub struct PlainTypes {
 }
 
 impl PlainTypes {
-    ghost use Rattle.yv_type_restrictions.specs.Types.{HasPlainType, HasTypePattern};
-    ghost use Rattle.yv_type_restrictions.specs.Refusals.{BadFaceted};
-    ghost use Rattle.yv_type_restrictions.specs.PlainTypes.{AreFaceted};
-    ghost use Rattle.yv_type_restrictions.specs.InnerSteps.{StopsWhere};
+    ghost use Rattle.yv_type_restrictions.specs.{Types.{HasPlainType, HasTypePattern}, Refusals.{BadFaceted}, PlainTypes.{AreFaceted}, InnerSteps.{StopsWhere}};
 
     /// Reads the types of these statements, the bases being theirs. `PatternBuild` says that
     /// `regex` doesn't build the translation of a pattern of the dialect; no refusal is an error

@@ -1,11 +1,8 @@
 //! What is left of each kind of type.
 ghost use Rattle.std.specs.Prelude.{◌≡◌, IfOk, IfErr};
-ghost use Rattle.yv_statement.specs.Order.{IsLeast};
-ghost use Rattle.yv_statement.specs.Tree.{trees};
+ghost use Rattle.yv_statement.specs.{Order.{IsLeast}, Tree.{trees}};
 ghost use Rattle.yv_values.specs.Types.{plain_of, wholes, decimals, strings, octets};
-ghost use Rattle.yv_type_restrictions.specs.Facets.{Narrows};
-ghost use Rattle.yv_type_restrictions.specs.FacetRefusals.{BadFacets, HasPattern};
-ghost use Rattle.yv_type_restrictions.specs.InnerStops.{StopsWhere};
+ghost use Rattle.yv_type_restrictions.specs.{Facets.{Narrows}, FacetRefusals.{BadFacets, HasPattern}, InnerStops.{StopsWhere}};
 
 use crate::patterns::read_tests;
 use crate::restriction::{child, restrict_intervals};

@@ -1,10 +1,7 @@
 //! Restrictions by `range` and by `length`.
-ghost use Rattle.std.specs.Prelude.{◌≡◌, IfOk};
-ghost use Rattle.std.specs.Option.{option_copied};
-ghost use Rattle.yv_statement.specs.Order.{IsLeast};
-ghost use Rattle.yv_statement.specs.Tree.{name_of as text_of};
-ghost use Rattle.yv_type_restrictions.specs.Facets.{child, Leaves};
-ghost use Rattle.yv_type_restrictions.specs.FacetRefusals.{BadRestriction};
+ghost use Rattle.std.specs.{Prelude.{◌≡◌, IfOk}, Option.{option_copied}};
+ghost use Rattle.yv_statement.specs.{Order.{IsLeast}, Tree.{name_of as text_of}};
+ghost use Rattle.yv_type_restrictions.specs.{Facets.{child, Leaves}, FacetRefusals.{BadRestriction}};
 
 use std::alloc::{AllocError, Global};
 use yv_base_numbers::{Intervals, restrict};

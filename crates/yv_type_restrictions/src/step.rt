@@ -1,14 +1,10 @@
 //! One type.
-ghost use Rattle.std.specs.Prelude.{◌≡◌, None, IfOk, IfErr, codes};
-ghost use Rattle.std.specs.Option.{option_map, option_copied};
+ghost use Rattle.std.specs.{Prelude.{◌≡◌, None, IfOk, IfErr, codes}, Option.{option_map, option_copied}};
 ghost use Rattle.yv_statement.specs.Tree.{trees};
 ghost use Rattle.yv_link_scopes.specs.Views.{lent_in};
 ghost use Rattle.yv_type_chains.specs.Bases.{AreBases};
 ghost use Rattle.yv_values.specs.Types.{plain_of};
-ghost use Rattle.yv_type_restrictions.specs.Facets.{has_word};
-ghost use Rattle.yv_type_restrictions.specs.FacetRefusals.{HasPattern};
-ghost use Rattle.yv_type_restrictions.specs.Types.{HasTypePattern, named_type};
-ghost use Rattle.yv_type_restrictions.specs.InnerSteps.{AreKnown, IsFollowed, IsLeft, IsStep, StopsWhere};
+ghost use Rattle.yv_type_restrictions.specs.{Facets.{has_word}, FacetRefusals.{HasPattern}, Types.{HasTypePattern, named_type}, InnerSteps.{AreKnown, IsFollowed, IsLeft, IsStep, StopsWhere}};
 
 use crate::built_in_kinds::built_in;
 use crate::digits::digits_of_type;

@@ -1,6 +1,5 @@
 //! Plain types by number.
-ghost use Rattle.std.specs.Prelude.{◌≡◌, ◌≢◌, ◌<◌, ℕ, None, length, IfOk};
-ghost use Rattle.std.specs.Option.{option_map, option_copied};
+ghost use Rattle.std.specs.{Prelude.{◌≡◌, ◌≢◌, ◌<◌, ℕ, None, length, IfOk}, Option.{option_map, option_copied}};
 ghost use Rattle.yv_values.specs.Types.{plain_of};
 ghost use Rattle.yv_type_restrictions.specs.InnerTables.{plain_at};
 

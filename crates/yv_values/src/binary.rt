@@ -1,7 +1,6 @@
 //! Values of binary types.
 ghost use Rattle.std.specs.Prelude.{◌≡◌, IfOk};
-ghost use Rattle.base64.specs.Engines.{standard};
-ghost use Rattle.base64.specs.GeneralPurpose.{decode_of};
+ghost use Rattle.base64.specs.{Engines.{standard}, GeneralPurpose.{decode_of}};
 ghost use Rattle.yv_values.specs.Texts.{binary_in};
 
 use crate::value::Value;

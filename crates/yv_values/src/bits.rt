@@ -1,10 +1,6 @@
 //! Values of bits types.
-ghost use Rattle.std.specs.Prelude.{◌≡◌, ◌<◌, IsTrue, ◌-◌, ◌==◌, ◌++◌, ◌∷◌, [], IfOk, OnOk, map, length, slice_index, take, true, if◌then◌else◌};
-ghost use Rattle.std.specs.List.{list_all};
-ghost use Rattle.yv_values.specs.InnerBits.{bits_of};
-ghost use Rattle.yv_values.specs.InnerNames.{NoneBelow, Ascends, Arranges};
-ghost use Rattle.yv_values.specs.Texts.{is_named, pieces, is_word, words, is_trimmed, are_distinct, choose, bits_in};
-ghost use Rattle.yv_values.specs.Values.{texts};
+ghost use Rattle.std.specs.{Prelude.{◌≡◌, ◌<◌, IsTrue, ◌-◌, ◌==◌, ◌++◌, ◌∷◌, [], IfOk, OnOk, map, length, slice_index, take, true, if◌then◌else◌}, List.{list_all}};
+ghost use Rattle.yv_values.specs.{InnerBits.{bits_of}, InnerNames.{NoneBelow, Ascends, Arranges}, Texts.{is_named, pieces, is_word, words, is_trimmed, are_distinct, choose, bits_in}, Values.{texts}};
 
 use crate::name::is_same;
 use crate::names::NameSet;

@@ -1,7 +1,6 @@
 //! Values of defaults' texts.
 ghost use Rattle.std.specs.Prelude.{◌≡◌, ◌==◌, IfOk, position};
-ghost use Rattle.yv_values.specs.Scopes.{text_value, place_of, truth_of, identity_in_scope};
-ghost use Rattle.yv_values.specs.Types.{plain_of};
+ghost use Rattle.yv_values.specs.{Scopes.{text_value, place_of, truth_of, identity_in_scope}, Types.{plain_of}};
 
 use crate::identity::{colon, identity_in};
 use crate::members::Members;

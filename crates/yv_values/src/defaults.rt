@@ -1,9 +1,6 @@
 //! The defaults of a node.
 ghost use Rattle.std.specs.Prelude.{◌≡◌, ◌≤◌, List, [], ◌∷◌, ◌++◌, IfOk, OnOk, IsTrue, ◌↔◌, length};
-ghost use Rattle.yv_values.specs.InnerDefaults.{KeepsAlone, Tells};
-ghost use Rattle.yv_values.specs.Pairs.{IsAlone};
-ghost use Rattle.yv_values.specs.Same.{has_same, is_among};
-ghost use Rattle.yv_values.specs.Values.{Val};
+ghost use Rattle.yv_values.specs.{InnerDefaults.{KeepsAlone, Tells}, Pairs.{IsAlone}, Same.{has_same, is_among}, Values.{Val}};
 
 use crate::index::Index;
 use crate::value::{Tuple, Value};
@@ -29,9 +26,7 @@ struct ValueIndex {
 
 impl Model for Defaults {
     ghost use Rattle.std.specs.Prelude.{◌≡◌, ◌≤◌, List, length};
-    ghost use Rattle.yv_values.specs.InnerDefaults.{Tells};
-    ghost use Rattle.yv_values.specs.Same.{has_same};
-    ghost use Rattle.yv_values.specs.Values.{Val};
+    ghost use Rattle.yv_values.specs.{InnerDefaults.{Tells}, Same.{has_same}, Values.{Val}};
 
     ghost Value = { List Val };
 

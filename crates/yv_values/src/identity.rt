@@ -1,6 +1,5 @@
 //! Values of identityref types.
-ghost use Rattle.std.specs.Prelude.{◌≡◌, ◌==◌, ◌<◌, IfOk, IfSome, length, position};
-ghost use Rattle.std.specs.Rc.{rc_str_bytes};
+ghost use Rattle.std.specs.{Prelude.{◌≡◌, ◌==◌, ◌<◌, IfOk, IfSome, length, position}, Rc.{rc_str_bytes}};
 ghost use Rattle.yv_values.specs.Texts.{identity_in, identity_at};
 
 use crate::members::{Member, Members};

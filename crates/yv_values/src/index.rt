@@ -1,7 +1,6 @@
 //! Indexes: which keys were kept, and where.
 ghost use Rattle.std.specs.Prelude.{◌≡◌, true, false, ℕ, ◌+◌, ◌≤◌, ◌⊎◌, [], is_ok, IfOk, OnOk, OnErr, IsTrue, ◌↔◌, if◌then◌else◌, unwrap_or, option_map};
-ghost use Rattle.yv_values.specs.Count.{count_up};
-ghost use Rattle.yv_values.specs.Pairs.{Keeps, IsLeast, Adds, AddsIfNone, IsAlone, IsWithin};
+ghost use Rattle.yv_values.specs.{Count.{count_up}, Pairs.{Keeps, IsLeast, Adds, AddsIfNone, IsAlone, IsWithin}};
 
 use crate::defaults::Defaults;
 use crate::key::Key;
@@ -23,8 +22,7 @@ pub struct Index {
 
 impl Model for Index {
     ghost use Rattle.std.specs.Prelude.{List};
-    ghost use Rattle.yv_values.specs.Pairs.{Pair};
-    ghost use Rattle.yv_values.specs.InnerPlaces.{pairs_of, AreApart};
+    ghost use Rattle.yv_values.specs.{Pairs.{Pair}, InnerPlaces.{pairs_of, AreApart}};
 
     ghost Value = { List Pair };
 

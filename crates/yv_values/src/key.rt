@@ -1,14 +1,7 @@
 //! The values of a key, and their order.
-ghost use Rattle.std.specs.Prelude.{◌≡◌, ◌∷◌, [], ◌++◌, Some, is_ok, if◌then◌else◌};
+ghost use Rattle.std.specs.{Prelude.{◌≡◌, ◌∷◌, [], ◌++◌, Some, is_ok, if◌then◌else◌}, Cmp.{on_per, on_equiv, on_total, partial_order_from_agreeing_total}, Cmp.Lexicographic.{pointwise, slice_cmp, lists_per, lists_equiv, lists_total, lists_ties}};
 ghost use mathlib.Core.Path.{refl};
-ghost use Rattle.std.specs.Cmp.{on_per, on_equiv, on_total, partial_order_from_agreeing_total};
-ghost use Rattle.std.specs.Cmp.Lexicographic.{pointwise, slice_cmp, lists_per, lists_equiv, lists_total, lists_ties};
-ghost use Rattle.yv_values.specs.InnerKeys.{atoms_of};
-ghost use Rattle.yv_values.specs.contracts.value.AtomPartialEq.TheImpl.{eq-value};
-ghost use Rattle.yv_values.specs.contracts.value.AtomPartialEq.TheImpl.Laws.{laws-law as atoms_per};
-ghost use Rattle.yv_values.specs.contracts.value.AtomEq.TheImpl.Laws.{laws-law as atoms_equiv};
-ghost use Rattle.yv_values.specs.contracts.value.AtomOrd.TheImpl.{cmp-value};
-ghost use Rattle.yv_values.specs.contracts.value.AtomOrd.TheImpl.Laws.{total-law, matches_eq-law};
+ghost use Rattle.yv_values.specs.{InnerKeys.{atoms_of}, contracts.value.AtomPartialEq.TheImpl.{eq-value}, contracts.value.AtomPartialEq.TheImpl.Laws.{laws-law as atoms_per}, contracts.value.AtomEq.TheImpl.Laws.{laws-law as atoms_equiv}, contracts.value.AtomOrd.TheImpl.{cmp-value}, contracts.value.AtomOrd.TheImpl.Laws.{total-law, matches_eq-law}};
 
 use crate::value::Atom;
 use std::alloc::{AllocError, Global};

@@ -1,10 +1,6 @@
 //! Laws of names and of identities, and laws about the definitions only.
-ghost use Rattle.std.specs.Prelude.{◌≡◌, ℕ, List, Some};
-ghost use Rattle.std.specs.List.{list_any};
-ghost use Rattle.yv_values.specs.Identities.{Id, RiseById, is_identity};
-ghost use Rattle.yv_values.specs.NameOrder.{Rises, is_named};
-ghost use Rattle.yv_values.specs.Texts.{HaveSameWords, bits_in};
-ghost use Rattle.yv_values.specs.Values.{Val};
+ghost use Rattle.std.specs.{Prelude.{◌≡◌, ℕ, List, Some}, List.{list_any}};
+ghost use Rattle.yv_values.specs.{Identities.{Id, RiseById, is_identity}, NameOrder.{Rises, is_named}, Texts.{HaveSameWords, bits_in}, Values.{Val}};
 
 use crate::members::Members;
 use crate::names::NameSet;

@@ -1,11 +1,6 @@
 //! The identities of an identityref type, in one order.
-ghost use Rattle.std.specs.Prelude.{◌≡◌, ◌&&◌, List, ℕ, IfOk, IfSome, is_some, map, take};
-ghost use Rattle.std.specs.List.{list_any};
-ghost use Rattle.std.specs.List.Sorted.{IsSortedByKey};
-ghost use Rattle.std.specs.Rc.{rc_str_bytes};
-ghost use Rattle.std.specs.Str.{bytes_eq};
-ghost use Rattle.yv_values.specs.Identities.{RiseById, between, id_cmp, id_of, identity_in, is_between, is_identity, numbered_of};
-ghost use Rattle.yv_values.specs.InnerMembers.{with_zero};
+ghost use Rattle.std.specs.{Prelude.{◌≡◌, ◌&&◌, List, ℕ, IfOk, IfSome, is_some, map, take}, List.{list_any}, List.Sorted.{IsSortedByKey}, Rc.{rc_str_bytes}, Str.{bytes_eq}};
+ghost use Rattle.yv_values.specs.{Identities.{RiseById, between, id_cmp, id_of, identity_in, is_between, is_identity, numbered_of}, InnerMembers.{with_zero}};
 
 use crate::names::compare;
 use crate::numbered_members::{NumberedMember, NumberedMembers, quick_order};

@@ -1,6 +1,5 @@
 //! Values of enumerations, and names among others.
-ghost use Rattle.std.specs.Prelude.{◌≡◌, IfOk, true};
-ghost use Rattle.std.specs.Str.{bytes_eq};
+ghost use Rattle.std.specs.{Prelude.{◌≡◌, IfOk, true}, Str.{bytes_eq}};
 ghost use Rattle.yv_values.specs.Texts.{name_in};
 
 use crate::names::NameSet;

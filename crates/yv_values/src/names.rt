@@ -1,13 +1,6 @@
 //! The names of an enumeration or of a bits type, in one order.
-ghost use Rattle.std.specs.Prelude.{◌≡◌, ℕ, List, IfOk, IfSome, is_some, length};
-ghost use Rattle.std.specs.Cmp.Lexicographic.{slice_cmp};
-ghost use Rattle.std.specs.List.{filter};
-ghost use Rattle.std.specs.Ordering.{nat_cmp};
-ghost use Rattle.std.specs.Rc.{rc_str_bytes};
-ghost use Rattle.std.specs.Str.{bytes_eq};
-ghost use Rattle.yv_values.specs.InnerNames.{is_below, Ascends};
-ghost use Rattle.yv_values.specs.NameOrder.{Rises, is_named};
-ghost use Rattle.yv_values.specs.Values.{texts};
+ghost use Rattle.std.specs.{Prelude.{◌≡◌, ℕ, List, IfOk, IfSome, is_some, length}, Cmp.Lexicographic.{slice_cmp}, List.{filter}, Ordering.{nat_cmp}, Rc.{rc_str_bytes}, Str.{bytes_eq}};
+ghost use Rattle.yv_values.specs.{InnerNames.{is_below, Ascends}, NameOrder.{Rises, is_named}, Values.{texts}};
 
 use std::alloc::AllocError;
 use std::cmp::Ordering;
@@ -22,10 +15,8 @@ pub struct NameSet {
 }
 
 impl Model for NameSet {
-    ghost use Rattle.std.specs.Prelude.{ℕ, List};
-    ghost use Rattle.std.specs.Rc.{rc_slice_items};
-    ghost use Rattle.yv_values.specs.NameOrder.{Rises};
-    ghost use Rattle.yv_values.specs.Values.{texts};
+    ghost use Rattle.std.specs.{Prelude.{ℕ, List}, Rc.{rc_slice_items}};
+    ghost use Rattle.yv_values.specs.{NameOrder.{Rises}, Values.{texts}};
 
     ghost Value = { List (List ℕ) };
 

@@ -1,10 +1,6 @@
 //! Identities with numbers, in one order.
-ghost use Rattle.std.specs.Prelude.{◌≡◌, ◌<◌, ◌-◌, ◌&&◌, Some, true, false, Bool, IfOk, IfSome};
-ghost use Rattle.std.specs.Prelude.{IsTrue, is_some, map, slice_get};
-ghost use Rattle.std.specs.List.{Contains, list_any};
-ghost use Rattle.std.specs.declared.cmp.Ordering.TheVariants.{Less, Greater};
-ghost use Rattle.yv_values.specs.Identities.{NumberedId, RiseById, between, id_cmp, id_of, ids_of, is_identity, numbered_of};
-ghost use Rattle.yv_values.specs.InnerMembers.{entry_id};
+ghost use Rattle.std.specs.{Prelude.{◌≡◌, ◌<◌, ◌-◌, ◌&&◌, Some, true, false, Bool, IfOk, IfSome, IsTrue, is_some, map, slice_get}, List.{Contains, list_any}, declared.cmp.Ordering.TheVariants.{Less, Greater}};
+ghost use Rattle.yv_values.specs.{Identities.{NumberedId, RiseById, between, id_cmp, id_of, ids_of, is_identity, numbered_of}, InnerMembers.{entry_id}};
 
 use crate::members::{Member, Members};
 use crate::names::compare;
@@ -31,10 +27,8 @@ pub struct NumberedMembers {
 }
 
 impl Model for NumberedMembers {
-    ghost use Rattle.std.specs.Prelude.{List, map};
-    ghost use Rattle.std.specs.Rc.{rc_slice_items};
-    ghost use Rattle.yv_values.specs.Identities.{NumberedId, RiseById, numbered_of};
-    ghost use Rattle.yv_values.specs.InnerMembers.{entry_id};
+    ghost use Rattle.std.specs.{Prelude.{List, map}, Rc.{rc_slice_items}};
+    ghost use Rattle.yv_values.specs.{Identities.{NumberedId, RiseById, numbered_of}, InnerMembers.{entry_id}};
 
     ghost Value = { List NumberedId };
 

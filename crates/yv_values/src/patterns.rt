@@ -1,9 +1,6 @@
 //! The patterns of a string type.
-ghost use Rattle.std.specs.Prelude.{◌≡◌, ◌++◌, ◌∷◌, [], map, IfOk, OnOk, MatchOption};
-ghost use Rattle.std.specs.List.{list_all};
-ghost use Rattle.yv_values.specs.Patterns.{test_of};
-ghost use Rattle.yv_values.specs.InnerPatterns.{tests_in, tests_of};
-ghost use Rattle.yv_values.specs.Texts.{passes};
+ghost use Rattle.std.specs.{Prelude.{◌≡◌, ◌++◌, ◌∷◌, [], map, IfOk, OnOk, MatchOption}, List.{list_all}};
+ghost use Rattle.yv_values.specs.{Patterns.{test_of}, InnerPatterns.{tests_in, tests_of}, Texts.{passes}};
 
 use std::alloc::{AllocError, Global};
 use std::marker::Model;
@@ -41,8 +38,7 @@ pub struct PatternTests {
 }
 
 impl Model for PatternTests {
-    ghost use Rattle.std.specs.Prelude.{List};
-    ghost use Rattle.std.specs.Rc.{rc_slice_items};
+    ghost use Rattle.std.specs.{Prelude.{List}, Rc.{rc_slice_items}};
     ghost use Rattle.yv_values.specs.Patterns.{Test};
 
     ghost Value = { List Test };

@@ -1,6 +1,5 @@
 //! Places where something was kept.
-ghost use Rattle.std.specs.Prelude.{◌≡◌, ℕ, ◌≤◌, ◌<◌, [], ◌∷◌, IfOk, OnOk, OnErr, IsTrue, ◌↔◌, length, slice_index};
-ghost use Rattle.std.specs.List.Sorted.{IsNonDecreasing};
+ghost use Rattle.std.specs.{Prelude.{◌≡◌, ℕ, ◌≤◌, ◌<◌, [], ◌∷◌, IfOk, OnOk, OnErr, IsTrue, ◌↔◌, length, slice_index}, List.Sorted.{IsNonDecreasing}};
 ghost use Rattle.yv_values.specs.Places.{AddsPlace, IsLeastPlace, HasBetween};
 
 use std::alloc::{AllocError, Global};
@@ -22,8 +21,7 @@ pub(crate) enum PlaceList {
 }
 
 impl Model for KeyPlaces {
-    ghost use Rattle.std.specs.Prelude.{ℕ, ◌<◌, List, length};
-    ghost use Rattle.std.specs.List.Sorted.{IsNonDecreasing};
+    ghost use Rattle.std.specs.{Prelude.{ℕ, ◌<◌, List, length}, List.Sorted.{IsNonDecreasing}};
     ghost use Rattle.yv_values.specs.InnerPlaces.{places_of};
 
     ghost Value = { List ℕ };

@@ -1,6 +1,5 @@
 //! What the names of a file mean.
-ghost use Rattle.std.specs.Prelude.{◌≡◌, map, option_map};
-ghost use Rattle.std.specs.Str.{bytes_eq};
+ghost use Rattle.std.specs.{Prelude.{◌≡◌, map, option_map}, Str.{bytes_eq}};
 ghost use Rattle.yv_values.specs.Scopes.{module_of, binding_of};
 
 use crate::name::is_same;

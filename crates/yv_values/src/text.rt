@@ -1,6 +1,5 @@
 //! Values of string types.
-ghost use Rattle.std.specs.Prelude.{◌≡◌, IfOk, length};
-ghost use Rattle.std.specs.Str.{chars};
+ghost use Rattle.std.specs.{Prelude.{◌≡◌, IfOk, length}, Str.{chars}};
 ghost use Rattle.yv_values.specs.Texts.{text_in};
 
 use crate::plain::TextType;

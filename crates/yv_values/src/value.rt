@@ -161,8 +161,7 @@ pub struct Tuple {
 
 impl Model for Tuple {
     ghost use Rattle.std.specs.Prelude.{List};
-    ghost use Rattle.yv_values.specs.InnerKeys.{key_of};
-    ghost use Rattle.yv_values.specs.Values.{Val};
+    ghost use Rattle.yv_values.specs.{InnerKeys.{key_of}, Values.{Val}};
 
     ghost Value = { List Val };
 

@@ -1,9 +1,7 @@
 //! Values of JSON, by the first type that reads it.
 ghost use Rattle.std.specs.Prelude.{◌≡◌, ◌+◌, IfOk, is_ok, if◌then◌else◌, map};
 ghost use Rattle.serde_json.specs.View.{view, items_view};
-ghost use Rattle.yv_values.specs.Count.{count_up};
-ghost use Rattle.yv_values.specs.Reads.{boolean_from, empty_from, is_lone_null, string_in, string_from, read_kind, first_read, types_tried};
-ghost use Rattle.yv_values.specs.Types.{plain_of};
+ghost use Rattle.yv_values.specs.{Count.{count_up}, Reads.{boolean_from, empty_from, is_lone_null, string_in, string_from, read_kind, first_read, types_tried}, Types.{plain_of}};
 
 use crate::binary::binary_in;
 use crate::bits::bits_in;

@@ -1,7 +1,6 @@
 //! Values of whole-number types.
 ghost use Rattle.std.specs.Prelude.{◌≡◌, option_map, option_and_then};
-ghost use Rattle.serde_json.specs.View.{view, number_view};
-ghost use Rattle.serde_json.specs.Find.{as_integer};
+ghost use Rattle.serde_json.specs.{View.{view, number_view}, Find.{as_integer}};
 ghost use Rattle.yv_base_numbers.specs.Numbers.{integer};
 ghost use Rattle.yv_values.specs.Reads.{whole_in, whole_from};
 

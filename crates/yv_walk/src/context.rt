@@ -1,18 +1,11 @@
 //! One object of a document, its members looked up once.
-ghost use Rattle.std.specs.Prelude.{◌≡◌, ◌<◌, ◌≤◌, ◌+◌, ◌∷◌, [], ◌++◌, ◌&&◌, ℕ, false, length, map, true, IfOk, IfSome, OnErr, OnOk};
-ghost use Rattle.std.specs.List.{slice_index_or};
-ghost use Rattle.std.specs.Option.{option_map, unwrap_or};
-ghost use Rattle.serde_json.specs.Data.{no_members};
-ghost use Rattle.serde_json.specs.Find.{get_member};
-ghost use Rattle.serde_json.specs.View.{view, members_view};
+ghost use Rattle.std.specs.{Prelude.{◌≡◌, ◌<◌, ◌≤◌, ◌+◌, ◌∷◌, [], ◌++◌, ◌&&◌, ℕ, false, length, map, true, IfOk, IfSome, OnErr, OnOk}, List.{slice_index_or}, Option.{option_map, unwrap_or}};
+ghost use Rattle.serde_json.specs.{Data.{no_members}, Find.{get_member}, View.{view, members_view}};
 ghost use Rattle.yv_node_definition.specs.Kinds.{is_data};
 ghost use Rattle.yv_values.specs.Count.{count_up};
-ghost use Rattle.yv_nodes.specs.declared.node.NodeId.{NodeId};
-ghost use Rattle.yv_nodes.specs.Rows.{Rows, below, children_of, rank, row_at, tree_of};
+ghost use Rattle.yv_nodes.specs.{declared.node.NodeId.{NodeId}, Rows.{Rows, below, children_of, rank, row_at, tree_of}};
 ghost use Rattle.yv_schema_tables.specs.Sound.{object_trees};
-ghost use Rattle.yv_walk.specs.InnerNextExisting.{Ascend, IsUnkept, is_before};
-ghost use Rattle.yv_walk.specs.Marks.{with_node, mark_at};
-ghost use Rattle.yv_walk.specs.Existence.{child_exists, count_standing, holds, is_there as exists, passes, row_standing, stands_in, tree_standing};
+ghost use Rattle.yv_walk.specs.{InnerNextExisting.{Ascend, IsUnkept, is_before}, Marks.{with_node, mark_at}, Existence.{child_exists, count_standing, holds, is_there as exists, passes, row_standing, stands_in, tree_standing}};
 
 use crate::existence::Existence;
 use crate::exists::is_there;

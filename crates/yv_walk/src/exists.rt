@@ -1,7 +1,6 @@
 //! Whether a written node exists.
 ghost use Rattle.std.specs.Prelude.{◌≡◌};
-ghost use Rattle.serde_json.specs.Data.{array};
-ghost use Rattle.serde_json.specs.View.{view, items_view};
+ghost use Rattle.serde_json.specs.{Data.{array}, View.{view, items_view}};
 ghost use Rattle.yv_walk.specs.Existence.{has_items, is_there as exists};
 
 use serde_json::Value;

@@ -1,20 +1,11 @@
 //! Laws about the definitions: what one member more makes exist, and which nodes are in an object.
 //! A caller that needs one calls it, and nothing runs.
-ghost use Rattle.std.specs.Prelude.{◌≡◌, ◌<◌, ◌≤◌, ◌&&◌, ℕ, List, None, drop, length, true};
-ghost use Rattle.std.specs.List.{slice_index_or};
-ghost use Rattle.serde_json.specs.Data.{Data, Members, member, no_members};
-ghost use Rattle.serde_json.specs.Find.{get_member};
-ghost use Rattle.yv_nodes.specs.Numbers.{numbers_from};
-ghost use Rattle.yv_nodes.specs.Rows.{Rows, below, children_of, forest, rank};
-ghost use Rattle.yv_nodes.specs.Tree.{Forest};
-ghost use Rattle.yv_nodes.specs.declared.node.NodeId.{NodeId};
+ghost use Rattle.std.specs.{Prelude.{◌≡◌, ◌<◌, ◌≤◌, ◌&&◌, ℕ, List, None, drop, length, true}, List.{slice_index_or}};
+ghost use Rattle.serde_json.specs.{Data.{Data, Members, member, no_members}, Find.{get_member}};
+ghost use Rattle.yv_nodes.specs.{Numbers.{numbers_from}, Rows.{Rows, below, children_of, forest, rank}, Tree.{Forest}, declared.node.NodeId.{NodeId}};
 ghost use Rattle.yv_node_definition.specs.declared.kind.NodeKind.{NodeKind};
 ghost use Rattle.yv_schema_tables.specs.Sound.{IsSound, is_object};
-ghost use Rattle.yv_walk.specs.Marks.{with_node};
-ghost use Rattle.yv_walk.specs.MemberNodes.{AreNamed, AreUnnamed};
-ghost use Rattle.yv_walk.specs.Existence.{both, holds, is_there, passes, existence_of, stands_in};
-ghost use Rattle.yv_walk.specs.declared.existence.Existence.TheVariants.{Nothing};
-ghost use Rattle.yv_walk.specs.declared.existence.Existence.{Existence};
+ghost use Rattle.yv_walk.specs.{Marks.{with_node}, MemberNodes.{AreNamed, AreUnnamed}, Existence.{both, holds, is_there, passes, existence_of, stands_in}, declared.existence.Existence.TheVariants.{Nothing}, declared.existence.Existence.{Existence}};
 
 /// One member more: what exists in any group of nodes, by marking the one node that the member
 /// names.

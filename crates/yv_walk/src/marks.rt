@@ -1,12 +1,7 @@
 //! The data nodes that exist in each choice and case of an object.
 ghost use Rattle.std.specs.Prelude.{◌≡◌, ◌==◌, ◌<◌, ◌≤◌, ℕ, length, IfSome, OnErr, OnOk, true};
-ghost use Rattle.yv_nodes.specs.declared.node.NodeId.{NodeId};
-ghost use Rattle.yv_nodes.specs.Rows.{below, rank};
-ghost use Rattle.yv_walk.specs.InnerNextExisting.{is_before};
-ghost use Rattle.yv_walk.specs.InnerMarks.{has_room, HasRoomAround};
-ghost use Rattle.yv_walk.specs.Marks.{with_node, mark_at};
-ghost use Rattle.yv_walk.specs.Existence.{holds, passes};
-ghost use Rattle.yv_walk.specs.declared.existence.Existence.TheVariants.{Nothing};
+ghost use Rattle.yv_nodes.specs.{declared.node.NodeId.{NodeId}, Rows.{below, rank}};
+ghost use Rattle.yv_walk.specs.{InnerNextExisting.{is_before}, InnerMarks.{has_room, HasRoomAround}, Marks.{with_node, mark_at}, Existence.{holds, passes}, declared.existence.Existence.TheVariants.{Nothing}};
 
 use crate::existence::Existence;
 use std::alloc::{AllocError, Global};

@@ -1,8 +1,7 @@
 //! The values that the members of an object write, by the numbers of their nodes.
 ghost use Rattle.std.specs.Prelude.{◌≡◌, ◌≤◌, ℕ, None, true, IfSome, OnOk, option_map};
 ghost use Rattle.serde_json.specs.View.{view};
-ghost use Rattle.yv_walk.specs.InnerNextExisting.{is_before};
-ghost use Rattle.yv_walk.specs.WrittenValues.{value_at, keep_first};
+ghost use Rattle.yv_walk.specs.{InnerNextExisting.{is_before}, WrittenValues.{value_at, keep_first}};
 
 use serde_json::Value;
 use std::alloc::{AllocError, Global};
