@@ -2,11 +2,15 @@
 -- they meet on the way.
 use Rattle.std.specs.Prelude.{◌≡◌, ℕ, ◌<◌, ◌≤◌, ◌==◌, Bool, true, false, List, Some, length, slice_get}
 use Rattle.yv_base_tables.specs.Fronts.{GoesOn}
+use Rattle.yv_base_tables.specs.InnerTree.{IsPathTree}
 use Rattle.yv_expand_rounds.specs.declared.arrivals.Arrival.{Arrival}
 use Rattle.yv_expand_rounds.specs.declared.label.Label.{Label}
 use Rattle.yv_expand_rounds.specs.declared.end.End.{End}
 use Rattle.yv_expand_rounds.specs.declared.end.End.TheVariants as end
+use Rattle.yv_base_tables.specs.declared.path_tree.PathTree.{PathTree}
+use Rattle.yv_expand_rounds.specs.declared.places.ItemPlaces.{ItemPlaces}
 use Rattle.yv_expand_rounds.specs.Groups.{Groups}
+use Rattle.yv_expand_rounds.specs.InnerGroups.{ArePlaces}
 use Rattle.yv_expand_rounds.specs.Paths.{step_end}
 
 -- a path that ends there has come to this item
@@ -64,3 +68,9 @@ pub record FollowsSome (labels : List Label) (groups : Groups) (limit : ℕ) (pa
   pub before : place < behind
   pub at : slice_get found place ≡ Some from
   pub follows : Follows labels groups limit paths from next
+
+-- the paths that go on from one by one step are found, and no others
+abbrev pub FindFollowers : (Done : Type 0 → Type 0) → ItemPlaces → PathTree → (limit : ℕ) → (from : Arrival) → (old new : List Arrival) → Type 0
+FindFollowers Done places paths limit from old new =
+    (labels : List Label) (groups : Groups) (all : List (List ℕ)) → ArePlaces labels groups places → IsPathTree all paths
+    → Done (Gains (Follows labels groups limit all from) (Follows labels groups limit all from) old new)

@@ -3,7 +3,7 @@
 //! fewer.
 ghost use Rattle.std.specs.{Prelude.{◌≡◌, ◌≤◌, ℕ, true, List, Some, length, IfOk, IfSome, OnOk, slice_get}, Option.{option_map}};
 ghost use Rattle.yv_base_tables.specs.{Fronts.{GoesOn}, InnerTree.{IsPathTree}};
-ghost use Rattle.yv_expand_rounds.specs.{declared.arrivals.Arrival.{Arrival}, declared.label.Label.{Label}, Arrivals.{AreArrivals}, Groups.{Groups}, InnerArrivals.{Follows, FollowsSome, Gains, Meets, is_at}, InnerGroups.{ArePlaces}, InnerState.{IsAugmentation}, Turns.{State}};
+ghost use Rattle.yv_expand_rounds.specs.{declared.arrivals.Arrival.{Arrival}, declared.label.Label.{Label}, Arrivals.{AreArrivals}, Groups.{Groups}, InnerArrivals.{FindFollowers, Follows, FollowsSome, Gains, Meets, is_at}, InnerGroups.{ArePlaces}, InnerState.{IsAugmentation}, Turns.{State}};
 
 use crate::augmentation::Augmentation;
 use crate::end::End;
@@ -113,11 +113,8 @@ impl ItemPlaces {
         found: &mut Vec<Arrival>,
     ) -> Result<(), AllocError>
         ensures longer { OnOk result (length found.old.items ≤ length found.new.items) }
-        ensures finds { (labels : List Label) (groups : Groups) (all : List (List ℕ))
-            → ArePlaces labels groups self.now → IsPathTree all paths.now
-            → OnOk result
-            (Gains (Follows labels groups limit all from) (Follows labels groups limit all from)
-            found.old.items found.new.items) }
+        ensures finds { FindFollowers (OnOk result) self.now paths.now limit from found.old.items
+            found.new.items }
     {
         let branches = paths.branches(from.path);
         for path in branches {
@@ -137,11 +134,8 @@ impl ItemPlaces {
         found: &mut Vec<Arrival>,
     ) -> Result<(), AllocError>
         ensures longer { OnOk result (length found.old.items ≤ length found.new.items) }
-        ensures finds { (labels : List Label) (groups : Groups) (all : List (List ℕ))
-            → ArePlaces labels groups self.now → IsPathTree all paths.now
-            → OnOk result
-            (Gains (Follows labels groups limit all from) (Follows labels groups limit all from)
-            found.old.items found.new.items) }
+        ensures finds { FindFollowers (OnOk result) self.now paths.now limit from found.old.items
+            found.new.items }
     {
         if let End::ShorthandCase(item) = from.end {
             return self.meet_all(limit, paths, from, &[item], found);

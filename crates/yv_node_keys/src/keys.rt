@@ -107,24 +107,6 @@ fn leafs_by<'n>(
     Ok(Some(leafs))
 }
 
-// Those that all names name. Nodes are known that have the first of the names.
-fn key_leafs_in<'n>(
-    alloc: Global,
-    nodes: &'n Nodes,
-    list: NodeId,
-    keys: &'n [Option<PathStep>],
-    namesakes: &[NodeId],
-) -> Result<Option<Vec<NodeId>>, AllocError>
-    requires { HaveNames nodes.now.rows keys.now namesakes.now }
-    ensures lacks { IfOk result (λ leafs. is_some leafs
-        ≡ not (list_any (λ key. not (is_some (key_leaf_at nodes.now.rows list key))) keys.now)) }
-    ensures numbers { IfOk result (λ leafs. IfSome leafs (λ numbers.
-        map (λ n. Some n) numbers.items ≡ map (key_leaf_at nodes.now.rows list) keys.now)) }
-{
-    let names = names_for(alloc, nodes.all(), list, keys)?;
-    leafs_by(alloc, nodes, &names, list, keys, namesakes)
-}
-
 /// The same as `key_leafs`, where nodes are known that have the first of the names: they need not
 /// be read where it is known that the same is said of such a node as of one below the list.
 pub(crate) fn key_leafs_like<'n>(
@@ -141,7 +123,8 @@ pub(crate) fn key_leafs_like<'n>(
     ensures numbers { IfOk result (λ leafs. IfSome leafs (λ numbers.
         map (λ n. Some n) numbers.items ≡ map (key_leaf_at nodes.now.rows list) keys.now)) }
 {
-    let leafs = key_leafs_in(alloc, nodes, list, keys, namesakes)?;
+    let names = names_for(alloc, nodes.all(), list, keys)?;
+    let leafs = leafs_by(alloc, nodes, &names, list, keys, namesakes)?;
     Ok(leafs)
 }
 
