@@ -1,32 +1,15 @@
 //! Names that are defined twice, or not at all.
 use std::alloc::{AllocError, Global};
 use yv_note_statements::{
-    Guess, Message, Site, definition, is_among, nearest_definition, nearest_word, prefix_of_module,
-    say_guess, words_of,
+    Guess, Message, Site, Sites, definition, is_among, nearest_definition, nearest_word,
+    prefix_of_module, say_guess, words_of,
 };
 use yv_note_text::Likeness;
 use yv_statement::Code;
 
-static BUILT_IN_TYPES: &[&str] = &[
-    "binary",
-    "bits",
-    "boolean",
-    "decimal64",
-    "empty",
-    "enumeration",
-    "identityref",
-    "int8",
-    "int16",
-    "int32",
-    "int64",
-    "leafref",
-    "string",
-    "uint8",
-    "uint16",
-    "uint32",
-    "uint64",
-    "union",
-];
+static BUILT_IN_TYPES: &str =
+    "binary bits boolean decimal64 empty enumeration identityref int8 int16 int32 int64 leafref \
+    string uint8 uint16 uint32 uint64 union";
 
 // What other languages call a type, and what YANG calls it.
 static OTHER_NAMES: &[(&str, &str)] = &[
@@ -47,12 +30,8 @@ static OTHER_NAMES: &[(&str, &str)] = &[
 
 // The type of YANG that another language calls so.
 fn other_name(written: &str) -> Option<&'static str> {
-    for (name, meant) in OTHER_NAMES {
-        if *name == written {
-            return Some(*meant);
-        }
-    }
-    None
+    let (_, meant) = OTHER_NAMES.iter().find(|(name, _)| *name == written)?;
+    Some(*meant)
 }
 
 // Whether a statement gives another one's name a second time: of a file or of a definition of the
@@ -86,13 +65,7 @@ const MOST_DEPTH: usize = 64;
 
 // The other statement of the name that a refusal says is there twice.
 fn other_of_name<'s, 'a>(site: &Site<'s, 'a>) -> Option<Site<'s, 'a>> {
-    for number in 0..site.entries.len() {
-        let one = Site::at(site.entries, number)?;
-        if is_namesake(&one, site) {
-            return Some(one);
-        }
-    }
-    None
+    Sites::all(site.entries).find(|one| is_namesake(one, site))
 }
 
 // Adds where the other statement is, and shows its line.
@@ -140,10 +113,7 @@ fn say_spelling<'a>(telling: &mut Message<'a>, site: &Site<'_, 'a>, definition: 
 
 // Whether a statement is in no block but that of a file.
 fn is_at_top(site: &Site<'_, '_>) -> bool {
-    match site.parent() {
-        Some(parent) => parent.is_root(),
-        None => true,
-    }
+    site.parent().is_none_or(|parent| parent.is_root())
 }
 
 // Adds what may be meant by a name: a definition of the same name that isn't seen, or one with a
@@ -206,22 +176,20 @@ fn say_nearest<'a>(telling: &mut Message<'a>, site: &Site<'_, 'a>, keyword: &str
 
 // The first name of an expression that is not that of a feature.
 fn unknown_feature<'a>(alloc: Global, site: &Site<'_, 'a>) -> Result<Option<&'a str>, AllocError> {
-    for word in words_of(alloc, site.argument())?.iter() {
-        let is_name = !is_among(word, &["and", "or", "not"]);
-        if is_name && definition(site, "feature", word).is_none() {
-            return Ok(Some(*word));
-        }
-    }
-    Ok(None)
+    let words = words_of(alloc, site.argument())?;
+    Ok(
+        words.iter().copied().find(|word| {
+            !is_among(word, "and or not") && definition(site, "feature", word).is_none()
+        }),
+    )
 }
 
 /// Adds which feature is not defined, and what may be meant.
 pub fn tell_feature_name<'a>(
-    alloc: Global,
     telling: &mut Message<'a>,
     site: &Site<'_, 'a>,
 ) -> Result<(), AllocError> {
-    let unknown = unknown_feature(alloc, site)?.unwrap_or(site.argument());
+    let unknown = unknown_feature(telling.alloc(), site)?.unwrap_or(site.argument());
     if unknown == site.argument() {
         telling.subject("The feature ", " is not defined.");
     } else {
