@@ -1,11 +1,8 @@
 //! A job from what clap matched.
 ghost use Rattle.std.specs.Prelude.{◌≡◌, ◌≤◌, ℕ, List, length, IfSome, IfOk, IfErr, MatchOption, map, option_map, string_bytes};
 ghost use Rattle.clap.specs.Words.{subcommand_rows_of, found_of, rows_of, all_of, first_of};
-ghost use Rattle.yv_job.specs.Asks.{AsksIn, Asks, IsChoice, IsAsked, IsFiles};
-ghost use Rattle.yv_job.specs.Jobs.{CommandAsked, task_of, asked_of, HasFiles, HasLimit};
+ghost use Rattle.yv_job.specs.{Asks.{AsksIn, Asks, IsChoice, IsAsked, IsFiles}, Jobs.{CommandAsked, task_of, asked_of, HasFiles, HasLimit}, Faults.{IsReason, TellsReason}, Matches.{AsksForNothing}};
 ghost use Rattle.yv_statement.specs.Selection.{Selected, selected_of};
-ghost use Rattle.yv_job.specs.Faults.{IsReason, TellsReason};
-ghost use Rattle.yv_job.specs.Matches.{AsksForNothing};
 
 use crate::job::{Command, Job};
 use crate::names::copy_texts;

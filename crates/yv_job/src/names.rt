@@ -1,6 +1,5 @@
 //! Names and lists of them in a text of the command line.
-ghost use Rattle.std.specs.Prelude.{◌≡◌, ◌<◌, ◌==◌, ◌++◌, ◌∷◌, ℕ, List, map, length, IfOk, IfSome, MatchOption, string_bytes};
-ghost use Rattle.std.specs.List.{All, AllZip, list_all, slice_split};
+ghost use Rattle.std.specs.{Prelude.{◌≡◌, ◌<◌, ◌==◌, ◌++◌, ◌∷◌, ℕ, List, map, length, IfOk, IfSome, MatchOption, string_bytes}, List.{All, AllZip, list_all, slice_split}};
 ghost use Rattle.yv_text_if_feature.specs.Names.{is_identifier};
 ghost use Rattle.yv_job.specs.Names.{IsIdentifier, IsNames, JoinsNames, IsEntry, IsSupport};
 ghost use Rattle.yv_statement.specs.Selection.{Entry, entry_of};

@@ -1,7 +1,6 @@
 //! The command line's syntax, for clap.
 ghost use Rattle.std.specs.Prelude.{◌≡◌, IfOk, false, codes};
-ghost use Rattle.clap.specs.Words.{app_of, rule_of, new_app, with_rule, with_subcommand};
-ghost use Rattle.clap.specs.declared.builder.command.Command.TheViews.{out-Command as fields_of};
+ghost use Rattle.clap.specs.{Words.{app_of, rule_of, new_app, with_rule, with_subcommand}, declared.builder.command.Command.TheViews.{out-Command as fields_of}};
 ghost use Rattle.yv_job.specs.CommandLine.{option_rule, required_rule, files_rule, with_shared, compile_app, tree_app, validate_app, top_app, yangcheck_app};
 
 use crate::help::{self, CommandHelp};

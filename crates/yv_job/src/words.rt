@@ -1,11 +1,7 @@
 //! A job from the words of a command line.
 ghost use Rattle.std.specs.Prelude.{◌≡◌, ◌⊎◌, [], map, string_bytes, IfOk, IfErr};
 ghost use Rattle.clap.specs.Words.{fault_of, subcommand_of, subcommand_rows_of, HasKind, kind_of};
-ghost use Rattle.yv_job.specs.Asks.{WordsAsk, AreUnderstood};
-ghost use Rattle.yv_job.specs.CommandLine.{yangcheck_app};
-ghost use Rattle.yv_job.specs.Faults.{IfUsage, OnHelp, AskForNothing, AskForHelp, AreRefused, TellsReason};
-ghost use Rattle.yv_job.specs.Jobs.{task_of, HasFiles, HasLimit};
-ghost use Rattle.yv_job.specs.Matches.{IsFaultFor};
+ghost use Rattle.yv_job.specs.{Asks.{WordsAsk, AreUnderstood}, CommandLine.{yangcheck_app}, Faults.{IfUsage, OnHelp, AskForNothing, AskForHelp, AreRefused, TellsReason}, Jobs.{task_of, HasFiles, HasLimit}, Matches.{IsFaultFor}};
 
 use crate::job::{Job, JobFault};
 use crate::matches::job_of;

@@ -1,7 +1,6 @@
 //! What helps a person to fix a pattern that the library of regular expressions doesn't build.
 ghost use Rattle.std.specs.Prelude.{◌≡◌, length, map, min, string_bytes, IfOk, IfNone, IfSome};
-ghost use Rattle.yv_link_scopes.specs.Rows.{row};
-ghost use Rattle.yv_link_scopes.specs.Views.{lent_in, rows_in};
+ghost use Rattle.yv_link_scopes.specs.{Rows.{row}, Views.{lent_in, rows_in}};
 ghost use Rattle.yv_streams.specs.Files.{file_of};
 ghost use Rattle.yv_note_text.specs.Excerpt.{ShowsPlace};
 ghost use Rattle.yv_note_patterns.specs.PatternFailure.{AreNoPatterns, HasNoPattern, IsPatternAmong, TellsAmong, TellsOf, TellsPattern, unbuilt_line};

@@ -1,9 +1,7 @@
 //! Patterns that the library of regular expressions doesn't build.
-ghost use Rattle.std.specs.Prelude.{◌≡◌, true, false, IfOk, IfNone, IfSome, codes};
-ghost use Rattle.std.specs.Str.{bytes_eq};
+ghost use Rattle.std.specs.{Prelude.{◌≡◌, true, false, IfOk, IfNone, IfSome, codes}, Str.{bytes_eq}};
 ghost use Rattle.yv_statement.specs.Tree.{name_of as name_at};
-ghost use Rattle.yv_link_scopes.specs.Rows.{row};
-ghost use Rattle.yv_link_scopes.specs.Views.{rows_in};
+ghost use Rattle.yv_link_scopes.specs.{Rows.{row}, Views.{rows_in}};
 ghost use Rattle.yv_note_patterns.specs.PatternFailure.{AreNoPatterns, IsOfDialect, IsPatternAmong};
 
 use std::alloc::{AllocError, Global};

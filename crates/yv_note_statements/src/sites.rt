@@ -1,6 +1,5 @@
 //! The statements of the files, and those of a block, one by one.
-ghost use Rattle.std.specs.Prelude.{◌-◌, length};
-ghost use Rattle.std.specs.Iterator.{at_most};
+ghost use Rattle.std.specs.{Prelude.{◌-◌, length}, Iterator.{at_most}};
 
 use crate::entry::StatementEntry;
 use crate::site::Site;

@@ -1,8 +1,6 @@
 //! What is said of a refusal.
-ghost use Rattle.std.specs.Prelude.{◌≡◌, IfOk, IfSome, OnOk, OnErr, option_map, string_bytes};
-ghost use Rattle.std.specs.List.{find};
-ghost use Rattle.yv_link_scopes.specs.Rows.{row};
-ghost use Rattle.yv_link_scopes.specs.Views.{rows_in};
+ghost use Rattle.std.specs.{Prelude.{◌≡◌, IfOk, IfSome, OnOk, OnErr, option_map, string_bytes}, List.{find}};
+ghost use Rattle.yv_link_scopes.specs.{Rows.{row}, Views.{rows_in}};
 ghost use Rattle.yv_note_text.specs.Quotes.{Extends, Quotes};
 ghost use Rattle.yv_refusal_notes.specs.Subject.{Names, is_at, subject};
 
