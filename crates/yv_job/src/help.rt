@@ -2,18 +2,26 @@
 
 pub const VERSION: &str = "0.2.0 (rattle-kit-13b logic dac8208d650f15bf)";
 
-pub const ABOUT: &str = "Compiles YANG modules, draws their trees and validates JSON documents";
+/// What `--help` says of the program or of one of its commands: in a line, before the options, and
+/// behind them.
+#[derive(Clone, Copy)]
+pub(crate) struct CommandHelp {
+    pub(crate) about: &'static str,
+    pub(crate) details: &'static str,
+    pub(crate) closing: &'static str,
+}
 
-pub const DETAILS: &str = "\
+pub(crate) const PROGRAM: CommandHelp = CommandHelp {
+    about: "Compiles YANG modules, draws their trees and validates JSON documents",
+    details: "\
 Compiles YANG 1.1 modules (RFC 7950), draws their tree diagrams (RFC 8340) and
 validates JSON documents (RFC 7951) against them.
 
 Invalid modules are rejected with one line, FILE:LINE: NAME, for the first error.
 Modules that expand to more than 100000 nodes are rejected too; --max-nodes N sets
 another limit, from 1 to 1000000. Each fault of a document is reported on one line,
-KIND PATH.";
-
-pub const CLOSING: &str = "\
+KIND PATH.",
+    closing: "\
 Examples:
   yangcheck compile example.yang types.yang
   yangcheck tree --module example example.yang types.yang
@@ -23,18 +31,18 @@ Exit status:
   0  compiled, drawn, or valid
   1  modules rejected, no such module, or faults found
   2  usage error, document too large, or not JSON
-  3  out of memory, pattern not built, cannot read, or cannot write";
+  3  out of memory, pattern not built, cannot read, or cannot write",
+};
 
-pub const COMPILE_ABOUT: &str = "Compile modules and count the nodes of their schema";
-
-pub const COMPILE_DETAILS: &str = "\
+pub(crate) const COMPILE: CommandHelp = CommandHelp {
+    about: "Compile modules and count the nodes of their schema",
+    details: "\
 Compiles YANG 1.1 modules (RFC 7950) and prints `nodes: N`, the number of nodes
 in their schema. Each `uses` is expanded, and nodes that an if-feature removes are
 not counted. If the modules are invalid, one line, FILE:LINE: NAME, reports the
 first error. Every module or submodule that a module imports or includes must be
-among the files. No document is read.";
-
-pub const COMPILE_CLOSING: &str = "\
+among the files. No document is read.",
+    closing: "\
 Examples:
   yangcheck compile example.yang types.yang
   yangcheck compile --max-nodes 5000 example.yang types.yang
@@ -43,11 +51,12 @@ Exit status:
   0  compiled
   1  modules rejected
   2  usage error
-  3  out of memory, pattern not built, cannot read, or cannot write";
+  3  out of memory, pattern not built, cannot read, or cannot write",
+};
 
-pub const TREE_ABOUT: &str = "Draw the tree diagram of a module";
-
-pub const TREE_DETAILS: &str = "\
+pub(crate) const TREE: CommandHelp = CommandHelp {
+    about: "Draw the tree diagram of a module",
+    details: "\
 Draws the tree diagram (RFC 8340) of a YANG 1.1 module (RFC 7950).
 
 The modules are compiled first. If they are invalid, one line, FILE:LINE: NAME,
@@ -55,9 +64,8 @@ reports the first error. Otherwise the named module is drawn: its data nodes, th
 what it adds to other modules, its operations and its notifications. If no file
 has a module of that name, or the module is imported but not implemented, the
 output is `tree: no such module`. Every module or submodule that a module imports
-or includes must be among the files. No document is read.";
-
-pub const TREE_CLOSING: &str = "\
+or includes must be among the files. No document is read.",
+    closing: "\
 Examples:
   yangcheck tree --module example example.yang types.yang
   yangcheck tree --module example --support example: example.yang types.yang
@@ -66,11 +74,12 @@ Exit status:
   0  drawn
   1  modules rejected, or no such module
   2  usage error
-  3  out of memory, pattern not built, cannot read, or cannot write";
+  3  out of memory, pattern not built, cannot read, or cannot write",
+};
 
-pub const VALIDATE_ABOUT: &str = "Validate a JSON document against modules";
-
-pub const VALIDATE_DETAILS: &str = "\
+pub(crate) const VALIDATE: CommandHelp = CommandHelp {
+    about: "Validate a JSON document against modules",
+    details: "\
 Validates a JSON document (RFC 7951) against YANG 1.1 modules (RFC 7950).
 
 The modules are compiled first. If they are invalid, one line, FILE:LINE: NAME,
@@ -78,9 +87,8 @@ reports the first error, and the document is not read. Otherwise each fault has
 one line, KIND PATH, and the last line is `valid` or `faults: N`. With --kind config
 the document is checked as configuration alone: state data that is written is a
 fault, and none is required. Every module or submodule that a module imports or
-includes must be among the files.";
-
-pub const VALIDATE_CLOSING: &str = "\
+includes must be among the files.",
+    closing: "\
 Example:
   yangcheck validate --data config.json example.yang types.yang
 
@@ -88,7 +96,8 @@ Exit status:
   0  valid
   1  modules rejected, or faults found
   2  usage error, document too large, or not JSON
-  3  out of memory, pattern not built, cannot read, or cannot write";
+  3  out of memory, pattern not built, cannot read, or cannot write",
+};
 
 pub const DATA: &str = "The JSON document, or - for standard input";
 

@@ -3,7 +3,7 @@ ghost use Rattle.std.specs.Prelude.{◌≡◌, IfOk, false, codes};
 ghost use Rattle.clap.specs.{Words.{app_of, rule_of, new_app, with_rule, with_subcommand}, declared.builder.command.Command.TheViews.{out-Command as fields_of}};
 ghost use Rattle.yv_job.specs.CommandLine.{option_rule, required_rule, files_rule, with_shared, compile_app, tree_app, validate_app, top_app, yangcheck_app};
 
-use crate::help;
+use crate::help::{self, CommandHelp};
 use clap::{Arg, ArgAction, Command};
 use std::alloc::{AllocError, Global};
 
@@ -39,20 +39,14 @@ fn files<'a>(alloc: Global) -> Arg<'a>
 }
 
 // A new command with the texts of its help.
-fn command<'a>(
-    alloc: Global,
-    name: &'a str,
-    about: &'a str,
-    details: &'a str,
-    closing: &'a str,
-) -> Command<'a>
+fn command<'a>(alloc: Global, name: &'a str, help: &CommandHelp) -> Command<'a>
     ensures app { app_of result ≡ new_app name.entry.now }
     ensures local { (fields_of result).has_globals ≡ false }
 {
     Command::new(alloc, name)
-        .about(about)
-        .long_about(details)
-        .after_help(closing)
+        .about(help.about)
+        .long_about(help.details)
+        .after_help(help.closing)
 }
 
 // The command with one more argument, neither of them global.
@@ -96,13 +90,7 @@ fn compile<'a>(alloc: Global) -> Result<Command<'a>, AllocError>
     ensures app { IfOk result (λ c. app_of c ≡ compile_app) }
     ensures local { IfOk result (λ c. (fields_of c).has_globals ≡ false) }
 {
-    let command = command(
-        alloc,
-        "compile",
-        help::COMPILE_ABOUT,
-        help::COMPILE_DETAILS,
-        help::COMPILE_CLOSING,
-    );
+    let command = command(alloc, "compile", &help::COMPILE);
     with_shared_options(alloc, command)
 }
 
@@ -110,13 +98,7 @@ fn tree<'a>(alloc: Global) -> Result<Command<'a>, AllocError>
     ensures app { IfOk result (λ c. app_of c ≡ tree_app) }
     ensures local { IfOk result (λ c. (fields_of c).has_globals ≡ false) }
 {
-    let command = command(
-        alloc,
-        "tree",
-        help::TREE_ABOUT,
-        help::TREE_DETAILS,
-        help::TREE_CLOSING,
-    );
+    let command = command(alloc, "tree", &help::TREE);
     let module = required_option(alloc, "module", "M", help::MODULE);
     let drawing = with_arg(command, module)?;
     with_shared_options(alloc, drawing)
@@ -126,13 +108,7 @@ fn validate<'a>(alloc: Global) -> Result<Command<'a>, AllocError>
     ensures app { IfOk result (λ c. app_of c ≡ validate_app) }
     ensures local { IfOk result (λ c. (fields_of c).has_globals ≡ false) }
 {
-    let command = command(
-        alloc,
-        "validate",
-        help::VALIDATE_ABOUT,
-        help::VALIDATE_DETAILS,
-        help::VALIDATE_CLOSING,
-    );
+    let command = command(alloc, "validate", &help::VALIDATE);
     let data = required_option(alloc, "data", "F", help::DATA);
     let kind = option(alloc, "kind", "K", help::KIND);
     let checking = with_arg(command, data)?;
@@ -145,15 +121,9 @@ fn top<'a>(alloc: Global) -> Command<'a>
     ensures app { app_of result ≡ top_app (codes "yangcheck") }
     ensures local { (fields_of result).has_globals ≡ false }
 {
-    command(
-        alloc,
-        "yangcheck",
-        help::ABOUT,
-        help::DETAILS,
-        help::CLOSING,
-    )
-    .version(help::VERSION)
-    .subcommand_required(true)
+    command(alloc, "yangcheck", &help::PROGRAM)
+        .version(help::VERSION)
+        .subcommand_required(true)
 }
 
 /// The program with its commands.

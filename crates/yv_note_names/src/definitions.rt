@@ -2,7 +2,7 @@
 use std::alloc::{AllocError, Global};
 use yv_link_definitions::{BUILT_INS, is_built_in};
 use yv_note_statements::{
-    Guess, Message, Site, definition, is_among, nearest_definition, nearest_word, prefix_of_module,
+    Guess, Message, Site, Sites, definition, is_among, nearest_definition, prefix_of_module,
     say_guess, words_of,
 };
 use yv_note_text::Likeness;
@@ -27,12 +27,8 @@ static OTHER_NAMES: &[(&str, &str)] = &[
 
 // The type of YANG that another language calls so.
 fn other_name(written: &str) -> Option<&'static str> {
-    for (name, meant) in OTHER_NAMES {
-        if *name == written {
-            return Some(*meant);
-        }
-    }
-    None
+    let (_, meant) = OTHER_NAMES.iter().find(|(name, _)| *name == written)?;
+    Some(*meant)
 }
 
 // Whether a statement gives another one's name a second time: of a file or of a definition of the
@@ -66,13 +62,7 @@ const MOST_DEPTH: usize = 64;
 
 // The other statement of the name that a refusal says is there twice.
 fn other_of_name<'s, 'a>(site: &Site<'s, 'a>) -> Option<Site<'s, 'a>> {
-    for number in 0..site.entries.len() {
-        let one = Site::at(site.entries, number)?;
-        if is_namesake(&one, site) {
-            return Some(one);
-        }
-    }
-    None
+    Sites::all(site.entries).find(|one| is_namesake(one, site))
 }
 
 // Adds where the other statement is, and shows its line.
@@ -120,10 +110,7 @@ fn say_spelling<'a>(telling: &mut Message<'a>, site: &Site<'_, 'a>, definition: 
 
 // Whether a statement is in no block but that of a file.
 fn is_at_top(site: &Site<'_, '_>) -> bool {
-    match site.parent() {
-        Some(parent) => parent.is_root(),
-        None => true,
-    }
+    site.parent().is_none_or(|parent| parent.is_root())
 }
 
 // Adds what may be meant by a name: a definition of the same name that isn't seen, or one with a
@@ -151,6 +138,13 @@ fn definition_of<'s, 'a>(
     Some((guess, Site::at(site.entries, guess.number?)?))
 }
 
+// The built-in type whose name is most like one that was written.
+fn nearest_built_in(written: &str) -> Option<Guess<'static>> {
+    BUILT_INS.iter().fold(None, |nearest, name| {
+        Guess::nearer(nearest, Guess::of(written, name, None))
+    })
+}
+
 /// Adds that a type is not defined, and what may be meant.
 pub fn tell_type_name<'a>(telling: &mut Message<'a>, site: &Site<'_, 'a>) {
     telling.sentence(Code::UnknownType);
@@ -158,7 +152,7 @@ pub fn tell_type_name<'a>(telling: &mut Message<'a>, site: &Site<'_, 'a>) {
         telling.quote(" Did you mean ", meant, "?");
         return;
     }
-    let built_in = nearest_word(site.argument(), &BUILT_INS);
+    let built_in = nearest_built_in(site.argument());
     let typedef = nearest_definition(site.entries, "typedef", site.argument());
     say_meant(telling, site, Guess::nearer(built_in, typedef));
 }
@@ -186,22 +180,20 @@ fn say_nearest<'a>(telling: &mut Message<'a>, site: &Site<'_, 'a>, keyword: &str
 
 // The first name of an expression that is not that of a feature.
 fn unknown_feature<'a>(alloc: Global, site: &Site<'_, 'a>) -> Result<Option<&'a str>, AllocError> {
-    for word in words_of(alloc, site.argument())?.iter() {
-        let is_name = !is_among(word, &["and", "or", "not"]);
-        if is_name && definition(site, "feature", word).is_none() {
-            return Ok(Some(*word));
-        }
-    }
-    Ok(None)
+    let words = words_of(alloc, site.argument())?;
+    Ok(
+        words.iter().copied().find(|word| {
+            !is_among(word, "and or not") && definition(site, "feature", word).is_none()
+        }),
+    )
 }
 
 /// Adds which feature is not defined, and what may be meant.
 pub fn tell_feature_name<'a>(
-    alloc: Global,
     telling: &mut Message<'a>,
     site: &Site<'_, 'a>,
 ) -> Result<(), AllocError> {
-    let unknown = unknown_feature(alloc, site)?.unwrap_or(site.argument());
+    let unknown = unknown_feature(telling.alloc(), site)?.unwrap_or(site.argument());
     if unknown == site.argument() {
         telling.subject("The feature ", " is not defined.");
     } else {

@@ -2,21 +2,18 @@
 use std::alloc::{AllocError, Global};
 use yv_link_scopes::prefix_of;
 use yv_note_statements::{
-    Guess, Message, Site, StatementEntry, declaration, named_in_file, next_in_file, say_guess,
-    words_of,
+    Guess, Message, Site, Sites, StatementEntry, declaration, first_in_file, named_in_file,
+    say_guess, words_of,
 };
 use yv_statement::Code;
 
 // The file whose name is most like one that was written.
 fn nearest_file<'a>(entries: &[StatementEntry<'a>], written: &str) -> Option<Guess<'a>> {
-    let mut nearest = None;
-    for entry in entries {
-        if entry.is_root {
-            let name = entry.argument.unwrap_or("");
-            nearest = Guess::nearer(nearest, Guess::of(written, name, None));
-        }
-    }
-    nearest
+    Sites::all(entries)
+        .filter(|site| site.is_root())
+        .fold(None, |nearest, file| {
+            Guess::nearer(nearest, Guess::of(written, file.argument(), None))
+        })
 }
 
 /// Adds that a module is not among the files.
@@ -30,16 +27,9 @@ pub fn tell_missing<'a>(telling: &mut Message<'a>, site: &Site<'_, 'a>) {
 
 // The `revision` of a file with the latest date.
 fn latest_revision<'s, 'a>(root: &Site<'s, 'a>) -> Option<Site<'s, 'a>> {
-    let mut latest: Option<Site<'s, 'a>> = None;
-    let mut from = 0;
-    for _ in 0..root.entries.len() {
-        let Some(revision) = next_in_file(root, "revision", from) else {
-            break;
-        };
-        latest = Some(later(latest, revision));
-        from = revision.number.saturating_add(1);
-    }
-    latest
+    Sites::all(root.entries)
+        .filter(|site| site.is("revision") && site.is_beside(root))
+        .fold(None, |latest, revision| Some(later(latest, revision)))
 }
 
 // The `revision` with the later date.
@@ -72,20 +62,13 @@ fn last_revision<'s, 'a>(site: &Site<'s, 'a>) -> Option<Site<'s, 'a>> {
     latest_revision(&site.meaning()?)
 }
 
-// The prefix of a file that is most like one that was written.
-fn nearest_prefix<'a>(
-    entries: &[StatementEntry<'a>],
-    file: u32,
-    written: &str,
-) -> Option<Guess<'a>> {
-    let mut nearest = None;
-    for entry in entries {
-        if entry.file == file && entry.keyword == "prefix" {
-            let name = entry.argument.unwrap_or("");
-            nearest = Guess::nearer(nearest, Guess::of(written, name, None));
-        }
-    }
-    nearest
+// The prefix in the file of a statement that is most like one that was written.
+fn nearest_prefix<'a>(site: &Site<'_, 'a>, written: &str) -> Option<Guess<'a>> {
+    Sites::all(site.entries)
+        .filter(|other| other.is("prefix") && other.is_beside(site))
+        .fold(None, |nearest, prefix| {
+            Guess::nearer(nearest, Guess::of(written, prefix.argument(), None))
+        })
 }
 
 // The first prefix of the words of a statement's argument that the file doesn't declare.
@@ -93,22 +76,17 @@ fn undeclared_prefix<'a>(
     alloc: Global,
     site: &Site<'_, 'a>,
 ) -> Result<Option<&'a str>, AllocError> {
-    for word in words_of(alloc, site.argument())?.iter() {
-        if let Some(prefix) = prefix_of(word) {
-            if declaration(site, prefix).is_none() {
-                return Ok(Some(prefix));
-            }
-        }
-    }
-    Ok(None)
+    let words = words_of(alloc, site.argument())?;
+    Ok(
+        words
+            .iter()
+            .filter_map(|word| prefix_of(word))
+            .find(|prefix| declaration(site, prefix).is_none()),
+    )
 }
 
 /// Adds which prefix is not declared, or is declared twice.
-pub fn tell_prefix<'a>(
-    alloc: Global,
-    telling: &mut Message<'a>,
-    site: &Site<'_, 'a>,
-) -> Result<(), AllocError> {
+pub fn tell_prefix<'a>(telling: &mut Message<'a>, site: &Site<'_, 'a>) -> Result<(), AllocError> {
     if site.is("prefix") {
         tell_second_prefix(telling, site);
         return Ok(());
@@ -116,7 +94,7 @@ pub fn tell_prefix<'a>(
     telling.subject("The prefix of ", " is not declared in this file");
     let prefix = match prefix_of(site.keyword()) {
         Some(prefix) => Some(prefix),
-        None => undeclared_prefix(alloc, site)?,
+        None => undeclared_prefix(telling.alloc(), site)?,
     };
     say_undeclared(telling, site, prefix);
     Ok(())
@@ -136,10 +114,7 @@ fn say_undeclared<'a>(telling: &mut Message<'a>, site: &Site<'_, 'a>, prefix: Op
         }
         None => {
             telling.quote(": add an `import` with the prefix ", prefix, ".");
-            say_guess(
-                telling,
-                nearest_prefix(site.entries, site.entry.file, prefix),
-            );
+            say_guess(telling, nearest_prefix(site, prefix));
         }
     }
 }
@@ -159,7 +134,7 @@ fn tell_second_prefix<'a>(telling: &mut Message<'a>, site: &Site<'_, 'a>) {
 
 // The `belongs-to` of a submodule.
 fn belongs_to<'s, 'a>(root: &Site<'s, 'a>) -> Option<Site<'s, 'a>> {
-    next_in_file(root, "belongs-to", 0)
+    first_in_file(root, "belongs-to")
 }
 
 /// Adds why a module and a submodule don't belong together.

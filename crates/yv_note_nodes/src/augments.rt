@@ -29,13 +29,12 @@ pub(crate) fn way_of<'s, 'a>(
 
 /// Adds where the path of a `refine` leads wrong.
 pub fn tell_refine_target<'a>(
-    alloc: Global,
     telling: &mut Message<'a>,
     site: &Site<'_, 'a>,
 ) -> Result<(), AllocError> {
     telling.sentence(Code::RefineTarget);
-    match way_of(alloc, site)? {
-        Way::Until(node, name) => say_no_node(alloc, telling, &node, name, Steps::Schema),
+    match way_of(telling.alloc(), site)? {
+        Way::Until(node, name) => say_no_node(telling, &node, name, Steps::Schema),
         _ => Ok(()),
     }
 }
@@ -43,62 +42,53 @@ pub fn tell_refine_target<'a>(
 // A property that a `refine` may change, and the nodes that have it.
 struct Property {
     keyword: &'static str,
-    nodes: &'static [&'static str],
+    nodes: &'static str,
 }
 
 static PROPERTIES: &[Property] = &[
     Property {
         keyword: "default",
-        nodes: &["leaf", "leaf-list", "choice"],
+        nodes: "leaf leaf-list choice",
     },
     Property {
         keyword: "mandatory",
-        nodes: &["leaf", "choice", "anydata", "anyxml"],
+        nodes: "leaf choice anydata anyxml",
     },
     Property {
         keyword: "presence",
-        nodes: &["container"],
+        nodes: "container",
     },
     Property {
         keyword: "min-elements",
-        nodes: &["list", "leaf-list"],
+        nodes: "list leaf-list",
     },
     Property {
         keyword: "max-elements",
-        nodes: &["list", "leaf-list"],
+        nodes: "list leaf-list",
     },
 ];
 
 // Whether a node of this keyword may have a property.
 fn may_have(keyword: &str, sought: &str) -> bool {
-    for property in PROPERTIES {
-        if property.keyword == sought {
-            return is_among(keyword, property.nodes);
-        }
+    match PROPERTIES
+        .iter()
+        .find(|property| property.keyword == sought)
+    {
+        Some(property) => is_among(keyword, property.nodes),
+        None => true,
     }
-    true
 }
 
 // The first property of a `refine` that a node of this keyword can't have.
 fn unfit_property<'s, 'a>(refine: &Site<'s, 'a>, keyword: &str) -> Option<Site<'s, 'a>> {
-    let mut after = refine.number;
-    for _ in 0..refine.entries.len() {
-        let property = refine.next_child(after)?;
-        if !may_have(keyword, property.keyword()) {
-            return Some(property);
-        }
-        after = property.number;
-    }
-    None
+    refine
+        .children()
+        .find(|property| !may_have(keyword, property.keyword()))
 }
 
 /// Adds which property a `refine` can't change.
-pub fn tell_refine<'a>(
-    alloc: Global,
-    telling: &mut Message<'a>,
-    site: &Site<'_, 'a>,
-) -> Result<(), AllocError> {
-    match way_of(alloc, site)? {
+pub fn tell_refine<'a>(telling: &mut Message<'a>, site: &Site<'_, 'a>) -> Result<(), AllocError> {
+    match way_of(telling.alloc(), site)? {
         Way::To(node) => tell_property(telling, site, &node),
         _ => telling.sentence(Code::BadRefine),
     }
@@ -122,65 +112,56 @@ fn tell_property<'a>(telling: &mut Message<'a>, refine: &Site<'_, 'a>, node: &Si
 
 // Adds where a `refine` gives a second default.
 fn say_second_default<'a>(telling: &mut Message<'a>, refine: &Site<'_, 'a>) {
-    let Some(first) = refine.child("default") else {
-        return;
-    };
-    if let Some(second) = refine.next_of("default", first.number) {
+    let mut defaults = refine.children().filter(|child| child.is("default"));
+    if let (Some(first), Some(second)) = (defaults.next(), defaults.next()) {
         telling.point(" The first is at ", &first, ",");
         telling.point(" and the second at ", &second, ": leave out one of them.");
     }
 }
 
-static TARGETS: &[&str] = &[
-    "container",
-    "list",
-    "choice",
-    "case",
-    "input",
-    "output",
-    "notification",
-];
+static TARGETS: &str = "container list choice case input output notification";
 
 /// Adds where the path of an `augment` leads wrong.
 pub fn tell_augment_target<'a>(
-    alloc: Global,
     telling: &mut Message<'a>,
     site: &Site<'_, 'a>,
 ) -> Result<(), AllocError> {
     telling.sentence(Code::AugmentTarget);
-    match way_of(alloc, site)? {
-        Way::Until(node, name) => say_missing_step(alloc, telling, &node, name)?,
+    match way_of(telling.alloc(), site)? {
+        Way::Until(node, name) => say_missing_step(telling, &node, name)?,
         Way::To(node) => say_no_target(telling, &node),
         _ => telling.say(" Look at the prefixes of its steps."),
     }
     if site.argument().starts_with('/') {
-        say_prefixed(alloc, telling, site, site.argument(), Steps::Schema)?;
+        say_prefixed(telling, site, site.argument(), Steps::Schema)?;
     }
     Ok(())
 }
 
 // Adds that a node has none of this name below it, or in which case there is one.
 fn say_missing_step<'a>(
-    alloc: Global,
     telling: &mut Message<'a>,
     node: &Site<'_, 'a>,
     name: &'a str,
 ) -> Result<(), AllocError> {
     if node.is("choice") {
-        if let Some(inner) = node_below(alloc, node, name, Steps::Data)? {
+        if let Some(inner) = node_below(telling.alloc(), node, name, Steps::Data)? {
             say_case(telling, &inner);
             return Ok(());
         }
     }
-    say_no_node(alloc, telling, node, name, Steps::Schema)
+    say_no_node(telling, node, name, Steps::Schema)
 }
 
 // Adds the case of a node, which a path leaves out.
 fn say_case<'a>(telling: &mut Message<'a>, node: &Site<'_, 'a>) {
     match case_around(node) {
         Some(case) => {
-            telling.statement(" That node is in the ", &case, "");
-            telling.point(" at ", &case, ", which is a step of the path, too.");
+            telling.statement_at(
+                " That node is in the ",
+                &case,
+                ", which is a step of the path, too.",
+            );
         }
         None => telling.quote(
             " The case of ",
@@ -192,20 +173,14 @@ fn say_case<'a>(telling: &mut Message<'a>, node: &Site<'_, 'a>) {
 
 // The `case` in whose block a node is.
 fn case_around<'s, 'a>(node: &Site<'s, 'a>) -> Option<Site<'s, 'a>> {
-    let parent = node.parent()?;
-    if parent.is("case") {
-        Some(parent)
-    } else {
-        None
-    }
+    node.parent().filter(|parent| parent.is("case"))
 }
 
 // Adds why a node is no target.
 fn say_no_target<'a>(telling: &mut Message<'a>, node: &Site<'_, 'a>) {
     if !is_among(node.keyword(), TARGETS) {
-        telling.statement(" It leads to the ", node, "");
-        telling.point(
-            " at ",
+        telling.statement_at(
+            " It leads to the ",
             node,
             "; a target is a container, list, choice, case, input, output or notification.",
         );
@@ -220,10 +195,7 @@ fn say_no_target<'a>(telling: &mut Message<'a>, node: &Site<'_, 'a>) {
 
 // Whether a node is in a choice without a case around it.
 fn is_shorthand_case(node: &Site<'_, '_>) -> bool {
-    match node.parent() {
-        Some(parent) => parent.is("choice") && !node.is("case"),
-        None => false,
-    }
+    node.is_in("choice") && !node.is("case")
 }
 
 // The `augment` in whose block a node is, by way of groupings too.
@@ -239,17 +211,13 @@ fn augment_around<'s, 'a>(node: &Site<'s, 'a>) -> Option<Site<'s, 'a>> {
 }
 
 /// Adds why a node can't be added to the target of an `augment`.
-pub fn tell_augment<'a>(
-    alloc: Global,
-    telling: &mut Message<'a>,
-    site: &Site<'_, 'a>,
-) -> Result<(), AllocError> {
+pub fn tell_augment<'a>(telling: &mut Message<'a>, site: &Site<'_, 'a>) -> Result<(), AllocError> {
     let augment = augment_around(site).unwrap_or(*site);
-    let Some(target) = target_of(&way_of(alloc, &augment)?) else {
+    let Some(target) = target_of(&way_of(telling.alloc(), &augment)?) else {
         telling.sentence(Code::BadAugment);
         return Ok(());
     };
-    let nodes = nodes_below(alloc, &augment, Steps::Schema)?;
+    let nodes = nodes_below(telling.alloc(), &augment, Steps::Schema)?;
     if let Some(node) = unfit(&nodes, target.keyword) {
         say_unfit(telling, &node, &target);
     } else {
@@ -283,7 +251,7 @@ pub(crate) fn target_of<'s, 'a>(way: &Way<'s, 'a>) -> Option<Target<'s, 'a>> {
     }
 }
 
-static SIDES: &[&str] = &["input", "output"];
+static SIDES: &str = "input output";
 
 fn is_operation(node: &Site<'_, '_>) -> bool {
     node.is("rpc") || node.is("action")
@@ -291,12 +259,10 @@ fn is_operation(node: &Site<'_, '_>) -> bool {
 
 // The first of these nodes that can't be in the block of a node of this keyword.
 fn unfit<'s, 'a>(nodes: &[Site<'s, 'a>], target: &str) -> Option<Site<'s, 'a>> {
-    for node in nodes {
-        if !takes(target, node.keyword()) {
-            return Some(*node);
-        }
-    }
-    None
+    nodes
+        .iter()
+        .copied()
+        .find(|node| !takes(target, node.keyword()))
 }
 
 // Whether a node of one keyword may be in the block of one of the other.
@@ -310,8 +276,7 @@ fn takes(target: &str, node: &str) -> bool {
 
 fn say_unfit<'a>(telling: &mut Message<'a>, node: &Site<'_, 'a>, target: &Target<'_, 'a>) {
     telling.subject("The augment of ", " is wrong: ");
-    telling.statement("the ", node, "");
-    telling.point(" at ", node, "");
+    telling.statement_at("the ", node, "");
     say_target(telling, " can't be in the ", target);
     telling.say(".");
 }
@@ -344,8 +309,7 @@ fn say_mandatory<'a>(telling: &mut Message<'a>, nodes: &[Site<'_, 'a>], target: 
     );
     match first_mandatory(nodes) {
         Some(node) => {
-            telling.statement(": the ", &node, "");
-            telling.point(" at ", &node, " is mandatory, and");
+            telling.statement_at(": the ", &node, " is mandatory, and");
             say_target(telling, " the ", target);
             telling.say(" is not of this module.");
         }

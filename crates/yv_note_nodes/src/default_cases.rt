@@ -9,11 +9,10 @@ const MOST_CASES: usize = 8;
 
 /// Adds which case of a choice its default names in vain.
 pub fn tell_default_case<'a>(
-    alloc: Global,
     telling: &mut Message<'a>,
     choice: &Site<'_, 'a>,
 ) -> Result<(), AllocError> {
-    let cases = nodes_below(alloc, choice, Steps::Schema)?;
+    let cases = nodes_below(telling.alloc(), choice, Steps::Schema)?;
     let Some(default) = choice.child("default") else {
         telling.subject(
             "A `refine` gives ",

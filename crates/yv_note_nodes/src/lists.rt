@@ -4,19 +4,15 @@ use std::alloc::{AllocError, Global};
 use yv_note_statements::{Message, Site, is_among, node_above, state_above, words_of};
 
 /// Adds what is wrong with the key of a list.
-pub fn tell_key<'a>(
-    alloc: Global,
-    telling: &mut Message<'a>,
-    list: &Site<'_, 'a>,
-) -> Result<(), AllocError> {
+pub fn tell_key<'a>(telling: &mut Message<'a>, list: &Site<'_, 'a>) -> Result<(), AllocError> {
     let Some(key) = list.child("key") else {
         telling.subject("The list ", " is configuration, so it needs a `key`.");
         return Ok(());
     };
     telling.subject("The key of list ", " is wrong.");
-    for name in words_of(alloc, key.argument())?.iter() {
-        let Some(leaf) = node_below(alloc, list, name, Steps::Data)? else {
-            return say_no_node(alloc, telling, list, name, Steps::Data);
+    for name in words_of(telling.alloc(), key.argument())?.iter() {
+        let Some(leaf) = node_below(telling.alloc(), list, name, Steps::Data)? else {
+            return say_no_node(telling, list, name, Steps::Data);
         };
         if let Some(objection) = objection_to(list, &leaf) {
             telling.statement(objection.before, &leaf, objection.between);
@@ -67,14 +63,10 @@ fn objection_to<'s, 'a>(list: &Site<'s, 'a>, leaf: &Site<'s, 'a>) -> Option<Obje
 }
 
 /// Adds what is wrong with a `unique` of a list.
-pub fn tell_unique<'a>(
-    alloc: Global,
-    telling: &mut Message<'a>,
-    list: &Site<'_, 'a>,
-) -> Result<(), AllocError> {
+pub fn tell_unique<'a>(telling: &mut Message<'a>, list: &Site<'_, 'a>) -> Result<(), AllocError> {
     telling.subject("A `unique` of list ", " is wrong.");
-    for unique in list.children_of(alloc, "unique")?.iter() {
-        if say_unique(alloc, telling, list, unique)? {
+    for unique in list.children_of(telling.alloc(), "unique")?.iter() {
+        if say_unique(telling, list, unique)? {
             return Ok(());
         }
     }
@@ -83,7 +75,6 @@ pub fn tell_unique<'a>(
 
 // Adds what is wrong with a `unique`, if something is known.
 fn say_unique<'a>(
-    alloc: Global,
     telling: &mut Message<'a>,
     list: &Site<'_, 'a>,
     unique: &Site<'_, 'a>,
@@ -94,8 +85,8 @@ fn say_unique<'a>(
         if path.is_empty() {
             continue;
         }
-        let way = follow(alloc, list, path, Steps::Data)?;
-        if say_way(alloc, telling, unique, &way)? {
+        let way = follow(telling.alloc(), list, path, Steps::Data)?;
+        if say_way(telling, unique, &way)? {
             return Ok(true);
         }
         if let Way::To(node) = way {
@@ -143,8 +134,7 @@ fn say_between<'a>(
 ) {
     telling.point(" It is at ", unique, ".");
     telling.quote(" The path ", path, "");
-    telling.statement(" goes through the ", between, "");
-    telling.point(" at ", between, ", which is not supported.");
+    telling.statement_at(" goes through the ", between, ", which is not supported.");
 }
 
 // Adds that of the leafs of a `unique` one is state and one isn't, if there are two such.
@@ -158,16 +148,13 @@ fn say_mixed<'a>(
         return false;
     };
     telling.point(" It is at ", unique, ".");
-    telling.statement(" The ", &state, "");
-    telling.point(" at ", &state, " is state, and");
-    telling.statement(" the ", &configuration, "");
-    telling.point(" at ", &configuration, " is configuration.");
+    telling.statement_at(" The ", &state, " is state, and");
+    telling.statement_at(" the ", &configuration, " is configuration.");
     true
 }
 
 // Adds why a path leads to no leaf, if something is known.
 fn say_way<'a>(
-    alloc: Global,
     telling: &mut Message<'a>,
     unique: &Site<'_, 'a>,
     way: &Way<'_, 'a>,
@@ -175,17 +162,16 @@ fn say_way<'a>(
     match way {
         Way::Until(node, name) => {
             telling.point(" It is at ", unique, ".");
-            say_no_node(alloc, telling, node, name, Steps::Data)?;
+            say_no_node(telling, node, name, Steps::Data)?;
             Ok(true)
         }
         Way::To(node) if !node.is("leaf") => {
             telling.point(" It is at ", unique, ".");
-            telling.statement(
+            telling.statement_at(
                 " A path has to lead to a leaf; this one leads to the ",
                 node,
-                "",
+                ".",
             );
-            telling.point(" at ", node, ".");
             Ok(true)
         }
         _ => Ok(false),
@@ -194,5 +180,5 @@ fn say_way<'a>(
 
 /// Whether a statement's keyword is one of nodes with a value.
 pub(crate) fn has_value(node: &Site<'_, '_>) -> bool {
-    is_among(node.keyword(), &["leaf", "leaf-list"])
+    is_among(node.keyword(), "leaf leaf-list")
 }

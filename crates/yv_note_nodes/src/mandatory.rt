@@ -15,23 +15,17 @@ pub(crate) fn is_mandatory(node: &Site<'_, '_>) -> bool {
 
 /// The first of these nodes that says that it is mandatory.
 pub(crate) fn first_mandatory<'s, 'a>(nodes: &[Site<'s, 'a>]) -> Option<Site<'s, 'a>> {
-    for node in nodes {
-        if is_mandatory(node) {
-            return Some(*node);
-        }
-    }
-    None
+    nodes.iter().copied().find(|node| is_mandatory(node))
 }
 
 /// Adds why a node that is mandatory can't have a default.
 pub fn tell_mandatory<'a>(
-    alloc: Global,
     telling: &mut Message<'a>,
     site: &Site<'_, 'a>,
 ) -> Result<(), AllocError> {
     match site.child("default") {
         Some(default) if site.is("choice") && !is_mandatory(site) => {
-            tell_mandatory_case(alloc, telling, site, &default)
+            tell_mandatory_case(telling, site, &default)
         }
         default => {
             say_both(telling, site, default);
@@ -73,16 +67,15 @@ fn say_place<'a>(telling: &mut Message<'a>, before: &'a str, property: Option<Si
 
 // Adds which mandatory node the default case of a choice has.
 fn tell_mandatory_case<'a>(
-    alloc: Global,
     telling: &mut Message<'a>,
     choice: &Site<'_, 'a>,
     default: &Site<'_, 'a>,
 ) -> Result<(), AllocError> {
     telling.quote("The default case ", default.argument(), "");
     telling.subject(" of choice ", " has a mandatory node");
-    let cases = nodes_below(alloc, choice, Steps::Schema)?;
+    let cases = nodes_below(telling.alloc(), choice, Steps::Schema)?;
     if let Some(case) = node_named(&cases, local(default.argument())) {
-        say_mandatory_node(alloc, telling, &case)?;
+        say_mandatory_node(telling, &case)?;
     }
     telling.say(".");
     Ok(())
@@ -90,7 +83,6 @@ fn tell_mandatory_case<'a>(
 
 // Adds the first node of a case that is mandatory by itself.
 fn say_mandatory_node<'a>(
-    alloc: Global,
     telling: &mut Message<'a>,
     case: &Site<'_, 'a>,
 ) -> Result<(), AllocError> {
@@ -98,10 +90,9 @@ fn say_mandatory_node<'a>(
         telling.say(", namely itself");
         return Ok(());
     }
-    let nodes = nodes_below(alloc, case, Steps::Schema)?;
+    let nodes = nodes_below(telling.alloc(), case, Steps::Schema)?;
     if let Some(node) = first_mandatory(&nodes) {
-        telling.statement(", the ", &node, "");
-        telling.point(" at ", &node, "");
+        telling.statement_at(", the ", &node, "");
     }
     Ok(())
 }

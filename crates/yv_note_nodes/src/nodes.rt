@@ -2,7 +2,7 @@
 use std::alloc::{AllocError, Global};
 use yv_link_scopes::local;
 use yv_note_statements::{
-    Message, Site, all_sites, is_among, last_step, module_of, nearest_site, say_guess,
+    Message, Site, Sites, is_among, last_step, module_of, nearest_site, say_guess,
 };
 
 /// How many blocks are searched for the nodes of one.
@@ -12,19 +12,8 @@ const MOST_BLOCKS: usize = 256;
 const MOST_NODES: usize = 10_000;
 
 /// The keywords of nodes that have a name of their own.
-pub(crate) static DATA_NODES: &[&str] = &[
-    "container",
-    "leaf",
-    "leaf-list",
-    "list",
-    "choice",
-    "case",
-    "anydata",
-    "anyxml",
-    "rpc",
-    "action",
-    "notification",
-];
+pub(crate) static DATA_NODES: &str =
+    "container leaf leaf-list list choice case anydata anyxml rpc action notification";
 
 // Whether a statement defines a node of the schema.
 fn is_node(site: &Site<'_, '_>) -> bool {
@@ -43,16 +32,12 @@ fn augments_of<'s, 'a>(
     alloc: Global,
     node: &Site<'s, 'a>,
 ) -> Result<Vec<Site<'s, 'a>>, AllocError> {
-    let mut augments = Vec::new(alloc);
     if node.is_root() || node.is("grouping") {
-        return Ok(augments);
+        return Ok(Vec::new(alloc));
     }
-    for augment in all_sites(alloc, node.entries, "augment")?.iter() {
-        if last_step(augment.argument()) == node.argument() {
-            augments.push(*augment)?;
-        }
-    }
-    Ok(augments)
+    Sites::all(node.entries)
+        .filter(|site| site.is("augment") && last_step(site.argument()) == node.argument())
+        .collect(alloc)
 }
 
 /// The nodes below a node or at the top of a module, those of groupings, and of augments of its
@@ -69,8 +54,8 @@ pub(crate) fn nodes_below<'s, 'a>(
         let Some(block) = blocks.pop() else {
             break;
         };
-        for child in block.children(alloc)?.iter() {
-            add_node(&mut nodes, &mut blocks, child, steps)?;
+        for child in block.children() {
+            add_node(&mut nodes, &mut blocks, &child, steps)?;
         }
     }
     Ok(nodes)
@@ -110,12 +95,7 @@ pub(crate) fn node_name<'a>(node: &Site<'_, 'a>) -> &'a str {
 
 /// The first of these nodes with this name.
 pub(crate) fn node_named<'s, 'a>(nodes: &[Site<'s, 'a>], name: &str) -> Option<Site<'s, 'a>> {
-    for node in nodes {
-        if node_name(node) == name {
-            return Some(*node);
-        }
-    }
-    None
+    nodes.iter().copied().find(|node| node_name(node) == name)
 }
 
 /// How far a path was followed.
@@ -169,26 +149,20 @@ pub(crate) fn node_below<'s, 'a>(
 
 /// The root of the module of a path that begins with `/`.
 pub(crate) fn root_of<'s, 'a>(site: &Site<'s, 'a>, path: &str) -> Option<Site<'s, 'a>> {
-    for step in path.split('/') {
-        if !step.is_empty() {
-            return module_of(site, step);
-        }
-    }
-    None
+    let first = path.split('/').find(|step| !step.is_empty())?;
+    module_of(site, first)
 }
 
 /// Adds that a node has none of this name below it, and which one may be meant.
 pub(crate) fn say_no_node<'a>(
-    alloc: Global,
     telling: &mut Message<'a>,
     node: &Site<'_, 'a>,
     name: &'a str,
     steps: Steps,
 ) -> Result<(), AllocError> {
     telling.quote(" There is no node ", name, "");
-    telling.statement(" in ", node, "");
-    telling.point(" at ", node, ".");
-    let nodes = nodes_below(alloc, node, steps)?;
+    telling.statement_at(" in ", node, ".");
+    let nodes = nodes_below(telling.alloc(), node, steps)?;
     say_guess(telling, nearest_site(local(name), &nodes));
     Ok(())
 }

@@ -62,12 +62,8 @@ fn above<'s, 'a>(node: &Site<'s, 'a>) -> Option<Site<'s, 'a>> {
 }
 
 /// Adds where the path of a leafref leads wrong.
-pub fn tell_path<'a>(
-    alloc: Global,
-    telling: &mut Message<'a>,
-    leaf: &Site<'_, 'a>,
-) -> Result<(), AllocError> {
-    let Some(path) = path_of(alloc, leaf)? else {
+pub fn tell_path<'a>(telling: &mut Message<'a>, leaf: &Site<'_, 'a>) -> Result<(), AllocError> {
+    let Some(path) = path_of(telling.alloc(), leaf)? else {
         telling.sentence(Code::BadPath);
         return Ok(());
     };
@@ -77,29 +73,28 @@ pub fn tell_path<'a>(
         telling.point(" at ", &path, "");
     }
     telling.say(".");
-    let way = way_of(alloc, leaf, &path)?;
+    let way = way_of(telling.alloc(), leaf, &path)?;
     match way {
-        Way::Until(node, name) => say_no_node(alloc, telling, &node, name, Steps::Data)?,
+        Way::Until(node, name) => say_no_node(telling, &node, name, Steps::Data)?,
         _ => say_way(telling, leaf, &way),
     }
     if path.argument().starts_with('/') {
-        say_prefixed(alloc, telling, &path, path.argument(), Steps::Data)
+        say_prefixed(telling, &path, path.argument(), Steps::Data)
     } else {
-        say_climb(alloc, telling, leaf, path.argument())
+        say_climb(telling, leaf, path.argument())
     }
 }
 
 // Adds the path with one `..` more or less, if that leads to a leaf or a leaf-list.
 fn say_climb<'a>(
-    alloc: Global,
     telling: &mut Message<'a>,
     leaf: &Site<'_, 'a>,
     path: &'a str,
 ) -> Result<(), AllocError> {
-    if is_way(alloc, leaf, path, true)? {
+    if is_way(telling.alloc(), leaf, path, true)? {
         telling.quote_joined(" Did you mean ", "../", path, "?");
     } else if let Some(shorter) = path.strip_prefix("../") {
-        if shorter.starts_with("../") && is_way(alloc, leaf, shorter, false)? {
+        if shorter.starts_with("../") && is_way(telling.alloc(), leaf, shorter, false)? {
             telling.quote(" Did you mean ", shorter, "?");
         }
     }
@@ -127,10 +122,8 @@ fn is_way<'a>(
 
 // Whether a path is in the `type` of a leaf.
 fn is_within(path: &Site<'_, '_>, leaf: &Site<'_, '_>) -> bool {
-    match path.parent() {
-        Some(around) => around.entry.scope == leaf.number,
-        None => false,
-    }
+    path.parent()
+        .is_some_and(|around| around.entry.scope == leaf.number)
 }
 
 // Adds where a path leads.
@@ -138,21 +131,22 @@ fn say_way<'a>(telling: &mut Message<'a>, leaf: &Site<'_, 'a>, way: &Way<'_, 'a>
     match way {
         Way::Above => telling.say(" It goes above the top of the module: it has a `..` too many."),
         Way::To(node) if !has_value(node) => {
-            telling.statement(" It leads to the ", node, "");
-            telling.point(" at ", node, ", and has to lead to a leaf or leaf-list.");
+            telling.statement_at(
+                " It leads to the ",
+                node,
+                ", and has to lead to a leaf or leaf-list.",
+            );
         }
         Way::To(node) if state_above(node).is_some() && state_above(leaf).is_none() => {
-            telling.statement(" The ", node, "");
-            telling.point(
-                " at ",
+            telling.statement_at(
+                " The ",
                 node,
                 " is state, and this leafref is configuration.",
             );
         }
         Way::To(node) => {
-            telling.statement(" The ", node, "");
-            telling.point(
-                " at ",
+            telling.statement_at(
+                " The ",
                 node,
                 " can't be referred to: look at the prefixes and the conditions on the way.",
             );
@@ -166,15 +160,14 @@ const MOST_LEAFREFS: usize = 64;
 
 /// Adds the leafrefs that one leads to, up to itself.
 pub fn tell_path_cycle<'a>(
-    alloc: Global,
     telling: &mut Message<'a>,
     leaf: &Site<'_, 'a>,
 ) -> Result<(), AllocError> {
     telling.sentence(Code::PathCycle);
-    let mut ring = Vec::new(alloc);
+    let mut ring = Vec::new(telling.alloc());
     let mut at = *leaf;
     for _ in 0..MOST_LEAFREFS {
-        let Some(target) = target_of(alloc, &at)? else {
+        let Some(target) = target_of(telling.alloc(), &at)? else {
             break;
         };
         ring.push(target.number)?;

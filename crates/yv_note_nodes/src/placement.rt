@@ -2,7 +2,7 @@
 use crate::augments::{target_of, way_of};
 use crate::nodes::{DATA_NODES, Way};
 use std::alloc::{AllocError, Global};
-use yv_note_statements::{Message, Site, is_among, next_uses, node_above, state_above};
+use yv_note_statements::{Message, Site, Sites, is_among, node_above, state_above};
 use yv_statement::Code;
 
 /// Adds which node above a node of configuration is state.
@@ -24,12 +24,11 @@ fn state_over<'s, 'a>(site: &Site<'s, 'a>) -> Option<Site<'s, 'a>> {
 
 /// Adds which node above an action or a notification it can't be in.
 pub fn tell_operation<'a>(
-    alloc: Global,
     telling: &mut Message<'a>,
     site: &Site<'_, 'a>,
 ) -> Result<(), AllocError> {
     telling.subject_statement(site, " is not allowed here: ");
-    match find_hindrance(alloc, site)? {
+    match find_hindrance(telling.alloc(), site)? {
         Some(hindrance) => say_hindrance(telling, &hindrance),
         None if site.is("action") => {
             telling.say("an action can't be at the top of a module; that is an `rpc`.");
@@ -59,21 +58,15 @@ impl Hindrance<'_, '_> {
 
 fn say_hindrance<'a>(telling: &mut Message<'a>, hindrance: &Hindrance<'_, 'a>) {
     if let Some(uses) = &hindrance.uses {
-        telling.statement("by the ", uses, "");
-        telling.point(" at ", uses, " ");
+        telling.statement_at("by the ", uses, " ");
     }
     let around = &hindrance.around;
-    telling.statement(
+    telling.statement_at(
         if around.is("case") {
             "it can't be in the "
         } else {
             "it is inside the "
         },
-        around,
-        "",
-    );
-    telling.point(
-        " at ",
         around,
         if around.is("list") {
             ", which has no key."
@@ -126,36 +119,6 @@ fn push_around<'s, 'a>(
     Ok(())
 }
 
-// Adds the statements around the `uses` of a grouping.
-fn push_uses<'s, 'a>(
-    alloc: Global,
-    open: &mut Vec<Hindrance<'s, 'a>>,
-    grouping: &Hindrance<'s, 'a>,
-) -> Result<(), AllocError> {
-    for uses in uses_of(alloc, &grouping.around, MOST_USES)?.iter() {
-        push_around(open, uses, Some(*uses), grouping.is_direct)?;
-    }
-    Ok(())
-}
-
-// The `uses` of a grouping, at most so many of them.
-fn uses_of<'s, 'a>(
-    alloc: Global,
-    grouping: &Site<'s, 'a>,
-    most: usize,
-) -> Result<Vec<Site<'s, 'a>>, AllocError> {
-    let mut all = Vec::new(alloc);
-    let mut from = 0;
-    for _ in 0..most {
-        let Some(uses) = next_uses(grouping, from) else {
-            break;
-        };
-        from = uses.number.saturating_add(1);
-        all.push(uses)?;
-    }
-    Ok(all)
-}
-
 // Whether the nodes in a statement come to be elsewhere.
 fn is_copied(site: &Site<'_, '_>) -> bool {
     site.is("grouping") || site.is("augment")
@@ -167,11 +130,15 @@ fn push_copies<'s, 'a>(
     open: &mut Vec<Hindrance<'s, 'a>>,
     copied: &Hindrance<'s, 'a>,
 ) -> Result<(), AllocError> {
-    if copied.around.is("grouping") {
-        push_uses(alloc, open, copied)
-    } else {
-        push_target(alloc, open, copied)
+    let around = &copied.around;
+    if !around.is("grouping") {
+        return push_target(alloc, open, copied);
     }
+    let sites = Sites::all(around.entries).filter(|site| site.is_use_of(around));
+    for uses in sites.take(MOST_USES) {
+        push_around(open, &uses, Some(uses), copied.is_direct)?;
+    }
+    Ok(())
 }
 
 // Adds the target of an `augment`.
@@ -253,18 +220,10 @@ fn namesakes<'s, 'a>(
     alloc: Global,
     site: &Site<'s, 'a>,
 ) -> Result<Vec<Landing<'s, 'a>>, AllocError> {
-    let mut landings = Vec::new(alloc);
-    for number in 0..site.entries.len() {
-        if let Some(node) = Site::at(site.entries, number) {
-            if let Some(landing) = landing_of(node, site.argument()) {
-                landings.push(landing)?;
-            }
-        }
-        if landings.len() >= MOST_PLACES {
-            break;
-        }
-    }
-    Ok(landings)
+    Sites::all(site.entries)
+        .filter_map(|node| landing_of(node, site.argument()))
+        .take(MOST_PLACES)
+        .collect(alloc)
 }
 
 // Follows each node out of choices, cases and groupings.
@@ -281,7 +240,7 @@ fn follow_out<'s, 'a>(
         };
         match landing.block.keyword() {
             "choice" | "case" => add_around(&mut open, &landing)?,
-            "grouping" => add_uses(alloc, &mut open, &landing)?,
+            "grouping" => add_uses(&mut open, &landing)?,
             "augment" if augments < MOST_FOLLOWED => {
                 augments += 1;
                 add_target(alloc, &mut open, &mut landings, landing)?;
@@ -309,16 +268,17 @@ fn add_around<'s, 'a>(
 
 // Adds the places to which the `uses` of a grouping bring a node.
 fn add_uses<'s, 'a>(
-    alloc: Global,
     open: &mut Vec<Landing<'s, 'a>>,
     landing: &Landing<'s, 'a>,
 ) -> Result<(), AllocError> {
-    for uses in uses_of(alloc, &landing.block, MOST_PLACES)?.iter() {
+    let grouping = &landing.block;
+    let sites = Sites::all(grouping.entries).filter(|site| site.is_use_of(grouping));
+    for uses in sites.take(MOST_PLACES) {
         if let Some(block) = uses.parent() {
             open.push(Landing {
                 node: landing.node,
                 block,
-                uses: Some(*uses),
+                uses: Some(uses),
             })?;
         }
     }
@@ -347,22 +307,19 @@ fn partner<'s, 'a>(
     number: usize,
     one: &Landing<'s, 'a>,
 ) -> Option<Landing<'s, 'a>> {
-    for other in landings {
-        if is_pair(number, one, other) {
-            return Some(*other);
-        }
-    }
-    None
+    landings
+        .iter()
+        .copied()
+        .find(|other| is_pair(number, one, other))
 }
 
 /// Adds which other node has the name of one, and by which `uses` the two come to be in one place.
 pub fn tell_second_node<'a>(
-    alloc: Global,
     telling: &mut Message<'a>,
     site: &Site<'_, 'a>,
 ) -> Result<(), AllocError> {
     telling.sentence(Code::DuplicateNode);
-    let landings = follow_out(alloc, site)?;
+    let landings = follow_out(telling.alloc(), site)?;
     for (place, one) in landings.iter().enumerate() {
         if let Some(other) = partner(&landings[..place], site.number, one) {
             if one.node.number == site.number {
@@ -379,13 +336,11 @@ pub fn tell_second_node<'a>(
 // Adds the two places of a name, first that of the refusal's node.
 fn say_pair<'a>(telling: &mut Message<'a>, own: &Landing<'_, 'a>, second: &Landing<'_, 'a>) {
     if let Some(uses) = &own.uses {
-        telling.statement(" This one comes by the ", uses, "");
-        telling.point(" at ", uses, ".");
+        telling.statement_at(" This one comes by the ", uses, ".");
     }
     telling.point(" The other one is at ", &second.node, "");
     if let Some(uses) = &second.uses {
-        telling.statement(", and comes by the ", uses, "");
-        telling.point(" at ", uses, "");
+        telling.statement_at(", and comes by the ", uses, "");
     }
     telling.say(":");
     telling.show(&second.node);

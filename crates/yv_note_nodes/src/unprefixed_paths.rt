@@ -2,51 +2,33 @@
 use crate::nodes::{Steps, Way, follow};
 use std::alloc::{AllocError, Global};
 use yv_link_scopes::prefix_of;
-use yv_note_statements::{Message, Site};
+use yv_note_statements::{Message, Site, Sites};
 
 /// How many imports of a file are tried.
 const MOST_TRIED: usize = 8;
 
 // The modules that the file of a statement imports, by their `prefix` statements.
 fn imports_of<'s, 'a>(alloc: Global, site: &Site<'s, 'a>) -> Result<Vec<Site<'s, 'a>>, AllocError> {
-    let mut prefixes = Vec::new(alloc);
-    for number in 0..site.entries.len() {
-        if prefixes.len() >= MOST_TRIED {
-            break;
-        }
-        match Site::at(site.entries, number) {
-            Some(prefix) if is_import_of(&prefix, site) => prefixes.push(prefix)?,
-            _ => {}
-        }
-    }
-    Ok(prefixes)
+    Sites::all(site.entries)
+        .filter(|prefix| is_import_of(prefix, site))
+        .take(MOST_TRIED)
+        .collect(alloc)
 }
 
 // Whether a statement is the `prefix` of an `import` in the file of another one.
 fn is_import_of(prefix: &Site<'_, '_>, site: &Site<'_, '_>) -> bool {
-    if !prefix.is("prefix") || prefix.entry.file != site.entry.file {
-        return false;
-    }
-    match prefix.parent() {
-        Some(parent) => parent.is("import"),
-        None => false,
-    }
+    prefix.is("prefix") && prefix.is_beside(site) && prefix.is_in("import")
 }
 
 // Whether a step of a path has no prefix.
 fn has_plain_step(path: &str) -> bool {
-    for step in path.split('/') {
-        if !step.is_empty() && prefix_of(step).is_none() {
-            return true;
-        }
-    }
-    false
+    path.split('/')
+        .any(|step| !step.is_empty() && prefix_of(step).is_none())
 }
 
 /// Adds how an absolute path is written, if it leads to a node of an imported module whose prefix
 /// its steps lack.
 pub(crate) fn say_prefixed<'a>(
-    alloc: Global,
     telling: &mut Message<'a>,
     site: &Site<'_, 'a>,
     path: &'a str,
@@ -55,11 +37,11 @@ pub(crate) fn say_prefixed<'a>(
     if !has_plain_step(path) {
         return Ok(());
     }
-    for prefix in imports_of(alloc, site)?.iter() {
+    for prefix in imports_of(telling.alloc(), site)?.iter() {
         let Some(module) = prefix.meaning() else {
             continue;
         };
-        if let Way::To(_) = follow(alloc, &module, path, steps)? {
+        if let Way::To(_) = follow(telling.alloc(), &module, path, steps)? {
             say_path(telling, prefix.argument(), path);
             return Ok(());
         }

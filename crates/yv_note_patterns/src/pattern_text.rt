@@ -5,13 +5,9 @@ use yv_note_statements::Message;
 use yv_statement::Code;
 
 /// Adds what of a pattern is not supported, at which character, and what to write.
-pub fn tell_pattern<'a>(
-    alloc: Global,
-    telling: &mut Message<'a>,
-    text: &'a str,
-) -> Result<(), AllocError> {
+pub fn tell_pattern<'a>(telling: &mut Message<'a>, text: &'a str) -> Result<(), AllocError> {
     telling.sentence(Code::BadPattern);
-    if let Some(flaw) = flaw_of(alloc, text)? {
+    if let Some(flaw) = flaw_of(telling.alloc(), text)? {
         telling.quote(
             " The reason is ",
             part_of(text, flaw.start, flaw.size).unwrap_or(text),

@@ -1,20 +1,13 @@
 //! The nodes above a statement.
-use crate::site::{Site, next_site};
+use crate::site::Site;
+use crate::sites::Sites;
 
 /// How many nodes above one are looked at.
 const MOST_STEPS: usize = 64;
 
-/// The next `uses` of a grouping, from a statement on.
-pub fn next_uses<'s, 'a>(grouping: &Site<'s, 'a>, from: usize) -> Option<Site<'s, 'a>> {
-    let mut from = from;
-    for _ in 0..grouping.entries.len() {
-        let uses = next_site(grouping.entries, "uses", from)?;
-        if uses.means(grouping.number) {
-            return Some(uses);
-        }
-        from = uses.number.saturating_add(1);
-    }
-    None
+// The first `uses` of a grouping.
+fn first_uses<'s, 'a>(grouping: &Site<'s, 'a>) -> Option<Site<'s, 'a>> {
+    Sites::all(grouping.entries).find(|site| site.is_use_of(grouping))
 }
 
 /// The data node above a node: of one in a grouping that above its first `uses`. None for a node at
@@ -24,7 +17,7 @@ pub fn node_above<'s, 'a>(node: &Site<'s, 'a>) -> Option<Site<'s, 'a>> {
     for _ in 0..MOST_STEPS {
         match at.keyword() {
             "choice" | "case" => at = at.parent()?,
-            "grouping" => at = next_uses(&at, 0)?.parent()?,
+            "grouping" => at = first_uses(&at)?.parent()?,
             "module" | "submodule" => return None,
             _ => return Some(at),
         }

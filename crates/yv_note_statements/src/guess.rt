@@ -2,6 +2,7 @@
 use crate::entry::StatementEntry;
 use crate::pieces::Message;
 use crate::site::Site;
+use crate::sites::Sites;
 use yv_link_scopes::local;
 use yv_note_text::{Likeness, compare};
 
@@ -36,22 +37,18 @@ impl<'n> Guess<'n> {
     }
 }
 
-/// The word of a list that is most like one that was written.
-pub fn nearest_word(written: &str, words: &[&'static str]) -> Option<Guess<'static>> {
-    let mut nearest = None;
-    for word in words {
-        nearest = Guess::nearer(nearest, Guess::of(written, word, None));
-    }
-    nearest
+/// The one of these words, between which are blanks, that is most like one that was written.
+pub fn nearest_word(written: &str, words: &'static str) -> Option<Guess<'static>> {
+    words.split_whitespace().fold(None, |nearest, word| {
+        Guess::nearer(nearest, Guess::of(written, word, None))
+    })
 }
 
 /// The statement whose argument is most like a name that was written.
 pub fn nearest_site<'a>(written: &str, sites: &[Site<'_, 'a>]) -> Option<Guess<'a>> {
-    let mut nearest = None;
-    for site in sites {
-        nearest = Guess::nearer(nearest, Guess::of(written, site.name(), Some(site.number)));
-    }
-    nearest
+    sites.iter().fold(None, |nearest, site| {
+        Guess::nearer(nearest, Guess::of(written, site.name(), Some(site.number)))
+    })
 }
 
 /// The definition of this keyword whose name is most like one that was written.
@@ -60,14 +57,12 @@ pub fn nearest_definition<'a>(
     keyword: &str,
     written: &str,
 ) -> Option<Guess<'a>> {
-    let mut nearest = None;
-    for (number, entry) in entries.iter().enumerate() {
-        if entry.keyword == keyword {
-            let name = entry.argument.unwrap_or("");
-            nearest = Guess::nearer(nearest, Guess::of(local(written), name, Some(number)));
-        }
-    }
-    nearest
+    Sites::all(entries)
+        .filter(|site| site.is(keyword))
+        .fold(None, |nearest, site| {
+            let guess = Guess::of(local(written), site.argument(), Some(site.number));
+            Guess::nearer(nearest, guess)
+        })
 }
 
 /// Adds a guess, if there is one.

@@ -10,8 +10,9 @@ mod pieces;
 mod ring;
 mod sentences;
 mod site;
+mod sites;
 
-pub use ancestors::{next_uses, node_above, state_above};
+pub use ancestors::{node_above, state_above};
 pub use entry::{StatementEntry, entries};
 pub use guess::{Guess, nearest_definition, nearest_site, nearest_word, say_guess};
 pub use meanings::{
@@ -20,4 +21,5 @@ pub use meanings::{
 pub use pieces::{Message, push_around, push_plain};
 pub use ring::say_ring;
 pub use sentences::{Sentence, sentence_of};
-pub use site::{Site, all_sites, is_among, named_in_file, next_in_file};
+pub use site::{Site, first_in_file, is_among, named_in_file};
+pub use sites::{Children, Sites};

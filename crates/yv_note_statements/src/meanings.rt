@@ -1,5 +1,6 @@
 //! What names mean in the statements of the files.
 use crate::site::{Site, named_in_file};
+use crate::sites::Sites;
 use std::alloc::{AllocError, Global};
 use yv_link_scopes::{local, prefix_of};
 
@@ -49,13 +50,10 @@ const MOST_WORDS: usize = 64;
 
 /// The names in a path, a key or an expression: its first 64.
 pub fn words_of<'a>(alloc: Global, text: &'a str) -> Result<Vec<&'a str>, AllocError> {
-    let mut words = Vec::new(alloc);
-    for word in text.split(is_between) {
-        if words.len() < MOST_WORDS && !word.is_empty() {
-            words.push(word)?;
-        }
-    }
-    Ok(words)
+    text.split(is_between)
+        .filter(|word| !word.is_empty())
+        .take(MOST_WORDS)
+        .collect(alloc)
 }
 
 // Whether a character separates names.
@@ -78,13 +76,8 @@ pub fn prefix_of_module<'a>(site: &Site<'_, 'a>, other: &Site<'_, 'a>) -> Option
     if site.module()?.number == module.number {
         return Some("");
     }
-    for entry in site.entries {
-        if entry.file == site.entry.file
-            && entry.keyword == "prefix"
-            && entry.meaning == Some(module.number)
-        {
-            return entry.argument;
-        }
-    }
-    None
+    let declaration = Sites::all(site.entries).find(|other| {
+        other.is("prefix") && other.is_beside(site) && other.means(module.number)
+    })?;
+    declaration.entry.argument
 }

@@ -49,6 +49,11 @@ impl<'w> Message<'w> {
         }
     }
 
+    /// Where the pieces are kept, and what else is needed to tell a refusal.
+    pub fn alloc(&self) -> Global {
+        *self.before.allocator()
+    }
+
     fn keep(&mut self, piece: Piece<'w>) -> Result<(), AllocError> {
         if self.has_subject {
             self.after.push(piece)?;
@@ -163,6 +168,12 @@ impl<'w> Message<'w> {
         self.head(before, site.keyword(), site.entry.argument, after);
     }
 
+    /// The same with the file and the line of the statement behind its name.
+    pub fn statement_at(&mut self, before: &'w str, site: &Site<'_, 'w>, after: &'w str) {
+        self.statement(before, site, " at ");
+        self.point("", site, after);
+    }
+
     /// Adds a keyword and an argument, if there is one, with these words before and after them.
     pub fn head(
         &mut self,
@@ -191,12 +202,7 @@ impl<'w> Message<'w> {
 }
 
 // Adds a piece.
-fn push_piece(
-    alloc: Global,
-    text: &mut String,
-    inputs: &[Input],
-    piece: &Piece<'_>,
-) -> Result<(), AllocError>
+fn push_piece(text: &mut String, inputs: &[Input], piece: &Piece<'_>) -> Result<(), AllocError>
     ensures { OnOk result (Extends (string_bytes text.old) (string_bytes text.new)) }
 {
     match piece {
@@ -205,10 +211,10 @@ fn push_piece(
         Piece::Joined(one, mark, rest) => push_joined(text, one, mark, rest),
         Piece::Part(part) => push_shown(text, front(part.as_bytes())),
         Piece::Statement(keyword, name) => push_statement(text, keyword, name),
-        Piece::Number(number) => push_number(alloc, text, *number),
+        Piece::Number(number) => push_number(text, *number),
         Piece::CodePoint(character) => push_code_point(text, *character),
-        Piece::Line(file, line) => push_line(alloc, text, inputs, *file, *line),
-        Piece::Excerpt(file, offset) => push_excerpt(alloc, text, inputs, *file, *offset),
+        Piece::Line(file, line) => push_line(text, inputs, *file, *line),
+        Piece::Excerpt(file, offset) => push_excerpt(text, inputs, *file, *offset),
     }
 }
 
@@ -233,10 +239,10 @@ fn push_statement(text: &mut String, keyword: &str, name: &str) -> Result<(), Al
 }
 
 // Adds a number with a comma before each three digits.
-fn push_number(alloc: Global, text: &mut String, number: u64) -> Result<(), AllocError>
+fn push_number(text: &mut String, number: u64) -> Result<(), AllocError>
     ensures { OnOk result (Extends (string_bytes text.old) (string_bytes text.new)) }
 {
-    let digits = format!(in alloc; "{number}")?;
+    let digits = format!(in *text.allocator(); "{number}")?;
     let count = digits.len();
     for (place, digit) in digits.chars().enumerate() {
         let left = count.saturating_sub(place);
@@ -249,25 +255,18 @@ fn push_number(alloc: Global, text: &mut String, number: u64) -> Result<(), Allo
 }
 
 // Adds the name of a file and a line of it.
-fn push_line(
-    alloc: Global,
-    text: &mut String,
-    inputs: &[Input],
-    file: u32,
-    line: u64,
-) -> Result<(), AllocError>
+fn push_line(text: &mut String, inputs: &[Input], file: u32, line: u64) -> Result<(), AllocError>
     ensures { OnOk result (Extends (string_bytes text.old) (string_bytes text.new)) }
 {
     if let Some(input) = inputs.get(file as usize) {
         push_shown(text, input.name.as_bytes())?;
     }
-    let place = format!(in alloc; ":{line}")?;
+    let place = format!(in *text.allocator(); ":{line}")?;
     text.push_str(place.as_str())
 }
 
 // Adds a line of a file with a caret under this offset.
 fn push_excerpt(
-    alloc: Global,
     text: &mut String,
     inputs: &[Input],
     file: u32,
@@ -275,6 +274,7 @@ fn push_excerpt(
 ) -> Result<(), AllocError>
     ensures { OnOk result (Extends (string_bytes text.old) (string_bytes text.new)) }
 {
+    let alloc = *text.allocator();
     let Some(input) = inputs.get(file as usize) else {
         return Ok(());
     };
@@ -284,23 +284,17 @@ fn push_excerpt(
     text.push_str(shown.trim_end())
 }
 
-fn push_pieces(
-    alloc: Global,
-    text: &mut String,
-    inputs: &[Input],
-    pieces: &[Piece<'_>],
-) -> Result<(), AllocError>
+fn push_pieces(text: &mut String, inputs: &[Input], pieces: &[Piece<'_>]) -> Result<(), AllocError>
     ensures { OnOk result (Extends (string_bytes text.old) (string_bytes text.new)) }
 {
     for piece in pieces {
-        push_piece(alloc, text, inputs, piece)?;
+        push_piece(text, inputs, piece)?;
     }
     Ok(())
 }
 
 /// Adds what is said of a refusal that is about a word.
 pub fn push_around(
-    alloc: Global,
     text: &mut String,
     inputs: &[Input],
     telling: &Message<'_>,
@@ -309,22 +303,21 @@ pub fn push_around(
     ensures grows { OnOk result (Extends (string_bytes text.old) (string_bytes text.new)) }
     ensures names { OnOk result (Quotes word.now (string_bytes text.new)) }
 {
-    push_pieces(alloc, text, inputs, &telling.before)?;
+    push_pieces(text, inputs, &telling.before)?;
     push_quoted(text, word)?;
-    push_pieces(alloc, text, inputs, &telling.after)?;
+    push_pieces(text, inputs, &telling.after)?;
     Ok(())
 }
 
 /// Adds what is said of a refusal that is about no word.
 pub fn push_plain(
-    alloc: Global,
     text: &mut String,
     inputs: &[Input],
     telling: &Message<'_>,
 ) -> Result<(), AllocError>
     ensures { OnOk result (Extends (string_bytes text.old) (string_bytes text.new)) }
 {
-    push_pieces(alloc, text, inputs, &telling.before)?;
-    push_pieces(alloc, text, inputs, &telling.after)?;
+    push_pieces(text, inputs, &telling.before)?;
+    push_pieces(text, inputs, &telling.after)?;
     Ok(())
 }

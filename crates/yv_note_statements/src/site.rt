@@ -1,5 +1,6 @@
 //! A statement of the files, and the statements around it and in it.
 use crate::entry::StatementEntry;
+use crate::sites::{Children, Sites};
 use std::alloc::{AllocError, Global};
 use yv_link_scopes::local;
 
@@ -31,10 +32,7 @@ impl<'s, 'a> Site<'s, 'a> {
 
     /// The argument; no text, if there is none.
     pub fn argument(&self) -> &'a str {
-        match self.entry.argument {
-            Some(argument) => argument,
-            None => "",
-        }
+        self.entry.argument.unwrap_or("")
     }
 
     /// The argument without a prefix.
@@ -52,6 +50,11 @@ impl<'s, 'a> Site<'s, 'a> {
         self.entry.is_root
     }
 
+    /// Whether it is in the file of another statement.
+    pub fn is_beside(&self, other: &Site<'_, '_>) -> bool {
+        self.entry.file == other.entry.file
+    }
+
     /// The statement that the argument means.
     pub fn meaning(&self) -> Option<Site<'s, 'a>> {
         Site::at(self.entries, self.entry.meaning?)
@@ -59,10 +62,12 @@ impl<'s, 'a> Site<'s, 'a> {
 
     /// Whether the argument means the statement of this number.
     pub fn means(&self, number: usize) -> bool {
-        match self.entry.meaning {
-            Some(meaning) => meaning == number,
-            None => false,
-        }
+        self.entry.meaning == Some(number)
+    }
+
+    /// Whether it is a `uses` of a grouping.
+    pub fn is_use_of(&self, grouping: &Site<'_, '_>) -> bool {
+        self.is("uses") && self.means(grouping.number)
     }
 
     /// The root of its file.
@@ -88,33 +93,25 @@ impl<'s, 'a> Site<'s, 'a> {
         }
     }
 
-    /// The next statement of its block after this number.
-    pub fn next_child(&self, after: usize) -> Option<Site<'s, 'a>> {
-        let first = after.max(self.number).saturating_add(1);
-        for number in first..self.entries.len() {
-            let child = Site::at(self.entries, number)?;
-            if child.entry.scope == self.number {
-                return Some(child);
-            }
-            if child.entry.scope < self.number && !self.is_root() {
-                return None;
-            }
-        }
-        None
+    /// Whether it is right in the block of another statement, in its own file.
+    pub fn is_right_in(&self, other: &Site<'_, '_>) -> bool {
+        self.parent()
+            .is_some_and(|parent| parent.number == other.number)
+    }
+
+    /// Whether it is in the block of a statement of this keyword.
+    pub fn is_in(&self, keyword: &str) -> bool {
+        self.parent().is_some_and(|parent| parent.is(keyword))
+    }
+
+    /// Whether a statement is in its block, or is the first behind it.
+    pub(crate) fn is_left(&self, entry: &StatementEntry<'_>) -> bool {
+        entry.scope == self.number || (entry.scope < self.number && !self.is_root())
     }
 
     /// The statements of its block, in order.
-    pub fn children(&self, alloc: Global) -> Result<Vec<Site<'s, 'a>>, AllocError> {
-        let mut children = Vec::new(alloc);
-        let mut after = self.number;
-        for _ in 0..self.entries.len() {
-            let Some(child) = self.next_child(after) else {
-                break;
-            };
-            after = child.number;
-            children.push(child)?;
-        }
-        Ok(children)
+    pub fn children(&self) -> Children<'s, 'a> {
+        Children::of(*self)
     }
 
     /// The statements of its block with this keyword, in order.
@@ -123,83 +120,32 @@ impl<'s, 'a> Site<'s, 'a> {
         alloc: Global,
         keyword: &str,
     ) -> Result<Vec<Site<'s, 'a>>, AllocError> {
-        let mut children = Vec::new(alloc);
-        for child in self.children(alloc)?.iter() {
-            if child.is(keyword) {
-                children.push(*child)?;
-            }
-        }
-        Ok(children)
-    }
-
-    /// The next statement of its block after this number with this keyword.
-    pub fn next_of(&self, keyword: &str, after: usize) -> Option<Site<'s, 'a>> {
-        let mut after = after;
-        for _ in 0..self.entries.len() {
-            let child = self.next_child(after)?;
-            if child.is(keyword) {
-                return Some(child);
-            }
-            after = child.number;
-        }
-        None
+        self.children()
+            .filter(|child| child.is(keyword))
+            .collect(alloc)
     }
 
     /// The first statement of its block with this keyword.
     pub fn child(&self, keyword: &str) -> Option<Site<'s, 'a>> {
-        self.next_of(keyword, self.number)
+        self.children().find(|child| child.is(keyword))
     }
 
     /// The first statement of its block with this keyword and this argument.
     pub fn child_named(&self, keyword: &str, name: &str) -> Option<Site<'s, 'a>> {
-        let mut after = self.number;
-        for _ in 0..self.entries.len() {
-            let child = self.next_of(keyword, after)?;
-            if child.argument() == name {
-                return Some(child);
-            }
-            after = child.number;
-        }
-        None
+        self.children()
+            .find(|child| child.is(keyword) && child.argument() == name)
     }
 
     /// Whether a statement of its block says this.
     pub fn says(&self, keyword: &str, argument: &str) -> bool {
-        match self.child(keyword) {
-            Some(child) => child.argument() == argument,
-            None => false,
-        }
+        self.child(keyword)
+            .is_some_and(|child| child.argument() == argument)
     }
 }
 
-/// The first statement of this keyword from this number on.
-pub(crate) fn next_site<'s, 'a>(
-    entries: &'s [StatementEntry<'a>],
-    keyword: &str,
-    from: usize,
-) -> Option<Site<'s, 'a>> {
-    for number in from..entries.len() {
-        let site = Site::at(entries, number)?;
-        if site.is(keyword) {
-            return Some(site);
-        }
-    }
-    None
-}
-
-/// The first statement of this keyword from this number on in the file of another statement.
-pub fn next_in_file<'s, 'a>(
-    site: &Site<'s, 'a>,
-    keyword: &str,
-    from: usize,
-) -> Option<Site<'s, 'a>> {
-    for number in from..site.entries.len() {
-        let next = Site::at(site.entries, number)?;
-        if next.is(keyword) && next.entry.file == site.entry.file {
-            return Some(next);
-        }
-    }
-    None
+/// The first statement of this keyword in the file of another statement.
+pub fn first_in_file<'s, 'a>(site: &Site<'s, 'a>, keyword: &str) -> Option<Site<'s, 'a>> {
+    Sites::all(site.entries).find(|other| other.is(keyword) && other.is_beside(site))
 }
 
 /// The first statement of this keyword and this argument in the file of another statement.
@@ -208,39 +154,12 @@ pub fn named_in_file<'s, 'a>(
     keyword: &str,
     name: &str,
 ) -> Option<Site<'s, 'a>> {
-    let mut from = 0;
-    for _ in 0..site.entries.len() {
-        let next = next_in_file(site, keyword, from)?;
-        if next.argument() == name {
-            return Some(next);
-        }
-        from = next.number.saturating_add(1);
-    }
-    None
+    Sites::all(site.entries).find(|other| other.is(keyword)
+        && other.is_beside(site)
+        && other.argument() == name)
 }
 
-/// All statements of this keyword.
-pub fn all_sites<'s, 'a>(
-    alloc: Global,
-    entries: &'s [StatementEntry<'a>],
-    keyword: &str,
-) -> Result<Vec<Site<'s, 'a>>, AllocError> {
-    let mut sites = Vec::new(alloc);
-    for number in 0..entries.len() {
-        match Site::at(entries, number) {
-            Some(site) if site.is(keyword) => sites.push(site)?,
-            _ => {}
-        }
-    }
-    Ok(sites)
-}
-
-/// Whether a word is one of these.
-pub fn is_among(word: &str, words: &[&str]) -> bool {
-    for one in words {
-        if *one == word {
-            return true;
-        }
-    }
-    false
+/// Whether a word is one of these, between which are blanks.
+pub fn is_among(word: &str, words: &str) -> bool {
+    words.split_whitespace().any(|one| one == word)
 }

@@ -4,32 +4,10 @@ use yv_note_statements::{Message, Site, is_among};
 use yv_note_text::has_curly_quote;
 
 // The statements whose argument is a name without a prefix.
-static NAMED: &[&str] = &[
-    "module",
-    "submodule",
-    "belongs-to",
-    "import",
-    "include",
-    "leaf",
-    "leaf-list",
-    "typedef",
-    "prefix",
-    "container",
-    "list",
-    "choice",
-    "case",
-    "anydata",
-    "anyxml",
-    "grouping",
-    "rpc",
-    "action",
-    "notification",
-    "identity",
-    "feature",
-    "extension",
-    "argument",
-    "bit",
-];
+static NAMED: &str =
+    "module submodule belongs-to import include leaf leaf-list typedef prefix container list \
+    choice case anydata anyxml grouping rpc action notification identity feature extension \
+    argument bit";
 
 // What is said after an argument that doesn't have the form that statements of this keyword need.
 fn form_of(keyword: &str) -> &'static str {

@@ -17,7 +17,6 @@ struct Place<'a> {
 
 /// Adds why no statement goes on after the front of a file.
 pub(crate) fn tell_syntax<'a>(
-    alloc: Global,
     telling: &mut Message<'a>,
     file: u32,
     front: &'a [u8],
@@ -25,7 +24,7 @@ pub(crate) fn tell_syntax<'a>(
 ) -> Result<(), AllocError> {
     let place = Place {
         file,
-        outline: Outline::read(alloc, front)?,
+        outline: Outline::read(telling.alloc(), front)?,
         rest,
     };
     match (place.outline.unfinished, rest.first()) {

@@ -43,7 +43,6 @@ fn tell_character(telling: &mut Message<'_>, rest: &[u8]) {
 
 // Adds what is wrong at a place of a file that can't be read.
 fn tell_unread<'a>(
-    alloc: Global,
     telling: &mut Message<'a>,
     bytes: &'a [u8],
     refusal: &Refusal,
@@ -52,9 +51,9 @@ fn tell_unread<'a>(
     let (front, rest) = bytes.split_at(place.min(bytes.len()));
     match refusal.code {
         Code::BadCharacter => tell_character(telling, rest),
-        Code::BadToken => return tell_token(alloc, telling, front, rest),
+        Code::BadToken => return tell_token(telling, front, rest),
         Code::BadEscape => tell_escape(telling, rest),
-        Code::BadSyntax => return tell_syntax(alloc, telling, refusal.file, front, rest),
+        Code::BadSyntax => return tell_syntax(telling, refusal.file, front, rest),
         code => telling.sentence(code),
     }
     telling.say(match refusal.code {
@@ -76,7 +75,7 @@ pub fn push_unread(
     ensures { OnOk result (Extends (string_bytes text.old) (string_bytes text.new)) }
 {
     let mut telling = Message::new(alloc);
-    tell_unread(alloc, &mut telling, bytes, refusal)?;
+    tell_unread(&mut telling, bytes, refusal)?;
     telling.outcome()?;
-    push_plain(alloc, text, inputs, &telling)
+    push_plain(text, inputs, &telling)
 }

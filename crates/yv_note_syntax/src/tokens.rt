@@ -7,7 +7,6 @@ use yv_note_text::has_curly_quote;
 
 /// Adds why no token begins at a place, by what is before it and by the rest of the file.
 pub(crate) fn tell_token<'a>(
-    alloc: Global,
     telling: &mut Message<'a>,
     front: &'a [u8],
     rest: &'a [u8],
@@ -15,7 +14,7 @@ pub(crate) fn tell_token<'a>(
     match rest {
         [b'/', b'*', ..] => telling.say("This comment is not closed: it needs a `*/` at its end."),
         [b'*', b'/', ..] => telling.say("This `*/` closes no comment; comments do not nest."),
-        [quote, after @ ..] => match word_before(alloc, front)? {
+        [quote, after @ ..] => match word_before(telling.alloc(), front)? {
             Some(word) => telling.quote(
                 "This quote directly follows the unquoted text ",
                 text_of(word),

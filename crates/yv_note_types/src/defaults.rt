@@ -1,33 +1,29 @@
 //! Defaults of leafs and leaf-lists.
 use crate::values::{are_same, is_no_value, say_values};
 use std::alloc::{AllocError, Global};
-use yv_note_statements::{Message, Site, all_sites, chain, last_step, state_above};
+use yv_note_statements::{Message, Site, Sites, chain, last_step, state_above};
 use yv_statement::Code;
 
 /// How many defaults a leaf-list has at most.
 const MOST_DEFAULTS: usize = 1024;
 
 /// Adds what is wrong with the defaults of a leaf or a leaf-list.
-pub fn tell_default<'a>(
-    alloc: Global,
-    telling: &mut Message<'a>,
-    site: &Site<'_, 'a>,
-) -> Result<(), AllocError> {
+pub fn tell_default<'a>(telling: &mut Message<'a>, site: &Site<'_, 'a>) -> Result<(), AllocError> {
     let Some(own_type) = site.child("type") else {
         telling.sentence(Code::BadDefault);
         return Ok(());
     };
-    let types = chain(alloc, &own_type)?;
-    let defaults = defaults_of(alloc, site, &types)?;
+    let types = chain(telling.alloc(), &own_type)?;
+    let defaults = defaults_of(telling.alloc(), site, &types)?;
     if is_leafref(&types) {
         telling.subject("The leafref ", " has a default, which is not supported.");
         say_first(telling, &defaults);
         return Ok(());
     }
     match defaults.as_slice() {
-        [] => return say_refined(alloc, telling, site, &types),
-        [only] => return tell_value(alloc, telling, site, only, &types),
-        _ => return tell_values(alloc, telling, site, &defaults, &types),
+        [] => return say_refined(telling, site, &types),
+        [only] => return tell_value(telling, site, only, &types),
+        _ => return tell_values(telling, site, &defaults, &types),
     }
     Ok(())
 }
@@ -48,7 +44,6 @@ fn say_first<'a>(telling: &mut Message<'a>, defaults: &[Site<'_, 'a>]) {
 
 // Adds that a default comes by a `refine`, and which one this can be.
 fn say_refined<'a>(
-    alloc: Global,
     telling: &mut Message<'a>,
     site: &Site<'_, 'a>,
     types: &[Site<'_, 'a>],
@@ -64,16 +59,21 @@ fn say_refined<'a>(
             " a default that is not one of its values.",
         );
     }
-    for refine in all_sites(alloc, site.entries, "refine")?.iter() {
-        if last_step(refine.argument()) == site.argument() {
-            if let Some(default) = refine.child("default") {
-                telling.quote(" The default ", default.argument(), "");
-                telling.point(" is at ", &default, ".");
-                return say_values(alloc, telling, types, &default);
-            }
+    match refined_default(site) {
+        Some(default) => {
+            telling.quote(" The default ", default.argument(), "");
+            telling.point(" is at ", &default, ".");
+            say_values(telling, types, &default)
         }
+        None => Ok(()),
     }
-    Ok(())
+}
+
+// The first default that a `refine` gives a node of the name of this one.
+fn refined_default<'s, 'a>(node: &Site<'s, 'a>) -> Option<Site<'s, 'a>> {
+    Sites::all(node.entries)
+        .filter(|site| site.is("refine") && last_step(site.argument()) == node.argument())
+        .find_map(|refine| refine.child("default"))
 }
 
 // The defaults of a leaf or a leaf-list: its own, or that of the nearest typedef that has one.
@@ -93,11 +93,9 @@ fn defaults_of<'s, 'a>(
 
 // The default of the nearest typedef that has one.
 fn type_default<'s, 'a>(types: &[Site<'s, 'a>]) -> Option<Site<'s, 'a>> {
-    for (place, site) in types.iter().enumerate() {
-        if place > 0 {
-            if let Some(default) = site.parent()?.child("default") {
-                return Some(default);
-            }
+    for site in types.iter().skip(1) {
+        if let Some(default) = site.parent()?.child("default") {
+            return Some(default);
         }
     }
     None
@@ -105,7 +103,6 @@ fn type_default<'s, 'a>(types: &[Site<'s, 'a>]) -> Option<Site<'s, 'a>> {
 
 // Adds that the only default is not a value.
 fn tell_value<'a>(
-    alloc: Global,
     telling: &mut Message<'a>,
     node: &Site<'_, 'a>,
     default: &Site<'_, 'a>,
@@ -116,12 +113,11 @@ fn tell_value<'a>(
         telling.point(" of the typedef at ", default, "");
     }
     telling.subject(" is not a value of ", ".");
-    say_values(alloc, telling, types, default)
+    say_values(telling, types, default)
 }
 
 // Adds which of several defaults is not a value, or which two are the same.
 fn tell_values<'a>(
-    alloc: Global,
     telling: &mut Message<'a>,
     node: &Site<'_, 'a>,
     defaults: &[Site<'_, 'a>],
@@ -140,7 +136,7 @@ fn tell_values<'a>(
         telling.quote("The default ", default.argument(), "");
         telling.point(" at ", &default, "");
         telling.subject(" is not a value of ", ".");
-        return say_values(alloc, telling, types, &default);
+        return say_values(telling, types, &default);
     }
     match first_repeated(types, defaults) {
         Some((first, second)) if state_above(node).is_none() => {
@@ -159,12 +155,11 @@ const MOST_READ: usize = 32;
 
 // The first of these defaults that is surely not a value.
 fn first_unread<'s, 'a>(types: &[Site<'s, 'a>], defaults: &[Site<'s, 'a>]) -> Option<Site<'s, 'a>> {
-    for default in defaults.iter().take(MOST_READ) {
-        if is_no_value(types, default.argument()) {
-            return Some(*default);
-        }
-    }
-    None
+    defaults
+        .iter()
+        .copied()
+        .take(MOST_READ)
+        .find(|default| is_no_value(types, default.argument()))
 }
 
 // The first of these defaults that is the same value as one before it, after that one.
@@ -187,12 +182,11 @@ fn first_same<'s, 'a>(
     count: usize,
     value: &str,
 ) -> Option<Site<'s, 'a>> {
-    for default in defaults.iter().take(count) {
-        if are_same(types, default.argument(), value) {
-            return Some(*default);
-        }
-    }
-    None
+    defaults
+        .iter()
+        .copied()
+        .take(count)
+        .find(|default| are_same(types, default.argument(), value))
 }
 
 // Adds that two defaults are the same value.

@@ -23,12 +23,10 @@ fn number_after(site: &Site<'_, '_>, highest: Option<i64>) -> i64 {
 
 // The item of this name before a statement.
 fn item_named<'s, 'a>(items: &[Site<'s, 'a>], name: &str, end: usize) -> Option<Site<'s, 'a>> {
-    for item in items {
-        if item.number < end && item.argument() == name {
-            return Some(*item);
-        }
-    }
-    None
+    items
+        .iter()
+        .copied()
+        .find(|item| item.number < end && item.argument() == name)
 }
 
 // The highest number of items before a statement.
@@ -63,37 +61,32 @@ fn item_numbered<'s, 'a>(items: &[Site<'s, 'a>], number: i64, end: usize) -> Opt
 }
 
 /// Adds what is wrong with an item of an enumeration or of bits.
-pub fn tell_item<'a>(
-    alloc: Global,
-    telling: &mut Message<'a>,
-    site: &Site<'_, 'a>,
-) -> Result<(), AllocError> {
+pub fn tell_item<'a>(telling: &mut Message<'a>, site: &Site<'_, 'a>) -> Result<(), AllocError> {
     telling.subject_statement(site, "");
     let Some(parent) = site.parent() else {
         telling.say(" is wrong.");
         return Ok(());
     };
-    let chain = chain(alloc, &parent)?;
+    let chain = chain(telling.alloc(), &parent)?;
     match base_with(&chain, site.keyword(), parent.number) {
         Some(base) => say_in_base(
             telling,
             &base,
-            &base.children_of(alloc, site.keyword())?,
+            &base.children_of(telling.alloc(), site.keyword())?,
             site,
         ),
-        None => say_in_type(telling, &parent.children_of(alloc, site.keyword())?, site),
+        None => say_in_type(
+            telling,
+            &parent.children_of(telling.alloc(), site.keyword())?,
+            site,
+        ),
     }
     Ok(())
 }
 
 // The nearest type with items in a chain of types, except this one.
 fn base_with<'s, 'a>(chain: &[Site<'s, 'a>], keyword: &str, except: usize) -> Option<Site<'s, 'a>> {
-    for site in chain {
-        if site.number != except && site.child(keyword).is_some() {
-            return Some(*site);
-        }
-    }
-    None
+    chain.iter().copied().find(|site| site.number != except && site.child(keyword).is_some())
 }
 
 // Adds what is wrong with an item among those before it.

@@ -77,10 +77,8 @@ impl<'a> Reading<'a> {
     /// Whether a number is in a part of a restriction that is read like this.
     pub(crate) fn is_in(&self, restriction: &'a str, number: Integer) -> bool {
         for written in restriction.split('|') {
-            if let Some(part) = self.part(written) {
-                if part.has(number) {
-                    return true;
-                }
+            if self.part(written).is_some_and(|part| part.has(number)) {
+                return true;
             }
         }
         false
@@ -180,12 +178,11 @@ fn narrow<'a>(reading: Reading<'a>, restriction: Option<Site<'_, 'a>>) -> Readin
 
 /// Adds what is wrong with a `range` or a `length`.
 pub fn tell_restriction<'a>(
-    alloc: Global,
     telling: &mut Message<'a>,
     site: &Site<'_, 'a>,
 ) -> Result<(), AllocError> {
     telling.subject_statement(site, " is wrong.");
-    if let Some(reading) = reading_of(alloc, site)? {
+    if let Some(reading) = reading_of(telling.alloc(), site)? {
         say_parts(telling, site, &reading);
     }
     Ok(())

@@ -6,98 +6,87 @@ use yv_statement::Code;
 // Built-in types, the substatements that they can have as far as these restrict values, and the one
 // that a use of them needs.
 struct BuiltIn {
-    names: &'static [&'static str],
-    allowed: &'static [&'static str],
+    names: &'static str,
+    allowed: &'static str,
     needed: Option<&'static str>,
 }
 
 static BUILT_IN: &[BuiltIn] = &[
     BuiltIn {
-        names: &["string"],
-        allowed: &["length", "pattern"],
+        names: "string",
+        allowed: "length pattern",
         needed: None,
     },
     BuiltIn {
-        names: &["binary"],
-        allowed: &["length"],
+        names: "binary",
+        allowed: "length",
         needed: None,
     },
     BuiltIn {
-        names: &[
-            "int8", "int16", "int32", "int64", "uint8", "uint16", "uint32", "uint64",
-        ],
-        allowed: &["range"],
+        names: "int8 int16 int32 int64 uint8 uint16 uint32 uint64",
+        allowed: "range",
         needed: None,
     },
     BuiltIn {
-        names: &["decimal64"],
-        allowed: &["fraction-digits", "range"],
+        names: "decimal64",
+        allowed: "fraction-digits range",
         needed: Some("fraction-digits"),
     },
     BuiltIn {
-        names: &["enumeration"],
-        allowed: &["enum"],
+        names: "enumeration",
+        allowed: "enum",
         needed: Some("enum"),
     },
     BuiltIn {
-        names: &["bits"],
-        allowed: &["bit"],
+        names: "bits",
+        allowed: "bit",
         needed: Some("bit"),
     },
     BuiltIn {
-        names: &["leafref"],
-        allowed: &["path", "require-instance"],
+        names: "leafref",
+        allowed: "path require-instance",
         needed: Some("path"),
     },
     BuiltIn {
-        names: &["identityref"],
-        allowed: &["base"],
+        names: "identityref",
+        allowed: "base",
         needed: Some("base"),
     },
     BuiltIn {
-        names: &["union"],
-        allowed: &["type"],
+        names: "union",
+        allowed: "type",
         needed: Some("type"),
     },
 ];
 
 static OTHER: BuiltIn = BuiltIn {
-    names: &[],
-    allowed: &[],
+    names: "",
+    allowed: "",
     needed: None,
 };
 
 // What a built-in type of this name can have and needs.
 fn built_in_of(name: &str) -> &'static BuiltIn {
-    for built_in in BUILT_IN {
-        if is_among(name, built_in.names) {
-            return built_in;
-        }
+    match BUILT_IN
+        .iter()
+        .find(|built_in| is_among(name, built_in.names))
+    {
+        Some(built_in) => built_in,
+        None => &OTHER,
     }
-    &OTHER
 }
 
 // What only the built-in type itself can have.
-static FIRST_ONLY: &[&str] = &["fraction-digits", "path", "base", "type"];
+static FIRST_ONLY: &str = "fraction-digits path base type";
 
-static RESTRICTIONS: &[&str] = &[
-    "length",
-    "pattern",
-    "range",
-    "fraction-digits",
-    "enum",
-    "bit",
-    "path",
-    "require-instance",
-    "base",
-    "type",
-];
+static RESTRICTIONS: &str =
+    "length pattern range fraction-digits enum bit path require-instance base type";
 
 // Adds the substatements that a built-in type can have.
 fn say_allowed<'a>(telling: &mut Message<'a>, built_in: &'a str) {
     let allowed = built_in_of(built_in).allowed;
     telling.quote(" The type ", built_in, "");
-    for (place, word) in allowed.iter().enumerate() {
+    for (place, word) in allowed.split_whitespace().enumerate() {
         telling.say(if place == 0 { " can have `" } else { "` and `" });
         telling.say(word);
     }
@@ -116,25 +105,15 @@ fn is_foreign(child: &Site<'_, '_>, built_in: &str) -> bool {
 
 // The first substatement of a type that it can't have, where it is derived from this built-in type.
 fn misfit<'s, 'a>(site: &Site<'s, 'a>, built_in: &str, is_first: bool) -> Option<Site<'s, 'a>> {
-    let mut after = site.number;
-    for _ in 0..site.entries.len() {
-        let child = site.next_child(after)?;
+    site.children().find(|child| {
         let is_second = !is_first && is_among(child.keyword(), FIRST_ONLY);
-        if is_second || is_foreign(&child, built_in) {
-            return Some(child);
-        }
-        after = child.number;
-    }
-    None
+        is_second || is_foreign(child, built_in)
+    })
 }
 
 /// Adds what is wrong with a type.
-pub fn tell_type<'a>(
-    alloc: Global,
-    telling: &mut Message<'a>,
-    site: &Site<'_, 'a>,
-) -> Result<(), AllocError> {
-    let chain = chain(alloc, site)?;
+pub fn tell_type<'a>(telling: &mut Message<'a>, site: &Site<'_, 'a>) -> Result<(), AllocError> {
+    let chain = chain(telling.alloc(), site)?;
     let is_first = chain.len() < 2;
     if let Some(last) = chain.last() {
         match misfit(site, last.argument(), is_first) {

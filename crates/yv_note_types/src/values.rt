@@ -2,7 +2,7 @@
 use crate::restrictions::{digits_of, limits_of, widest_of};
 use std::alloc::{AllocError, Global};
 use yv_base_numbers::{Integer, based_integer_of, scaled_of};
-use yv_note_statements::{Guess, Message, Site, all_sites, is_among, prefix_of_module, say_guess};
+use yv_note_statements::{Guess, Message, Site, Sites, is_among, prefix_of_module, say_guess};
 
 /// How many names of a type are listed.
 const MOST_NAMES: usize = 8;
@@ -37,11 +37,9 @@ fn say_rest(telling: &mut Message<'_>, count: usize) {
 
 /// The argument of a statement that is most like what was written.
 pub(crate) fn nearest_name<'a>(sites: &[Site<'_, 'a>], written: &str) -> Option<Guess<'a>> {
-    let mut nearest = None;
-    for site in sites {
-        nearest = Guess::nearer(nearest, Guess::of(written, site.argument(), None));
-    }
-    nearest
+    sites.iter().fold(None, |nearest, site| {
+        Guess::nearer(nearest, Guess::of(written, site.argument(), None))
+    })
 }
 
 // Adds which numbers a type has: those of the nearest `range`, or of the built-in type.
@@ -79,23 +77,16 @@ fn digits_in(chain: &[Site<'_, '_>]) -> Option<u32> {
 
 // The first word of a text that is no bit of a type, among those that are looked at.
 fn unknown_bit<'a>(chain: &[Site<'_, 'a>], text: &'a str) -> Option<&'a str> {
-    for word in text.split(' ').take(MOST_WORDS) {
-        if !word.is_empty() && !has_item(chain, "bit", word) {
-            return Some(word);
-        }
-    }
-    None
+    text.split(' ')
+        .take(MOST_WORDS)
+        .find(|word| !word.is_empty() && !has_item(chain, "bit", word))
 }
 
 // Adds the restrictions along a chain of types.
-fn say_restrictions<'a>(
-    alloc: Global,
-    telling: &mut Message<'a>,
-    chain: &[Site<'_, 'a>],
-) -> Result<(), AllocError> {
+fn say_restrictions<'a>(telling: &mut Message<'a>, chain: &[Site<'_, 'a>]) {
     for site in chain {
-        for child in site.children(alloc)?.iter() {
-            if is_among(child.keyword(), &["range", "length", "pattern"]) {
+        for child in site.children() {
+            if is_among(child.keyword(), "range length pattern") {
                 telling.say(", with the ");
                 telling.say(child.keyword());
                 telling.quote(" ", child.argument(), "");
@@ -103,7 +94,6 @@ fn say_restrictions<'a>(
         }
     }
     telling.say(".");
-    Ok(())
 }
 
 // The items of the nearest type that has some.
@@ -120,12 +110,10 @@ fn items_of<'s, 'a>(
 
 // The nearest of these types that has a substatement of this keyword.
 fn nearest_with<'s, 'a>(chain: &[Site<'s, 'a>], keyword: &str) -> Option<Site<'s, 'a>> {
-    for site in chain {
-        if site.child(keyword).is_some() {
-            return Some(*site);
-        }
-    }
-    None
+    chain
+        .iter()
+        .copied()
+        .find(|site| site.child(keyword).is_some())
 }
 
 /// How many times identities that are derived from those found so far are looked for.
@@ -138,7 +126,9 @@ fn identities_of<'s, 'a>(
 ) -> Result<Vec<Site<'s, 'a>>, AllocError> {
     let mut found = Vec::new(alloc);
     if let Some(root) = base_of(first) {
-        let bases = all_sites(alloc, first.entries, "base")?;
+        let bases: Vec<Site<'s, 'a>> = Sites::all(first.entries)
+            .filter(|site| site.is("base"))
+            .collect(alloc)?;
         let mut marks = vec![in alloc; false; first.entries.len()]?;
         mark(&mut marks, root.number);
         for _ in 0..MOST_ROUNDS {
@@ -209,17 +199,7 @@ fn has_numbers(chain: &[Site<'_, '_>]) -> bool {
     }
 }
 
-static NUMBERS: &[&str] = &[
-    "int8",
-    "int16",
-    "int32",
-    "int64",
-    "uint8",
-    "uint16",
-    "uint32",
-    "uint64",
-    "decimal64",
-];
+static NUMBERS: &str = "int8 int16 int32 int64 uint8 uint16 uint32 uint64 decimal64";
 
 /// How long texts are that are compared as numbers.
 const MOST_DIGITS: usize = 64;
@@ -283,7 +263,6 @@ fn is_in_ranges(chain: &[Site<'_, '_>], text: &str) -> bool {
 
 /// Adds what values a type has; the chain leads from it to its built-in type.
 pub(crate) fn say_values<'a>(
-    alloc: Global,
     telling: &mut Message<'a>,
     chain: &[Site<'_, 'a>],
     default: &Site<'_, 'a>,
@@ -295,7 +274,7 @@ pub(crate) fn say_values<'a>(
         "boolean" => telling.say(" Its values are `true` and `false`."),
         "empty" => telling.say(" The type \"empty\" has no default."),
         "enumeration" | "bits" | "identityref" => {
-            return say_named(alloc, telling, chain, first, default);
+            return say_named(telling, chain, first, default);
         }
         "union" => telling.say(" None of the types of its union has this value."),
         "string" | "binary" => {
@@ -305,7 +284,7 @@ pub(crate) fn say_values<'a>(
             } else {
                 ""
             });
-            return say_restrictions(alloc, telling, chain);
+            say_restrictions(telling, chain);
         }
         built_in => say_range(telling, chain, built_in),
     }
@@ -314,7 +293,6 @@ pub(crate) fn say_values<'a>(
 
 // Adds the names that are the values of a type.
 fn say_named<'a>(
-    alloc: Global,
     telling: &mut Message<'a>,
     chain: &[Site<'_, 'a>],
     first: &Site<'_, 'a>,
@@ -322,12 +300,12 @@ fn say_named<'a>(
 ) -> Result<(), AllocError> {
     match first.argument() {
         "enumeration" => {
-            let names = items_of(alloc, chain, "enum")?;
+            let names = items_of(telling.alloc(), chain, "enum")?;
             telling.say(" Its values are ");
             say_names(telling, &names, default, default.argument());
         }
         "bits" => {
-            let names = items_of(alloc, chain, "bit")?;
+            let names = items_of(telling.alloc(), chain, "bit")?;
             let word = unknown_bit(chain, default.argument());
             match word {
                 Some(word) => telling.quote(" There is no bit ", word, "."),
@@ -337,7 +315,7 @@ fn say_named<'a>(
             say_names(telling, &names, default, word.unwrap_or(""));
         }
         _ => {
-            let names = identities_of(alloc, first)?;
+            let names = identities_of(telling.alloc(), first)?;
             telling.say(" Its identities are ");
             say_names(telling, &names, default, default.name());
         }

@@ -4,7 +4,7 @@ ghost use Rattle.yv_link_scopes.specs.{Rows.{row}, Views.{rows_in}};
 ghost use Rattle.yv_note_text.specs.Quotes.{Extends, Quotes};
 ghost use Rattle.yv_refusal_notes.specs.Subject.{Names, is_at, subject};
 
-use crate::cause::tell_cause;
+use crate::cause::Refused;
 use crate::words::subject;
 use std::alloc::{AllocError, Global};
 use yv_link_scopes::{Entry, Rows};
@@ -33,12 +33,10 @@ fn statement_at<'r, 'a, 'b>(rows: &'r Rows<'a, 'b>, refusal: &Refusal) -> Option
 
 // The number of the statement at the refusal's place.
 fn number_at(rows: &Rows<'_, '_>, refusal: &Refusal) -> usize {
-    for (number, entry) in rows.entries().iter().enumerate() {
-        if is_at(entry, refusal) {
-            return number;
-        }
-    }
-    0
+    rows.entries()
+        .iter()
+        .position(|entry| is_at(entry, refusal))
+        .unwrap_or(0)
 }
 
 /// What a run was given: its selection of modules and features, and its limit.
@@ -60,7 +58,13 @@ fn telling_of<'a>(
     let entries = entries(alloc, rows)?;
     let mut telling = Message::new(alloc);
     if let Some(site) = Site::at(&entries, number_at(rows, refusal)) {
-        tell_cause(alloc, &mut telling, rows, &site, bounds, refusal.code)?;
+        let refused = Refused {
+            rows,
+            site,
+            bounds,
+            code: refusal.code,
+        };
+        refused.tell_cause(&mut telling)?;
     }
     if telling.is_empty() {
         telling.sentence(refusal.code);
@@ -80,7 +84,6 @@ fn push_meaning(text: &mut String, code: Code) -> Result<(), AllocError>
 
 // Adds what is said of a refusal at a statement.
 fn push_about(
-    alloc: Global,
     text: &mut String,
     inputs: &[Input],
     telling: &Message<'_>,
@@ -92,8 +95,8 @@ fn push_about(
         (IfSome (subject code statement.now.head) (λ word. Quotes word (string_bytes text.new))) }
 {
     match subject(code, statement) {
-        Some(word) => push_around(alloc, text, inputs, telling, word),
-        None => push_plain(alloc, text, inputs, telling),
+        Some(word) => push_around(text, inputs, telling, word),
+        None => push_plain(text, inputs, telling),
     }
 }
 
@@ -113,14 +116,7 @@ fn sentence(
         return Ok(text);
     };
     let telling = telling_of(alloc, rows, bounds, refusal)?;
-    push_about(
-        alloc,
-        &mut text,
-        inputs,
-        &telling,
-        refusal.code,
-        entry.statement,
-    )?;
+    push_about(&mut text, inputs, &telling, refusal.code, entry.statement)?;
     Ok(text)
 }
 

@@ -86,10 +86,7 @@ fn largest_uses(rows: &Rows<'_, '_>, units: &Units, around: usize) -> Option<(us
 }
 
 fn is_more(weight: u64, largest: Option<(usize, u64)>) -> bool {
-    match largest {
-        Some((_, most)) => weight > most,
-        None => true,
-    }
+    largest.is_none_or(|(_, most)| weight > most)
 }
 
 // Counts the units of a statement.
@@ -104,18 +101,16 @@ fn add(count: &mut Count, number: usize, weight: u64) {
 /// Adds how many nodes and uses the implemented modules expand to, where most of them are, and what
 /// the limit is.
 pub(crate) fn tell_units<'a>(
-    alloc: Global,
     telling: &mut Message<'a>,
     rows: &Rows<'a, '_>,
     bounds: &Bounds<'_>,
     entries: &[StatementEntry<'a>],
 ) -> Result<(), AllocError> {
     telling.sentence(Code::TooManyNodes);
-    if let Some(count) = count_of(alloc, rows, bounds.selection)? {
+    if let Some(count) = count_of(telling.alloc(), rows, bounds.selection)? {
         say_count(telling, &count, bounds.limit);
         if let Some(largest) = Site::at(entries, count.largest) {
-            telling.statement(" Most are in the ", &largest, "");
-            telling.point(" at ", &largest, "");
+            telling.statement_at(" Most are in the ", &largest, "");
             telling.count(": ", count.most, or_more(count.most));
             telling.say(".");
         }
@@ -134,8 +129,7 @@ fn say_uses<'a>(
         return;
     };
     if let Some(uses) = Site::at(entries, number) {
-        telling.statement(" The ", &uses, "");
-        telling.point(" at ", &uses, "");
+        telling.statement_at(" The ", &uses, "");
         telling.count(" expands to ", weight, or_more(weight));
         if let Some(grouping) = uses.meaning() {
             telling.point("; its grouping is at ", &grouping, "");
