@@ -234,12 +234,12 @@ pub(crate) fn define(
         type_default: type_default(types, file, statement)?,
         defaults: nothing.values()?,
         file,
-        min: changes.min.unwrap_or(0),
+        min: changes.stated.min.unwrap_or(0),
         max: changes.max.unwrap_or(None),
         kind,
         status: status_of(argument_of(Keyword::Status, statement)),
-        has_presence: changes.presence,
-        is_mandatory: changes.mandatory.unwrap_or(false),
-        stated_config: changes.config,
+        has_presence: changes.stated.presence,
+        is_mandatory: changes.stated.mandatory.unwrap_or(false),
+        stated_config: changes.stated.config,
     })
 }
