@@ -3,9 +3,7 @@ ghost use Rattle.std.specs.Prelude.{◌≡◌, ◌++◌, ◌<◌, All, IfSome, c
 ghost use Rattle.yv_nodes.specs.Rows.{AreTrees, below, forest, row_at, tree_of};
 ghost use Rattle.yv_schema_tables.specs.Sound.{IsChild};
 ghost use Rattle.yv_streams.specs.Pages.{Adds};
-ghost use Rattle.yv_tree.specs.InnerDraw.{tree_text, trees_text, waiting_text, IsShown};
-ghost use Rattle.yv_tree.specs.InnerMargin.{margin_text};
-ghost use Rattle.yv_tree.specs.Lines.{are_some, has_line, line};
+ghost use Rattle.yv_tree.specs.{InnerDraw.{tree_text, trees_text, waiting_text, IsShown}, InnerMargin.{margin_text}, Lines.{are_some, has_line, line}};
 
 use crate::line::put_line;
 use crate::margin::{Margin, put_margin};

@@ -1,7 +1,6 @@
 //! The modules of a schema.
 ghost use Rattle.std.specs.Prelude.{◌≡◌, IfOk};
-ghost use Rattle.yv_tree.specs.Lines.{prefix_in};
-ghost use Rattle.yv_tree.specs.InnerModules.{ArePlaces};
+ghost use Rattle.yv_tree.specs.{Lines.{prefix_in}, InnerModules.{ArePlaces}};
 
 use std::alloc::{AllocError, Global};
 use std::collections::BTreeMap;

@@ -23,8 +23,7 @@ pub(crate) trait Paper {
 }
 
 impl<W: Write> Paper for Counted<W> {
-    ghost use Rattle.yv_streams.specs.Stream.{has_failed, stream_failures, stream_inner};
-    ghost use Rattle.yv_streams.specs.Pages.{output_of};
+    ghost use Rattle.yv_streams.specs.{Stream.{has_failed, stream_failures, stream_inner}, Pages.{output_of}};
 
     type Page = Page;
 

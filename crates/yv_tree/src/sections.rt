@@ -3,8 +3,7 @@ ghost use Rattle.std.specs.Prelude.{◌≡◌, ◌==◌, [], ◌++◌, ◌<◌, 
 ghost use Rattle.yv_nodes.specs.Rows.{row_at, AreTrees};
 ghost use Rattle.yv_schema_tables.specs.Sound.{IsChild, IsNote, IsSound};
 ghost use Rattle.yv_streams.specs.Pages.{Adds};
-ghost use Rattle.yv_tree.specs.Diagram.{augment_section, belongs, first_module_file, is_shown, is_top, section, text_of, tops};
-ghost use Rattle.yv_tree.specs.InnerTops.{AreTops};
+ghost use Rattle.yv_tree.specs.{Diagram.{augment_section, belongs, first_module_file, is_shown, is_top, section, text_of, tops}, InnerTops.{AreTops}};
 
 use crate::draw::Drawing;
 use crate::margin::Margin;

@@ -1,8 +1,6 @@
 //! The diagram of a module, which is drawn in memory or written to a stream.
-ghost use Rattle.std.specs.Prelude.{◌≡◌, ◌++◌, ◌∷◌, [], ◌↔◌, ℕ, true, false, Some, IfOk, codes, option_map, string_bytes, take};
-ghost use Rattle.std.specs.Io.KnownBytes.{Appends};
-ghost use Rattle.yv_streams.specs.Stream.{has_failed, stream_inner, FailsOnceAtMost};
-ghost use Rattle.yv_streams.specs.Pages.{Adds};
+ghost use Rattle.std.specs.{Prelude.{◌≡◌, ◌++◌, ◌∷◌, [], ◌↔◌, ℕ, true, false, Some, IfOk, codes, option_map, string_bytes, take}, Io.KnownBytes.{Appends}};
+ghost use Rattle.yv_streams.specs.{Stream.{has_failed, stream_inner, FailsOnceAtMost}, Pages.{Adds}};
 ghost use Rattle.yv_tree.specs.Diagram.{diagram_lines, diagram_of, module_in, text_of};
 
 use crate::draw::Drawing;
@@ -32,8 +30,7 @@ pub struct TreeDiagram<'a> {
 
 impl<'a> Model for TreeDiagram<'a> {
     ghost use Rattle.std.specs.Prelude.{◌≡◌, ℕ, List};
-    ghost use Rattle.yv_tree.specs.Diagram.{diagram_lines, text_of};
-    ghost use Rattle.yv_tree.specs.InnerTops.{AreReady};
+    ghost use Rattle.yv_tree.specs.{Diagram.{diagram_lines, text_of}, InnerTops.{AreReady}};
 
     ghost Value = { List ℕ };
 
