@@ -88,28 +88,10 @@ impl Drawing<'_> {
             (P.output page.old paper.old) (P.output page.new paper.new) }
     {
         if !paper.has_failed() {
-            self.whole_node(id, follows, margin, paper, page);
+            self.line(id, margin, paper, page);
+            let below = Margin::Below(&*margin, follows);
+            self.nodes(id, self.schema.children(id), &below, paper, page);
         }
-    }
-
-    #[cycle(draw)]
-    fn whole_node<P: Paper>(
-        &self,
-        id: NodeId,
-        follows: bool,
-        margin: &Margin<'_>,
-        paper: &mut P,
-        page: &mut P::Page,
-    )
-        requires { id.0 < length self.now.schema.now.nodes }
-        ensures { Adds
-            (tree_text self.now.schema.now self.now.modules.now self.now.own
-            (margin_text margin.now) follows id)
-            (P.output page.old paper.old) (P.output page.new paper.new) }
-    {
-        self.line(id, margin, paper, page);
-        let below = Margin::Below(&*margin, follows);
-        self.nodes(id, self.schema.children(id), &below, paper, page);
     }
 
     // Puts the line of a node.
@@ -121,7 +103,7 @@ impl Drawing<'_> {
             (P.output page.old paper.old) (P.output page.new paper.new) }
     {
         put_margin(margin, paper, page);
-        put_line(self.modules, self.own, self.schema.node(id), paper, page);
+        put_line(self, self.schema.node(id), paper, page);
         paper.put(page, "\n");
     }
 

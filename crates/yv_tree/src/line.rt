@@ -4,44 +4,37 @@ ghost use Rattle.yv_node_definition.specs.Steps.{is_module_file};
 ghost use Rattle.yv_streams.specs.Pages.{Adds};
 ghost use Rattle.yv_tree.specs.Lines.{status_mark, access, flags, line_start, lead, full_name, shown_name, options, optional, list_options, key_name, between, behind, behind_each, written_prefix, shown_piece, shown_type, if_features, line};
 
-use crate::modules::Modules;
+use crate::draw::Drawing;
 use crate::paper::Paper;
 use yv_node_definition::{NodeKind, NodeStatus, PathPiece, PathStep};
 use yv_nodes::Node;
 
-/// Puts the line of a node in a diagram of the module of this number, without its margin and
-/// its line feed.
+/// Puts the line of a node in a diagram, without its margin and its line feed.
 pub(crate) fn put_line<P: Paper>(
-    modules: &Modules<'_>,
-    own: u32,
+    drawing: &Drawing<'_>,
     node: &Node,
     paper: &mut P,
     page: &mut P::Page,
 )
-    ensures { Adds (line modules.now own node.now.label)
+    ensures { Adds (line drawing.now.modules.now drawing.now.own node.now.label)
         (P.output page.old paper.old) (P.output page.new paper.new) }
 {
-    put_front(modules, own, node, paper, page);
+    put_front(drawing, node, paper, page);
     put_fields(node, paper, page);
 }
 
 // The first fields: status, flags and name.
-fn put_front<P: Paper>(
-    modules: &Modules<'_>,
-    own: u32,
-    node: &Node,
-    paper: &mut P,
-    page: &mut P::Page,
-)
+fn put_front<P: Paper>(drawing: &Drawing<'_>, node: &Node, paper: &mut P, page: &mut P::Page)
     ensures { Adds (status_mark node.now.label.defined.status ++ codes "--"
         ++ line_start node.now.label.defined.kind node.now.label
-        ++ shown_name node.now.label.defined.kind modules.now own node.now.label)
+        ++ shown_name node.now.label.defined.kind drawing.now.modules.now drawing.now.own
+        node.now.label)
         (P.output page.old paper.old) (P.output page.new paper.new) }
 {
     paper.put(page, mark_of(node.status()));
     paper.put(page, "--");
     put_opening(node, paper, page);
-    put_name(modules, own, node, paper, page);
+    put_name(drawing, node, paper, page);
 }
 
 // The other fields: options, type and conditions.
@@ -106,53 +99,37 @@ fn put_flags<P: Paper>(node: &Node, paper: &mut P, page: &mut P::Page)
     paper.put(page, " ");
 }
 
-fn put_name<P: Paper>(
-    modules: &Modules<'_>,
-    own: u32,
-    node: &Node,
-    paper: &mut P,
-    page: &mut P::Page,
-)
-    ensures { Adds (shown_name node.now.label.defined.kind modules.now own node.now.label)
+fn put_name<P: Paper>(drawing: &Drawing<'_>, node: &Node, paper: &mut P, page: &mut P::Page)
+    ensures { Adds
+        (shown_name node.now.label.defined.kind drawing.now.modules.now drawing.now.own
+        node.now.label)
         (P.output page.old paper.old) (P.output page.new paper.new) }
 {
     match node.kind() {
         NodeKind::Choice | NodeKind::Case => {
             paper.put(page, "(");
-            put_full_name(modules, own, node, paper, page);
+            put_full_name(drawing, node, paper, page);
             paper.put(page, ")");
         }
-        _ => put_full_name(modules, own, node, paper, page),
+        _ => put_full_name(drawing, node, paper, page),
     }
 }
 
-fn put_full_name<P: Paper>(
-    modules: &Modules<'_>,
-    own: u32,
-    node: &Node,
-    paper: &mut P,
-    page: &mut P::Page,
-)
-    ensures { Adds (full_name modules.now own node.now.label)
+fn put_full_name<P: Paper>(drawing: &Drawing<'_>, node: &Node, paper: &mut P, page: &mut P::Page)
+    ensures { Adds (full_name drawing.now.modules.now drawing.now.own node.now.label)
         (P.output page.old paper.old) (P.output page.new paper.new) }
 {
-    put_lead(modules, own, node.module_file(), paper, page);
+    put_lead(drawing, node.module_file(), paper, page);
     paper.put(page, node.name());
 }
 
 // The prefix of a node's module and a colon, where that isn't the module of the diagram.
-fn put_lead<P: Paper>(
-    modules: &Modules<'_>,
-    own: u32,
-    module_file: u32,
-    paper: &mut P,
-    page: &mut P::Page,
-)
-    ensures { Adds (lead modules.now own module_file)
+fn put_lead<P: Paper>(drawing: &Drawing<'_>, module_file: u32, paper: &mut P, page: &mut P::Page)
+    ensures { Adds (lead drawing.now.modules.now drawing.now.own module_file)
         (P.output page.old paper.old) (P.output page.new paper.new) }
 {
-    if module_file != own {
-        paper.put(page, modules.prefix(module_file));
+    if module_file != drawing.own {
+        paper.put(page, drawing.modules.prefix(module_file));
         paper.put(page, ":");
     }
 }

@@ -15,8 +15,8 @@ pub node-returns-else-not-has_failed : goal.node-returns-else-not-has_failed
 node-returns-else-not-has_failed g t c = λ start text h.
     lost start text _ (g.P.Paper.output c.args.page.now c.args.paper.now) (sym (c.has_failed.ensures c.args.page.now) ∙ c.if-not-has_failed.false) h
 
-pub whole_node-returns : goal.whole_node-returns
-whole_node-returns g t c =
+pub node-returns-then-not-has_failed : goal.node-returns-then-not-has_failed
+node-returns-then-not-has_failed g t c =
     let s = c.args.self.now.schema.now in
     adds_parts _ _ _ (g.P.Paper.output c.args.page.now c.args.paper.now) (g.P.Paper.output c.line.new.page c.line.new.paper)
     (g.P.Paper.output c.nodes.new.page c.nodes.new.paper)

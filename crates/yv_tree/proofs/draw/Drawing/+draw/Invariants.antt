@@ -26,6 +26,3 @@ decreases-draw_waiting g l = 4 * (length l.self.now.schema.now.nodes - rank l.pa
 
 abbrev pub decreases-node : goal.decreases-node
 decreases-node g l = 4 * (length l.self.now.schema.now.nodes - l.id.0) + 1
-
-abbrev pub decreases-whole_node : goal.decreases-whole_node
-decreases-whole_node g l = 4 * (length l.self.now.schema.now.nodes - l.id.0)
