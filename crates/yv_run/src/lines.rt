@@ -3,7 +3,7 @@ ghost use Rattle.std.specs.{Prelude.{◌≡◌, ◌<◌, ◌↔◌, ◌++◌, �
 ghost use Rattle.yv_nodes.specs.Member.{behind};
 ghost use Rattle.yv_faults.specs.{Line.{escape, escaped_byte, hexadecimal, is_plain, item_text, line_text, path_text, place_text, places_text}, Part.{part_of}};
 ghost use Rattle.yv_leafref_values.specs.Place.{member_text};
-ghost use Rattle.yv_streams.specs.{Stream.{has_failed, stream_failures, stream_inner, FailsOnceAtMost}, Pages.{Adds, output_of}};
+ghost use Rattle.yv_streams.specs.{Stream.{has_failed, stream_inner, FailsOnceAtMost}, Pages.{Adds, paged_output}};
 ghost use Rattle.yv_run.specs.{Lines.{ended_line, fault_lines, faults_text}, InnerNumbers.{number_text}};
 
 use itoa::Buffer;
@@ -34,10 +34,8 @@ pub fn write_faults<W: Write>(writer: &mut Counted<W>, faults: &[Fault]) -> bool
 // The line of how many faults there are.
 fn put_count<W: Write>(page: &mut Page, writer: &mut Counted<W>, count: usize)
     ensures { Adds (ended_line (codes "faults: " ++ decimal count))
-        (output_of (W.contents (stream_inner writer.old)) (has_failed writer.old)
-        (stream_failures writer.old) page.old)
-        (output_of (W.contents (stream_inner writer.new)) (has_failed writer.new)
-        (stream_failures writer.new) page.new) }
+        (paged_output W.contents writer.old page.old)
+        (paged_output W.contents writer.new page.new) }
 {
     page.put(writer, b"faults: ");
     page.put(writer, Buffer::new().format(count).as_bytes());
@@ -47,11 +45,8 @@ fn put_count<W: Write>(page: &mut Page, writer: &mut Counted<W>, count: usize)
 // Puts the lines of faults behind what a page holds, each with a line feed, and writes each full
 // page.
 fn put_lines<W: Write>(page: &mut Page, writer: &mut Counted<W>, faults: &[Fault])
-    ensures { Adds (fault_lines faults.now)
-        (output_of (W.contents (stream_inner writer.old)) (has_failed writer.old)
-        (stream_failures writer.old) page.old)
-        (output_of (W.contents (stream_inner writer.new)) (has_failed writer.new)
-        (stream_failures writer.new) page.new) }
+    ensures { Adds (fault_lines faults.now) (paged_output W.contents writer.old page.old)
+        (paged_output W.contents writer.new page.new) }
 {
     for fault in faults {
         put_line(page, writer, fault);
@@ -60,11 +55,8 @@ fn put_lines<W: Write>(page: &mut Page, writer: &mut Counted<W>, faults: &[Fault
 
 // The line of a fault. Nothing is done for a writer that has failed, since it gets no more.
 fn put_line<W: Write>(page: &mut Page, writer: &mut Counted<W>, fault: &Fault)
-    ensures { Adds ((line_text fault.now ++ 10 ∷ []))
-        (output_of (W.contents (stream_inner writer.old)) (has_failed writer.old)
-        (stream_failures writer.old) page.old)
-        (output_of (W.contents (stream_inner writer.new)) (has_failed writer.new)
-        (stream_failures writer.new) page.new) }
+    ensures { Adds ((line_text fault.now ++ 10 ∷ [])) (paged_output W.contents writer.old page.old)
+        (paged_output W.contents writer.new page.new) }
 {
     if !writer.has_failed() {
         put_whole_line(page, writer, fault);
@@ -72,11 +64,8 @@ fn put_line<W: Write>(page: &mut Page, writer: &mut Counted<W>, fault: &Fault)
 }
 
 fn put_whole_line<W: Write>(page: &mut Page, writer: &mut Counted<W>, fault: &Fault)
-    ensures { Adds (ended_line (line_text fault.now))
-        (output_of (W.contents (stream_inner writer.old)) (has_failed writer.old)
-        (stream_failures writer.old) page.old)
-        (output_of (W.contents (stream_inner writer.new)) (has_failed writer.new)
-        (stream_failures writer.new) page.new) }
+    ensures { Adds (ended_line (line_text fault.now)) (paged_output W.contents writer.old page.old)
+        (paged_output W.contents writer.new page.new) }
 {
     page.put(writer, fault.kind.name().as_bytes());
     page.put(writer, b" ");
@@ -87,11 +76,8 @@ fn put_whole_line<W: Write>(page: &mut Page, writer: &mut Counted<W>, fault: &Fa
 
 // The number of a statement, where there is one.
 fn put_number<W: Write>(page: &mut Page, writer: &mut Counted<W>, number: u32)
-    ensures { Adds (number_text number)
-        (output_of (W.contents (stream_inner writer.old)) (has_failed writer.old)
-        (stream_failures writer.old) page.old)
-        (output_of (W.contents (stream_inner writer.new)) (has_failed writer.new)
-        (stream_failures writer.new) page.new) }
+    ensures { Adds (number_text number) (paged_output W.contents writer.old page.old)
+        (paged_output W.contents writer.new page.new) }
 {
     if number != 0 {
         page.put(writer, b" ");
@@ -100,11 +86,8 @@ fn put_number<W: Write>(page: &mut Page, writer: &mut Counted<W>, number: u32)
 }
 
 fn put_path<W: Write>(page: &mut Page, writer: &mut Counted<W>, path: &PathSteps<'_>)
-    ensures { Adds (path_text path.now)
-        (output_of (W.contents (stream_inner writer.old)) (has_failed writer.old)
-        (stream_failures writer.old) page.old)
-        (output_of (W.contents (stream_inner writer.new)) (has_failed writer.new)
-        (stream_failures writer.new) page.new) }
+    ensures { Adds (path_text path.now) (paged_output W.contents writer.old page.old)
+        (paged_output W.contents writer.new page.new) }
 {
     if path.is_empty() {
         page.put(writer, b"/");
@@ -115,11 +98,8 @@ fn put_path<W: Write>(page: &mut Page, writer: &mut Counted<W>, path: &PathSteps
 
 // The calls nest as deep as the path is long.
 fn put_steps<W: Write>(page: &mut Page, writer: &mut Counted<W>, path: &PathSteps<'_>)
-    ensures { Adds (places_text path.now)
-        (output_of (W.contents (stream_inner writer.old)) (has_failed writer.old)
-        (stream_failures writer.old) page.old)
-        (output_of (W.contents (stream_inner writer.new)) (has_failed writer.new)
-        (stream_failures writer.new) page.new) }
+    ensures { Adds (places_text path.now) (paged_output W.contents writer.old page.old)
+        (paged_output W.contents writer.new page.new) }
 {
     if let Some((last, before)) = path.split_last() {
         put_steps(page, writer, &before);
@@ -128,11 +108,8 @@ fn put_steps<W: Write>(page: &mut Page, writer: &mut Counted<W>, path: &PathStep
 }
 
 fn put_step<W: Write>(page: &mut Page, writer: &mut Counted<W>, step: &Part<'_>)
-    ensures { Adds (place_text (part_of step.now))
-        (output_of (W.contents (stream_inner writer.old)) (has_failed writer.old)
-        (stream_failures writer.old) page.old)
-        (output_of (W.contents (stream_inner writer.new)) (has_failed writer.new)
-        (stream_failures writer.new) page.new) }
+    ensures { Adds (place_text (part_of step.now)) (paged_output W.contents writer.old page.old)
+        (paged_output W.contents writer.new page.new) }
 {
     page.put(writer, b"/");
     put_name(page, writer, &step.name);
@@ -143,11 +120,8 @@ fn put_name<W: Write>(page: &mut Page, writer: &mut Counted<W>, name: &MemberNam
     ensures { Adds
         (escape
         (member_text name.now.is_choice (option_map (λ m. m.now) name.now.module)
-        name.now.name.now))
-        (output_of (W.contents (stream_inner writer.old)) (has_failed writer.old)
-        (stream_failures writer.old) page.old)
-        (output_of (W.contents (stream_inner writer.new)) (has_failed writer.new)
-        (stream_failures writer.new) page.new) }
+        name.now.name.now)) (paged_output W.contents writer.old page.old)
+        (paged_output W.contents writer.new page.new) }
 {
     if name.is_choice {
         page.put(writer, b"(");
@@ -160,10 +134,8 @@ fn put_name<W: Write>(page: &mut Page, writer: &mut Counted<W>, name: &MemberNam
 
 fn put_qualified<W: Write>(page: &mut Page, writer: &mut Counted<W>, name: &MemberName<'_>)
     ensures { Adds (escape (behind (option_map (λ m. m.now) name.now.module) name.now.name.now))
-        (output_of (W.contents (stream_inner writer.old)) (has_failed writer.old)
-        (stream_failures writer.old) page.old)
-        (output_of (W.contents (stream_inner writer.new)) (has_failed writer.new)
-        (stream_failures writer.new) page.new) }
+        (paged_output W.contents writer.old page.old)
+        (paged_output W.contents writer.new page.new) }
 {
     if let Some(module) = name.module {
         put_escaped(page, writer, module.as_bytes());
@@ -173,11 +145,8 @@ fn put_qualified<W: Write>(page: &mut Page, writer: &mut Counted<W>, name: &Memb
 }
 
 fn put_item<W: Write>(page: &mut Page, writer: &mut Counted<W>, item: Option<u64>)
-    ensures { Adds (item_text item)
-        (output_of (W.contents (stream_inner writer.old)) (has_failed writer.old)
-        (stream_failures writer.old) page.old)
-        (output_of (W.contents (stream_inner writer.new)) (has_failed writer.new)
-        (stream_failures writer.new) page.new) }
+    ensures { Adds (item_text item) (paged_output W.contents writer.old page.old)
+        (paged_output W.contents writer.new page.new) }
 {
     if let Some(place) = item {
         page.put(writer, b"[");
@@ -187,11 +156,8 @@ fn put_item<W: Write>(page: &mut Page, writer: &mut Counted<W>, item: Option<u64
 }
 
 fn put_escaped<W: Write>(page: &mut Page, writer: &mut Counted<W>, name: &[u8])
-    ensures { Adds (escape name.now)
-        (output_of (W.contents (stream_inner writer.old)) (has_failed writer.old)
-        (stream_failures writer.old) page.old)
-        (output_of (W.contents (stream_inner writer.new)) (has_failed writer.new)
-        (stream_failures writer.new) page.new) }
+    ensures { Adds (escape name.now) (paged_output W.contents writer.old page.old)
+        (paged_output W.contents writer.new page.new) }
 {
     for byte in name {
         put_escaped_byte(page, writer, *byte);
@@ -199,11 +165,8 @@ fn put_escaped<W: Write>(page: &mut Page, writer: &mut Counted<W>, name: &[u8])
 }
 
 fn put_escaped_byte<W: Write>(page: &mut Page, writer: &mut Counted<W>, byte: u8)
-    ensures { Adds (escaped_byte byte)
-        (output_of (W.contents (stream_inner writer.old)) (has_failed writer.old)
-        (stream_failures writer.old) page.old)
-        (output_of (W.contents (stream_inner writer.new)) (has_failed writer.new)
-        (stream_failures writer.new) page.new) }
+    ensures { Adds (escaped_byte byte) (paged_output W.contents writer.old page.old)
+        (paged_output W.contents writer.new page.new) }
 {
     if b'!' <= byte && byte <= b'~' && byte != b'%' {
         page.put_byte(writer, byte);

@@ -2,6 +2,8 @@
 use Rattle.std.specs.Prelude.{◌≡◌, ◌≤◌, ℕ, List, [], ◌++◌, Bool, false}
 use Rattle.std.specs.declared.option.Option.{Option}
 use Rattle.std.specs.Io.KnownBytes.{Appends}
+use Rattle.yv_streams.specs.declared.counted_stream.Counted.{Counted}
+use Rattle.yv_streams.specs.Stream.{has_failed, stream_failures, stream_inner}
 
 -- what a writer holds, as far as that is known, whether it has failed and by how many calls, and
 -- the bytes of the page in front of it
@@ -14,6 +16,11 @@ pub record Output : Type 0 where
 abbrev pub output_of : Option (List ℕ) → Bool → ℕ → List ℕ → Output
 output_of contents has_failed failures page =
     record { contents = contents; has_failed = has_failed; failures = failures; page = page }
+
+-- the same of a writer that is known by its counts, these being the contents of the one it wraps
+abbrev pub paged_output : {T : Type 0} → (contents : T → Option (List ℕ)) → Counted T → (page : List ℕ) → Output
+paged_output contents writer page =
+    output_of (contents (stream_inner writer)) (has_failed writer) (stream_failures writer) page
 
 -- Of this text the first bytes were appended to what the writer held at the start, and the page
 -- holds those behind. A writer that has failed gets no more.

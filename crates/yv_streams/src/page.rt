@@ -1,6 +1,6 @@
 //! Bytes on their way to a stream.
 ghost use Rattle.std.specs.Prelude.{◌≡◌, ◌<◌, ◌≤◌, ◌++◌, ◌∷◌, [], ℕ, List, Option, false, length, take};
-ghost use Rattle.yv_streams.specs.{Stream.{has_failed, stream_failures, stream_inner}, Pages.{Adds, IsEmptied, Keeps, output_of}};
+ghost use Rattle.yv_streams.specs.{Stream.{has_failed}, Pages.{Adds, IsEmptied, Keeps, paged_output}};
 
 use crate::counted_stream::Counted;
 use crate::stream::write_whole;
@@ -78,11 +78,8 @@ impl Page {
 
     /// Writes what the page holds, unless the writer has failed.
     pub fn turn<W: Write>(&mut self, writer: &mut Counted<W>)
-        ensures pages { Keeps
-            (output_of (W.contents (stream_inner writer.old)) (has_failed writer.old)
-            (stream_failures writer.old) self.old)
-            (output_of (W.contents (stream_inner writer.new)) (has_failed writer.new)
-            (stream_failures writer.new) self.new) }
+        ensures pages { Keeps (paged_output W.contents writer.old self.old)
+            (paged_output W.contents writer.new self.new) }
         ensures empties { IsEmptied (has_failed writer.new) self.new }
     {
         if !writer.has_failed() {
@@ -93,11 +90,8 @@ impl Page {
     // Writes what the page holds.
     fn write<W: Write>(&mut self, writer: &mut Counted<W>)
         requires { has_failed writer.old ≡ false }
-        ensures pages { Keeps
-            (output_of (W.contents (stream_inner writer.old)) (has_failed writer.old)
-            (stream_failures writer.old) self.old)
-            (output_of (W.contents (stream_inner writer.new)) (has_failed writer.new)
-            (stream_failures writer.new) self.new) }
+        ensures pages { Keeps (paged_output W.contents writer.old self.old)
+            (paged_output W.contents writer.new self.new) }
         ensures empties { IsEmptied (has_failed writer.new) self.new }
     {
         if write_whole(writer, self.pending_bytes()) {
@@ -107,11 +101,8 @@ impl Page {
 
     /// Puts a byte behind the others, as `put` does.
     pub fn put_byte<W: Write>(&mut self, writer: &mut Counted<W>, byte: u8)
-        ensures { Adds (byte ∷ [])
-            (output_of (W.contents (stream_inner writer.old)) (has_failed writer.old)
-            (stream_failures writer.old) self.old)
-            (output_of (W.contents (stream_inner writer.new)) (has_failed writer.new)
-            (stream_failures writer.new) self.new) }
+        ensures { Adds (byte ∷ []) (paged_output W.contents writer.old self.old)
+            (paged_output W.contents writer.new self.new) }
     {
         self.make_room(writer);
         self.push_byte(byte);
@@ -119,11 +110,8 @@ impl Page {
 
     // Sees to it that there is room for a byte more, unless the writer has failed.
     fn make_room<W: Write>(&mut self, writer: &mut Counted<W>)
-        ensures pages { Keeps
-            (output_of (W.contents (stream_inner writer.old)) (has_failed writer.old)
-            (stream_failures writer.old) self.old)
-            (output_of (W.contents (stream_inner writer.new)) (has_failed writer.new)
-            (stream_failures writer.new) self.new) }
+        ensures pages { Keeps (paged_output W.contents writer.old self.old)
+            (paged_output W.contents writer.new self.new) }
         ensures room { has_failed writer.new ≡ false → length self.new < 8192 }
     {
         if self.is_full() {
@@ -137,11 +125,8 @@ impl Page {
         requires { 0 < length bytes.now }
         ensures bound { result ≤ length bytes.now }
         ensures some { 0 < result }
-        ensures paged { Adds (take result bytes.now)
-            (output_of (W.contents (stream_inner writer.old)) (has_failed writer.old)
-            (stream_failures writer.old) self.old)
-            (output_of (W.contents (stream_inner writer.new)) (has_failed writer.new)
-            (stream_failures writer.new) self.new) }
+        ensures paged { Adds (take result bytes.now) (paged_output W.contents writer.old self.old)
+            (paged_output W.contents writer.new self.new) }
     {
         self.make_room(writer);
         if writer.has_failed() {
@@ -154,11 +139,8 @@ impl Page {
     /// Puts bytes after the others, and writes each full page. Nothing is put after bytes that were
     /// lost: a writer that has failed gets no more.
     pub fn put<W: Write>(&mut self, writer: &mut Counted<W>, bytes: &[u8])
-        ensures { Adds bytes.now
-            (output_of (W.contents (stream_inner writer.old)) (has_failed writer.old)
-            (stream_failures writer.old) self.old)
-            (output_of (W.contents (stream_inner writer.new)) (has_failed writer.new)
-            (stream_failures writer.new) self.new) }
+        ensures { Adds bytes.now (paged_output W.contents writer.old self.old)
+            (paged_output W.contents writer.new self.new) }
     {
         let mut count = 0;
         while count < bytes.len() {

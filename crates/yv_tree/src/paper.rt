@@ -23,12 +23,11 @@ pub(crate) trait Paper {
 }
 
 impl<W: Write> Paper for Counted<W> {
-    ghost use Rattle.yv_streams.specs.{Stream.{has_failed, stream_failures, stream_inner}, Pages.{output_of}};
+    ghost use Rattle.yv_streams.specs.Pages.{paged_output};
 
     type Page = Page;
 
-    ghost output = { λ page w.
-        output_of (W.contents (stream_inner w)) (has_failed w) (stream_failures w) page };
+    ghost output = { λ page w. paged_output W.contents w page };
 
     fn put(&mut self, page: &mut Page, piece: &str) {
         page.put(self, piece.as_bytes());
