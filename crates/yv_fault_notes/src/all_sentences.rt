@@ -1,8 +1,6 @@
 //! Sentences on the faults of a document.
 ghost use Rattle.std.specs.Prelude.{◌≡◌, ◌<◌, ◌++◌, ◌∷◌, [], true, length, take, IfOk, OnOk, string_bytes};
-ghost use Rattle.yv_fault_notes.specs.Line.{IsSentence, cleared_line};
-ghost use Rattle.yv_fault_notes.specs.Sentences.{Tells, is_clear, more_line, more_text};
-ghost use Rattle.yv_fault_notes.specs.InnerAdds.{AddsSentences};
+ghost use Rattle.yv_fault_notes.specs.{Line.{IsSentence, cleared_line}, Sentences.{Tells, is_clear, more_line, more_text}, InnerAdds.{AddsSentences}};
 
 use crate::advice::advice;
 use crate::clear::push_line;

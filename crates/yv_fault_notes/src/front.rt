@@ -1,7 +1,6 @@
 //! How the sentence on a fault begins.
 ghost use Rattle.std.specs.Prelude.{◌≡◌, ◌≤◌, ◌++◌, length, drop, IfOk, OnOk, string_bytes};
-ghost use Rattle.yv_faults.specs.Line.{place_text, places_text};
-ghost use Rattle.yv_faults.specs.Part.{part_of, steps_of};
+ghost use Rattle.yv_faults.specs.{Line.{place_text, places_text}, Part.{part_of, steps_of}};
 ghost use Rattle.yv_fault_notes.specs.Line.{Begins, number_text, shortened_line};
 
 use itoa::Buffer;
