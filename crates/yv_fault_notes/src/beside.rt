@@ -1,5 +1,5 @@
 //! The nodes in one object.
-use crate::spot::{children_at, node_at};
+use crate::spot::{Spot, children_at, node_at};
 use std::alloc::{AllocError, Global};
 use yv_node_definition::NodeKind;
 use yv_nodes::{Node, NodeId};
@@ -9,15 +9,12 @@ use yv_validate::MemberName;
 /// How many nodes of an object are looked at.
 const MOST_NODES: usize = 1000;
 
-/// The first 1,000 nodes below a node or the root, and after them those in choices and cases, which
-/// are in the same object.
-pub(crate) fn beside(
-    alloc: Global,
-    schema: &Schema,
-    around: Option<NodeId>,
-) -> Result<Vec<NodeId>, AllocError> {
+/// The first 1,000 nodes below the node around a place, and after them those in choices and cases,
+/// which are in the same object.
+pub(crate) fn beside(alloc: Global, spot: &Spot<'_>) -> Result<Vec<NodeId>, AllocError> {
+    let schema = spot.schema;
     let mut nodes = Vec::new(alloc);
-    add(&mut nodes, children_at(schema, around))?;
+    add(&mut nodes, children_at(schema, spot.around))?;
     for at in 0..MOST_NODES {
         let Some(id) = nodes.get(at).copied() else {
             return Ok(nodes);
@@ -30,26 +27,17 @@ pub(crate) fn beside(
 }
 
 /// The data nodes among them: those that a member of the object can write.
-pub(crate) fn data_beside(
-    alloc: Global,
-    schema: &Schema,
-    around: Option<NodeId>,
-) -> Result<Vec<NodeId>, AllocError> {
-    let nodes = beside(alloc, schema, around)?;
-    let mut data = Vec::new(alloc);
-    for id in nodes.iter() {
-        if is_data(schema, *id) {
-            data.push(*id)?;
-        }
-    }
-    Ok(data)
+pub(crate) fn data_beside(alloc: Global, spot: &Spot<'_>) -> Result<Vec<NodeId>, AllocError> {
+    let nodes = beside(alloc, spot)?;
+    nodes
+        .iter()
+        .copied()
+        .filter(|id| is_data(spot.schema, *id))
+        .collect(alloc)
 }
 
 fn is_data(schema: &Schema, id: NodeId) -> bool {
-    match node_at(schema, Some(id)) {
-        Some(node) => node.kind().is_data(),
-        None => false,
-    }
+    node_at(schema, Some(id)).is_some_and(|node| node.kind().is_data())
 }
 
 // Adds nodes, as long as there are fewer than 1,000.
@@ -64,28 +52,21 @@ fn add(nodes: &mut Vec<NodeId>, others: &[NodeId]) -> Result<(), AllocError> {
 }
 
 fn is_passed(schema: &Schema, id: NodeId) -> bool {
-    match node_at(schema, Some(id)) {
-        Some(node) => node.kind().is_passed(),
-        None => false,
-    }
+    node_at(schema, Some(id)).is_some_and(|node| node.kind().is_passed())
 }
 
-/// The choice of a name that is in an object of a node.
+/// The choice of a name that is in the object around a place.
 pub(crate) fn choice_of(
     alloc: Global,
-    schema: &Schema,
-    around: Option<NodeId>,
+    spot: &Spot<'_>,
     name: &MemberName<'_>,
 ) -> Result<Option<NodeId>, AllocError> {
-    let nodes = beside(alloc, schema, around)?;
-    for id in nodes.iter() {
-        if let Some(node) = node_at(schema, Some(*id)) {
-            if is_choice(node, name) {
-                return Ok(Some(*id));
-            }
-        }
-    }
-    Ok(None)
+    let nodes = beside(alloc, spot)?;
+    Ok(
+        nodes.iter().copied().find(|id| {
+            node_at(spot.schema, Some(*id)).is_some_and(|node| is_choice(node, name))
+        }),
+    )
 }
 
 // Whether a node is the choice of a name.

@@ -1,7 +1,7 @@
 //! What is said of choices.
 use crate::beside::choice_of;
 use crate::spot::{Spot, children_at, has_children};
-use crate::words::push_names;
+use crate::words::{Naming, push_names};
 use serde_json::Value;
 use std::alloc::{AllocError, Global};
 use yv_nodes::NodeId;
@@ -19,36 +19,34 @@ const MOST_CASES: usize = 1000;
 
 /// Adds that one of the cases of a choice must exist.
 pub(crate) fn push_missing_choice(
-    alloc: Global,
     text: &mut String,
-    schema: &Schema,
     spot: &Spot<'_>,
     name: &MemberName<'_>,
 ) -> Result<(), AllocError> {
-    let choice = choice_of(alloc, schema, spot.around, name)?;
-    let cases = children_at(schema, choice);
+    let alloc = *text.allocator();
+    let choice = choice_of(alloc, spot, name)?;
+    let cases = children_at(spot.schema, choice);
     if cases.is_empty() {
         return text.push_str("the schema requires a node of one of its cases, but it has none");
     }
     text.push_str("it is missing: write a node of one of its cases, ")?;
-    push_names(text, schema, cases, Joint::Or)
+    push_names(text, spot.schema, cases, Naming::Name, Joint::Or)
 }
 
 /// Adds which cases of a choice exist.
 pub(crate) fn push_choice(
-    alloc: Global,
     text: &mut String,
-    schema: &Schema,
     spot: &Spot<'_>,
     name: &MemberName<'_>,
 ) -> Result<(), AllocError> {
+    let alloc = *text.allocator();
     text.push_str("only one of its cases can exist, but there are nodes of ")?;
-    let choice = choice_of(alloc, schema, spot.around, name)?;
-    let cases = cases_at(alloc, schema, spot, choice)?;
+    let choice = choice_of(alloc, spot, name)?;
+    let cases = cases_at(alloc, spot, choice)?;
     if cases.is_empty() {
         text.push_str("several")?;
     } else {
-        push_names(text, schema, &cases, Joint::And)?;
+        push_names(text, spot.schema, &cases, Naming::Name, Joint::And)?;
     }
     text.push_str("; remove those of all cases but one")
 }
@@ -56,10 +54,10 @@ pub(crate) fn push_choice(
 // The cases of a choice of which an object has nodes.
 fn cases_at(
     alloc: Global,
-    schema: &Schema,
     spot: &Spot<'_>,
     choice: Option<NodeId>,
 ) -> Result<Vec<NodeId>, AllocError> {
+    let schema = spot.schema;
     let around = spot.around.unwrap_or(Schema::ROOT);
     match spot.object {
         Some(Value::Object(members))
@@ -77,13 +75,12 @@ fn cases_in(
     context: &Context<'_>,
     choice: Option<NodeId>,
 ) -> Result<Vec<NodeId>, AllocError> {
-    let mut cases = Vec::new(alloc);
-    for case in children_at(schema, choice).iter().take(MOST_CASES) {
-        if exists(schema, context, *case) {
-            cases.push(*case)?;
-        }
-    }
-    Ok(cases)
+    children_at(schema, choice)
+        .iter()
+        .copied()
+        .take(MOST_CASES)
+        .filter(|case| exists(schema, context, *case))
+        .collect(alloc)
 }
 
 fn exists(schema: &Schema, context: &Context<'_>, case: NodeId) -> bool {

@@ -1,6 +1,6 @@
 //! What is said of entries and items that repeat earlier ones.
-use crate::spot::{Spot, node_at};
-use crate::words::push_names;
+use crate::spot::Spot;
+use crate::words::{Naming, push_names};
 use itoa::Buffer;
 use std::alloc::AllocError;
 use yv_node_definition::NodeKind;
@@ -12,11 +12,10 @@ use yv_validate::Fault;
 /// Adds which earlier entry has the keys of this one, or which earlier item its value.
 pub(crate) fn push_duplicate(
     text: &mut String,
-    schema: &Schema,
     spot: &Spot<'_>,
     fault: &Fault,
 ) -> Result<(), AllocError> {
-    match node_at(schema, spot.node) {
+    match spot.schema_node() {
         Some(node) if !matches!(node.kind(), NodeKind::List) => {
             push_earlier(text, "item", fault.earlier)?;
             text.push_str(" has the same value; remove one of them")
@@ -31,34 +30,25 @@ pub(crate) fn push_duplicate(
 /// Adds which earlier entry has the values of this one for a `unique` statement.
 pub(crate) fn push_unique(
     text: &mut String,
-    schema: &Schema,
     spot: &Spot<'_>,
     fault: &Fault,
 ) -> Result<(), AllocError> {
     push_earlier(text, "entry", fault.earlier)?;
     text.push_str(" has the same ")?;
-    push_names(
-        text,
-        schema,
-        unique_at(schema, spot.node, fault.number),
-        Joint::And,
-    )?;
+    let leafs = unique_at(spot.schema, spot.node, fault.number);
+    push_names(text, spot.schema, leafs, Naming::Name, Joint::And)?;
     text.push_str("; change one of them")
 }
 
 /// Adds which keys an entry has.
-pub(crate) fn push_keys(
-    text: &mut String,
-    schema: &Schema,
-    list: Option<NodeId>,
-) -> Result<(), AllocError> {
-    let keys = keys_at(schema, list);
+pub(crate) fn push_keys(text: &mut String, spot: &Spot<'_>) -> Result<(), AllocError> {
+    let keys = keys_at(spot.schema, spot.around);
     if keys.len() == 1 {
         text.push_str("it is missing: each entry needs the key ")?;
     } else {
         text.push_str("it is missing: each entry needs the keys ")?;
     }
-    push_names(text, schema, keys, Joint::And)
+    push_names(text, spot.schema, keys, Naming::Name, Joint::And)
 }
 
 // Adds which earlier entry or item it is.

@@ -1,13 +1,11 @@
 //! How the sentence on a fault begins.
-ghost use Rattle.std.specs.{Prelude.{◌≡◌, ◌≤◌, ◌<◌, ◌++◌, length, drop, codes, IfOk, OnOk, string_bytes}, Option.{option_map}};
-ghost use Rattle.yv_nodes.specs.Member.{behind};
-ghost use Rattle.yv_faults.specs.{Line.{escape, escaped_byte, hexadecimal, item_text, place_text, places_text}, Part.{part_of, steps_of}};
-ghost use Rattle.yv_leafref_values.specs.Place.{member_text};
+ghost use Rattle.std.specs.Prelude.{◌≡◌, ◌≤◌, ◌++◌, length, drop, IfOk, OnOk, string_bytes};
+ghost use Rattle.yv_faults.specs.{Line.{place_text, places_text}, Part.{part_of, steps_of}};
 ghost use Rattle.yv_fault_notes.specs.Line.{Begins, number_text, shortened_line};
 
 use itoa::Buffer;
 use std::alloc::{AllocError, Global};
-use yv_validate::{Fault, MemberName, Part, line};
+use yv_validate::{Fault, Part, line};
 
 /// The most bytes of the steps that are shown of a path, as the names are before they are escaped.
 const MOST_SHOWN: usize = 300;
@@ -56,10 +54,7 @@ pub(crate) fn left_out(path: &[Part<'_>]) -> usize
 
 // About how many bytes are shown of a step.
 fn size_of(step: &Part<'_>) -> usize {
-    let module = match step.name.module {
-        Some(module) => module.len(),
-        None => 0,
-    };
+    let module = step.name.module.map_or(0, |module| module.len());
     module
         .saturating_add(step.name.name.len())
         .saturating_add(AROUND_NAMES)
@@ -108,78 +103,6 @@ fn push_step(text: &mut String, step: &Part<'_>) -> Result<(), AllocError>
     ensures { OnOk result
         (string_bytes text.new ≡ string_bytes text.old ++ place_text (part_of step.now)) }
 {
-    text.push_str("/")?;
-    push_name(text, &step.name)?;
-    push_item(text, step.item)
-}
-
-fn push_name(text: &mut String, name: &MemberName<'_>) -> Result<(), AllocError>
-    ensures { OnOk result (string_bytes text.new ≡ string_bytes text.old
-        ++ escape
-        (member_text name.now.is_choice (option_map (λ m. m.now) name.now.module)
-        name.now.name.now)) }
-{
-    if !name.is_choice {
-        return push_qualified(text, name);
-    }
-    text.push_str("(")?;
-    push_qualified(text, name)?;
-    text.push_str(")")?;
-    Ok(())
-}
-
-fn push_qualified(text: &mut String, name: &MemberName<'_>) -> Result<(), AllocError>
-    ensures { OnOk result (string_bytes text.new ≡ string_bytes text.old
-        ++ escape (behind (option_map (λ m. m.now) name.now.module) name.now.name.now)) }
-{
-    if let Some(module) = name.module {
-        push_escaped(text, module)?;
-        text.push_str(":")?;
-    }
-    push_escaped(text, name.name)
-}
-
-fn push_item(text: &mut String, item: Option<u64>) -> Result<(), AllocError>
-    ensures { OnOk result (string_bytes text.new ≡ string_bytes text.old ++ item_text item) }
-{
-    if let Some(place) = item {
-        text.push_str("[")?;
-        text.push_str(Buffer::new().format(place))?;
-        text.push_str("]")?;
-    }
-    Ok(())
-}
-
-fn push_escaped(text: &mut String, name: &str) -> Result<(), AllocError>
-    ensures { OnOk result (string_bytes text.new ≡ string_bytes text.old ++ escape name.now) }
-{
-    for byte in name.as_bytes() {
-        push_byte(text, *byte)?;
-    }
-    Ok(())
-}
-
-fn push_byte(text: &mut String, byte: u8) -> Result<(), AllocError>
-    ensures { OnOk result (string_bytes text.new ≡ string_bytes text.old ++ escaped_byte byte) }
-{
-    if b'!' <= byte && byte <= b'~' && byte != b'%' {
-        text.push(byte as char)?;
-    } else {
-        text.push('%')?;
-        text.push(digit(byte / 16))?;
-        text.push(digit(byte % 16))?;
-    }
-    Ok(())
-}
-
-fn digit(value: u8) -> char
-    requires { value < 16 }
-    ensures ascii { result < 128 }
-    ensures value { result ≡ hexadecimal value }
-{
-    if value < 10 {
-        (b'0' + value) as char
-    } else {
-        (b'A' + value - 10) as char
-    }
+    let shown = step.to_string(*text.allocator())?;
+    text.push_str(shown.as_str())
 }

@@ -12,6 +12,7 @@ use yv_values::Meter;
 /// A place that a path leads to.
 #[derive(Clone, Copy)]
 pub(crate) struct Spot<'d> {
+    pub(crate) schema: &'d Schema,
     /// The node around it: the root for a member of the top. None where the path has left the
     /// schema.
     pub(crate) around: Option<NodeId>,
@@ -29,8 +30,9 @@ pub(crate) struct Spot<'d> {
 
 impl<'d> Spot<'d> {
     /// The place of a document.
-    fn top(document: &'d Value) -> Spot<'d> {
+    fn top(schema: &'d Schema, document: &'d Value) -> Spot<'d> {
         Spot {
+            schema,
             around: None,
             object: None,
             node: Some(Schema::ROOT),
@@ -43,34 +45,35 @@ impl<'d> Spot<'d> {
     /// The place that a path leads to. It takes time linear in the path's names.
     pub(crate) fn find(
         alloc: Global,
-        schema: &Schema,
+        schema: &'d Schema,
         document: &'d Value,
         path: &[Part<'_>],
     ) -> Result<Spot<'d>, AllocError> {
-        let mut spot = Spot::top(document);
+        let mut spot = Spot::top(schema, document);
         for step in path {
-            spot = spot.below(alloc, schema, step)?;
+            spot = spot.below(alloc, step)?;
         }
         Ok(spot)
     }
 
     // The place that one step leads to from here.
-    fn below(
-        &self,
-        alloc: Global,
-        schema: &Schema,
-        step: &Part<'_>,
-    ) -> Result<Spot<'d>, AllocError> {
+    fn below(&self, alloc: Global, step: &Part<'_>) -> Result<Spot<'d>, AllocError> {
         let member = step.member(alloc)?;
         let written = member_of(self.value, member.as_str());
         Ok(Spot {
+            schema: self.schema,
             around: self.node,
             object: self.value,
-            node: node_named(schema, self.node, member.as_str()),
+            node: node_named(self.schema, self.node, member.as_str()),
             written,
             value: item_of(written, step.item),
             item: step.item,
         })
+    }
+
+    /// What the schema says of the node at this place.
+    pub(crate) fn schema_node(&self) -> Option<&'d Node> {
+        node_at(self.schema, self.node)
     }
 }
 

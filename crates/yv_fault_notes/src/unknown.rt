@@ -1,7 +1,7 @@
 //! What is said of a member that names no data node of its object.
 use crate::beside::{beside, data_beside};
-use crate::spot::node_at;
-use crate::words::{push_member, push_members};
+use crate::spot::{Spot, node_at};
+use crate::words::{Naming, push_name, push_names};
 use std::alloc::{AllocError, Global};
 use yv_node_definition::NodeKind;
 use yv_nodes::{Node, NodeId};
@@ -17,12 +17,12 @@ struct Candidate {
 
 /// Adds what is wrong with a member that names no data node of an object.
 pub(crate) fn push_unknown(
-    alloc: Global,
     text: &mut String,
-    schema: &Schema,
-    around: Option<NodeId>,
+    spot: &Spot<'_>,
     member: &str,
 ) -> Result<(), AllocError> {
+    let alloc = *text.allocator();
+    let schema = spot.schema;
     if member.starts_with('@') {
         return text.push_str("metadata is not supported; remove it");
     }
@@ -30,31 +30,30 @@ pub(crate) fn push_unknown(
         Some((module, name)) => (Some(module), name),
         None => (None, member),
     };
-    if let Some(node) = other_kind(alloc, schema, around, name)? {
+    if let Some(node) = other_kind(alloc, spot, name)? {
         return text.push_str(not_data(node.kind()));
     }
-    let data = data_beside(alloc, schema, around)?;
+    let data = data_beside(alloc, spot)?;
     let near = nearest(schema, &data, name);
     match module {
         Some(module) if !is_same(near) && !is_implemented(schema, module) => {
             push_no_module(text, module)
         }
-        _ => push_guess(alloc, text, schema, &data, near),
+        _ => push_guess(text, schema, &data, near),
     }
 }
 
 // The node of this name that no member of an object writes: an operation, a notification, a choice
 // or a case.
-fn other_kind<'s>(
+fn other_kind<'d>(
     alloc: Global,
-    schema: &'s Schema,
-    around: Option<NodeId>,
+    spot: &Spot<'d>,
     name: &str,
-) -> Result<Option<&'s Node>, AllocError> {
-    let nodes = beside(alloc, schema, around)?;
+) -> Result<Option<&'d Node>, AllocError> {
+    let nodes = beside(alloc, spot)?;
     let mut other = None;
     for id in nodes.iter() {
-        if let Some(node) = node_at(schema, Some(*id)) {
+        if let Some(node) = node_at(spot.schema, Some(*id)) {
             if node.name() == name && node.kind().is_data() {
                 return Ok(None);
             }
@@ -83,20 +82,15 @@ fn not_data(kind: NodeKind) -> &'static str {
 
 // Whether a node has the very name of the member.
 fn is_same(near: Option<Candidate>) -> bool {
-    match near {
-        Some(near) => near.likeness == Likeness::Same,
-        None => false,
-    }
+    near.is_some_and(|near| near.likeness == Likeness::Same)
 }
 
 // Whether a module of this name is implemented.
 fn is_implemented(schema: &Schema, name: &str) -> bool {
-    for module in schema.modules() {
-        if module.name.as_str() == name {
-            return true;
-        }
-    }
-    false
+    schema
+        .modules()
+        .iter()
+        .any(|module| module.name.as_str() == name)
 }
 
 // Adds that a module isn't implemented. It may be given for import only: the schema doesn't have it
@@ -109,46 +103,37 @@ fn push_no_module(text: &mut String, module: &str) -> Result<(), AllocError> {
 
 // Adds which node may be meant, or which members there are.
 fn push_guess(
-    alloc: Global,
     text: &mut String,
     schema: &Schema,
     data: &[NodeId],
     near: Option<Candidate>,
 ) -> Result<(), AllocError> {
     let Some(near) = near else {
-        return push_all(alloc, text, schema, data);
+        return push_all(text, schema, data);
     };
     if near.likeness == Likeness::Same {
         text.push_str("the name of this member is ")?;
-        push_member(alloc, text, schema, near.id)
+        push_name(text, schema, near.id, Naming::Member)
     } else {
         text.push_str("there is no such member here; did you mean ")?;
-        push_member(alloc, text, schema, near.id)?;
+        push_name(text, schema, near.id, Naming::Member)?;
         text.push_str("?")
     }
 }
 
 // Adds which members an object can have.
-fn push_all(
-    alloc: Global,
-    text: &mut String,
-    schema: &Schema,
-    data: &[NodeId],
-) -> Result<(), AllocError> {
+fn push_all(text: &mut String, schema: &Schema, data: &[NodeId]) -> Result<(), AllocError> {
     if data.is_empty() {
         return text.push_str("there is no such member here; remove it");
     }
     text.push_str("there is no such member here, only ")?;
-    push_members(alloc, text, schema, data, Joint::And)
+    push_names(text, schema, data, Naming::Member, Joint::And)
 }
 
 // The node whose name is most like another one: the first, where several are.
 fn nearest(schema: &Schema, data: &[NodeId], name: &str) -> Option<Candidate> {
-    let mut found: Option<Candidate> = None;
-    for id in data.iter() {
-        found = nearer(found, near(schema, *id, name));
-    }
-    found
+    data.iter()
+        .fold(None, |found, id| nearer(found, near(schema, *id, name)))
 }
 
 // A node, where its name is like another one.

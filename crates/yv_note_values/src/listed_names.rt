@@ -58,12 +58,8 @@ fn push_list(text: &mut String, names: &[RcStr]) -> Result<(), AllocError> {
 }
 
 /// Adds identities as documents write them, in quotes, of many the first 8 (RFC 7951, section 6.8).
-pub(crate) fn push_identities(
-    alloc: Global,
-    text: &mut String,
-    members: &Members,
-) -> Result<(), AllocError> {
-    let members = members.front(alloc, MOST_LISTED)?;
+pub(crate) fn push_identities(text: &mut String, members: &Members) -> Result<(), AllocError> {
+    let members = members.front(*text.allocator(), MOST_LISTED)?;
     if members.is_empty() {
         return text.push_str(NO_IDENTITY);
     }
@@ -72,19 +68,19 @@ pub(crate) fn push_identities(
         if !push_between(text, place, members.len(), Joint::Or)? {
             break;
         }
-        push_identity(alloc, text, member)?;
+        push_identity(text, member)?;
     }
     Ok(())
 }
 
 // Adds an identity with its module; without that, if both together are long.
-fn push_identity(alloc: Global, text: &mut String, member: &Member) -> Result<(), AllocError> {
+fn push_identity(text: &mut String, member: &Member) -> Result<(), AllocError> {
     let module = member.module.as_str();
     let name = member.name.as_str();
     if module.len() >= MOST_BYTES || name.len() >= MOST_BYTES {
         return push_quoted(text, name);
     }
-    let mut whole = String::from_str(alloc, module)?;
+    let mut whole = String::from_str(*text.allocator(), module)?;
     whole.push(':')?;
     whole.push_str(name)?;
     push_quoted(text, whole.as_str())
@@ -93,22 +89,19 @@ fn push_identity(alloc: Global, text: &mut String, member: &Member) -> Result<()
 /// Adds the value that may be meant by one that is written, where these types have one that is like
 /// it.
 pub(crate) fn push_guess(
-    alloc: Global,
     text: &mut String,
     types: &[PlainType],
     value: Option<&Value>,
 ) -> Result<(), AllocError> {
-    let written = match value {
-        Some(Value::String(written)) => written.as_str(),
-        _ => return Ok(()),
+    let Some(Value::String(written)) = value else {
+        return Ok(());
     };
-    let near = match nearest(alloc, types, written)? {
-        Some(near) => near,
-        None => return Ok(()),
+    let Some(near) = nearest(*text.allocator(), types, written.as_str())? else {
+        return Ok(());
     };
     text.push_str("; did you mean ")?;
     match near.member {
-        Some(member) => push_identity(alloc, text, member)?,
+        Some(member) => push_identity(text, member)?,
         None => push_quoted(text, near.name.as_str())?,
     }
     text.push_str("?")

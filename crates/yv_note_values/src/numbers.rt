@@ -3,8 +3,8 @@ use itoa::Buffer;
 use std::alloc::AllocError;
 use yv_values::{Integer, Span};
 
-/// How many intervals are listed.
-const MOST_SPANS: usize = 4;
+/// How many intervals are listed, and of a union how many types.
+const MOST_LISTED: usize = 4;
 
 /// What intervals are of.
 #[derive(Clone, Copy)]
@@ -60,16 +60,31 @@ pub(crate) fn push_spans(
     spans: &[Span],
     scale: Scale,
 ) -> Result<(), AllocError> {
-    for (number, span) in spans.iter().enumerate() {
-        if number >= MOST_SPANS {
-            return text.push_str(" or others");
-        }
-        if number > 0 {
-            text.push_str(" or ")?;
+    for (place, span) in spans.iter().enumerate() {
+        if !push_or(text, place, " or ", "others")? {
+            break;
         }
         push_span(text, span, scale)?;
     }
     Ok(())
+}
+
+/// Adds these words before the item of this place, unless it is the first one. Of many 4 are
+/// listed: behind those it adds that there are others, and returns false.
+pub(crate) fn push_or(
+    text: &mut String,
+    place: usize,
+    or: &str,
+    others: &str,
+) -> Result<bool, AllocError> {
+    if place > 0 {
+        text.push_str(or)?;
+    }
+    if place >= MOST_LISTED {
+        text.push_str(others)?;
+        return Ok(false);
+    }
+    Ok(true)
 }
 
 fn push_span(text: &mut String, span: &Span, scale: Scale) -> Result<(), AllocError> {

@@ -1,6 +1,6 @@
 //! What is said of a value that no type of its node reads.
 use crate::listed_names::{push_bits, push_enums, push_guess, push_identities};
-use crate::numbers::{Scale, push_count, push_lengths, push_spans};
+use crate::numbers::{Scale, push_count, push_lengths, push_or, push_spans};
 use crate::values::push_written;
 use serde_json::{Number, Value};
 use std::alloc::{AllocError, Global};
@@ -8,9 +8,6 @@ use yv_nodes::Node;
 use yv_note_text::push_quoted;
 use yv_statement::is_legal_text;
 use yv_values::{DecimalType, Integer, Intervals, PlainType, TextType, WholeType};
-
-/// How many types of a union are listed.
-const MOST_TYPES: usize = 4;
 
 /// A value, if there is one; of a text also the number of its characters, and whether YANG allows
 /// them. The text is read once for all types of a union, since it may be as long as a document.
@@ -40,23 +37,17 @@ impl<'v> Written<'v> {
 
 /// Adds the name of a node's type, what it takes in place of a value, that value, and what may be
 /// meant by it.
-pub fn push_type(
-    alloc: Global,
-    text: &mut String,
-    node: &Node,
-    value: Option<&Value>,
-) -> Result<(), AllocError> {
+pub fn push_type(text: &mut String, node: &Node, value: Option<&Value>) -> Result<(), AllocError> {
     text.push_str("the type ")?;
     push_quoted(text, node.type_text())?;
     text.push_str(" takes ")?;
-    push_types(alloc, text, node.types(), &Written::new(value))?;
-    push_instead(alloc, text, node.types(), value)?;
-    push_guess(alloc, text, node.types(), value)
+    push_types(text, node.types(), &Written::new(value))?;
+    push_instead(text, node.types(), value)?;
+    push_guess(text, node.types(), value)
 }
 
 // Adds the value that types don't take, if there is one that they take.
 fn push_instead(
-    alloc: Global,
     text: &mut String,
     types: &[PlainType],
     value: Option<&Value>,
@@ -64,11 +55,11 @@ fn push_instead(
     let Some(value) = value else {
         return Ok(());
     };
-    if !have_values(alloc, types)? {
+    if !have_values(*text.allocator(), types)? {
         return Ok(());
     }
     text.push_str(", not ")?;
-    push_written(alloc, text, value)
+    push_written(text, value)
 }
 
 // Whether one of these types has a value.
@@ -91,26 +82,21 @@ fn has_values(alloc: Global, plain: &PlainType) -> Result<bool, AllocError> {
 
 // Adds what types take in place of a value, of many the first 4.
 fn push_types(
-    alloc: Global,
     text: &mut String,
     types: &[PlainType],
     written: &Written<'_>,
 ) -> Result<(), AllocError> {
     for (place, plain) in types.iter().enumerate() {
-        if place >= MOST_TYPES {
-            return text.push_str(", or something else");
+        if !push_or(text, place, ", or ", "something else")? {
+            break;
         }
-        if place > 0 {
-            text.push_str(", or ")?;
-        }
-        push_plain(alloc, text, plain, written)?;
+        push_plain(text, plain, written)?;
     }
     Ok(())
 }
 
 // Adds what a type takes (RFC 7951, section 6).
 fn push_plain(
-    alloc: Global,
     text: &mut String,
     plain: &PlainType,
     written: &Written<'_>,
@@ -126,7 +112,7 @@ fn push_plain(
             text.push_str("base64 in quotes")?;
             push_size(text, lengths, "octet", "octets")
         }
-        PlainType::Identity(members) => push_identities(alloc, text, members),
+        PlainType::Identity(members) => push_identities(text, members),
         PlainType::Empty => text.push_str("[null]"),
     }
 }
