@@ -1,6 +1,5 @@
 //! What nodes say as leafrefs.
-ghost use Rattle.std.specs.Prelude.{◌≡◌, ℕ, length, slice_get, IfOk};
-ghost use Rattle.std.specs.Option.{option_and_then};
+ghost use Rattle.std.specs.{Prelude.{◌≡◌, ℕ, length, slice_get, IfOk}, Option.{option_and_then}};
 ghost use Rattle.yv_link_scopes.specs.Views.{lent_in};
 ghost use Rattle.yv_node_statements.specs.Context.{files_in, typing_in};
 ghost use Rattle.yv_node_leafrefs.specs.Schema.{leafref_of_row};

@@ -1,19 +1,11 @@
 //! From the statements of files to their schema.
 ghost use Rattle.std.specs.Prelude.{◌≡◌, ◌≢◌, ◌≤◌, length, IfOk, OnOk, Some, None, Ok, Err};
-ghost use Rattle.yv_statement.specs.declared.refusal.Refusal.{Refusal};
-ghost use Rattle.yv_statement.specs.declared.refusal.Stop.TheVariants.{Fault, PatternBuild};
-ghost use Rattle.yv_statement.specs.Order.{IsLesser};
-ghost use Rattle.yv_statement.specs.Selection.{selected_of};
+ghost use Rattle.yv_statement.specs.{declared.refusal.Refusal.{Refusal}, declared.refusal.Stop.TheVariants.{Fault, PatternBuild}, Order.{IsLesser}, Selection.{selected_of}};
 ghost use Rattle.yv_link_scopes.specs.Views.{lent_in};
-ghost use Rattle.yv_schema_build.specs.InnerBasis.{NumberedBasis, leafrefs_of, stated_of};
-ghost use Rattle.yv_schema_build.specs.Module.{modules_of};
-ghost use Rattle.yv_schema_build.specs.InnerNotes.{notes_of};
+ghost use Rattle.yv_schema_build.specs.{InnerBasis.{NumberedBasis, leafrefs_of, stated_of}, Module.{modules_of}, InnerNotes.{notes_of}, InnerContext.{Tells, TellsOf}, InnerBuild.{AreNames, HasLeast, IsFirst}};
 ghost use Rattle.yv_nodes.specs.Rows.{whole};
-ghost use Rattle.yv_node_leafrefs.specs.Resolution.{IsTyped};
-ghost use Rattle.yv_node_leafrefs.specs.Links.{AreLinks};
+ghost use Rattle.yv_node_leafrefs.specs.{Resolution.{IsTyped}, Links.{AreLinks}};
 ghost use Rattle.yv_schema_tables.specs.Sound.{IsSound};
-ghost use Rattle.yv_schema_build.specs.InnerContext.{Tells, TellsOf};
-ghost use Rattle.yv_schema_build.specs.InnerBuild.{AreNames, HasLeast, IsFirst};
 
 use crate::context::Context;
 use crate::leafrefs::{ResolvedLeafrefs, resolve};

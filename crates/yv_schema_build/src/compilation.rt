@@ -1,17 +1,11 @@
 //! The compilation of files.
 ghost use Rattle.std.specs.Prelude.{◌≡◌, ◌<◌, ◌≤◌, length, IfOk, OnOk, Some, None, Err};
-ghost use Rattle.yv_statement.specs.declared.refusal.Refusal.{Refusal};
-ghost use Rattle.yv_statement.specs.declared.refusal.Stop.TheVariants.{Fault, NoMemory, PatternBuild};
-ghost use Rattle.yv_statement.specs.Order.{IsLeast};
-ghost use Rattle.yv_statement.specs.Selection.{selected_of};
+ghost use Rattle.yv_statement.specs.{declared.refusal.Refusal.{Refusal}, declared.refusal.Stop.TheVariants.{Fault, NoMemory, PatternBuild}, Order.{IsLeast}, Selection.{selected_of}};
 ghost use Rattle.yv_link_scopes.specs.RowList.{rows_of};
 ghost use Rattle.yv_type_restrictions.specs.Types.{HasTypePattern};
-ghost use Rattle.yv_schema_build.specs.InnerRefuses.{RefusesByNumber, RefusesBeforeTypesByNumber};
+ghost use Rattle.yv_schema_build.specs.{InnerRefuses.{RefusesByNumber, RefusesBeforeTypesByNumber}, InnerStages.{AreFew, HaveFinalTree, Stops}, Module.{modules_of}, InnerSchema.{AreNumberedNotes, AreNumberedReferences, IsNumberedSchema}};
 ghost use Rattle.yv_nodes.specs.Rows.{whole};
 ghost use Rattle.yv_schema_tables.specs.Sound.{IsSound};
-ghost use Rattle.yv_schema_build.specs.InnerStages.{AreFew, HaveFinalTree, Stops};
-ghost use Rattle.yv_schema_build.specs.Module.{modules_of};
-ghost use Rattle.yv_schema_build.specs.InnerSchema.{AreNumberedNotes, AreNumberedReferences, IsNumberedSchema};
 
 use crate::conformance::first_bad_file;
 use crate::phases::of_linked;

@@ -1,6 +1,5 @@
 //! What is wrong with the statements of each file as such.
-ghost use Rattle.std.specs.Prelude.{◌≡◌, ◌≤◌, length};
-ghost use Rattle.std.specs.Option.{option_map};
+ghost use Rattle.std.specs.{Prelude.{◌≡◌, ◌≤◌, length}, Option.{option_map}};
 ghost use Rattle.yv_statement.specs.Order.{Among, IsLeast};
 ghost use Rattle.yv_schema_build.specs.Refusals.{BadFile, in_file};
 

@@ -4,9 +4,7 @@ ghost use Rattle.yv_expand.specs.Tree.{item_list};
 ghost use Rattle.yv_statement.specs.Selection.{Selected};
 ghost use Rattle.yv_node_statements.specs.Context.{files_in, typing_in};
 ghost use Rattle.yv_expand_tree.specs.FinalTree.{AreKept};
-ghost use Rattle.yv_schema_build.specs.InnerBasis.{NumberedBasis, module_file_of};
-ghost use Rattle.yv_schema_build.specs.InnerContext.{IsRefinedOf, Tells};
-ghost use Rattle.yv_schema_build.specs.InnerRows.{said_at};
+ghost use Rattle.yv_schema_build.specs.{InnerBasis.{NumberedBasis, module_file_of}, InnerContext.{IsRefinedOf, Tells}, InnerRows.{said_at}};
 
 use std::alloc::{AllocError, Global};
 use yv_expand::RemainingNode;

@@ -3,9 +3,7 @@ ghost use Rattle.std.specs.Prelude.{◌≡◌, IfOk, OnOk};
 ghost use Rattle.yv_link_scopes.specs.Views.{lent_in};
 ghost use Rattle.yv_expand.specs.declared.origin.Origin.{Origin};
 ghost use Rattle.yv_node_statements.specs.Context.{files_in, typing_in};
-ghost use Rattle.yv_schema_build.specs.Referrals.{referral_at};
-ghost use Rattle.yv_schema_build.specs.InnerNumbers.{IsNumbered, KeepsNumbers};
-ghost use Rattle.yv_schema_build.specs.InnerDraft.{IsDraft, leafrefs_in, number_at};
+ghost use Rattle.yv_schema_build.specs.{Referrals.{referral_at}, InnerNumbers.{IsNumbered, KeepsNumbers}, InnerDraft.{IsDraft, leafrefs_in, number_at}};
 
 use crate::number_table::NumberTable;
 use std::alloc::{AllocError, Global};

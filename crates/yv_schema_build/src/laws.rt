@@ -1,19 +1,10 @@
 //! Laws about the definitions only. These functions do nothing: the contract of each is the law.
 ghost use Rattle.std.specs.Prelude.{◌≡◌, ◌≤◌, ◌⊎◌, ℕ, List, Option, None, Some, true};
-ghost use Rattle.yv_statement.specs.Codes.{phase_of};
-ghost use Rattle.yv_statement.specs.Order.{IsLeast};
-ghost use Rattle.yv_statement.specs.declared.refusal.Refusal.{Refusal};
-ghost use Rattle.yv_statement.specs.Selection.{Selected};
+ghost use Rattle.yv_statement.specs.{Codes.{phase_of}, Order.{IsLeast}, declared.refusal.Refusal.{Refusal}, Selection.{Selected}};
 ghost use Rattle.yv_link_scopes.specs.Files.{Files};
-ghost use Rattle.yv_schema_build.specs.InnerRefuses.{RefusesByNumber, RefusesBeforeTypesByNumber};
-ghost use Rattle.yv_schema_build.specs.InnerSchema.{AreNumberedNotes, AreNumberedReferences, IsNumberedSchema};
-ghost use Rattle.yv_schema_build.specs.Units.{TakeUnits};
-ghost use Rattle.yv_schema_build.specs.InnerBasis.{leafrefs_of};
-ghost use Rattle.yv_node_leafrefs.specs.Schema.{Referral};
-ghost use Rattle.yv_node_leafrefs.specs.Targets.{IsLeafref, RefersTo};
-ghost use Rattle.yv_nodes.specs.Link.{Link, link_in, reference_in};
-ghost use Rattle.yv_nodes.specs.Rows.{Note, Row};
-ghost use Rattle.yv_nodes.specs.Tree.{Forest, count};
+ghost use Rattle.yv_schema_build.specs.{InnerRefuses.{RefusesByNumber, RefusesBeforeTypesByNumber}, InnerSchema.{AreNumberedNotes, AreNumberedReferences, IsNumberedSchema}, Units.{TakeUnits}, InnerBasis.{leafrefs_of}};
+ghost use Rattle.yv_node_leafrefs.specs.{Schema.{Referral}, Targets.{IsLeafref, RefersTo}};
+ghost use Rattle.yv_nodes.specs.{Link.{Link, link_in, reference_in}, Rows.{Note, Row}, Tree.{Forest, count}};
 
 /// Where nothing is refused, files have one schema tree under a choice, their augments add to it in
 /// one way, and its leafrefs lead one way.

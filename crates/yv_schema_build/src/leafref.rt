@@ -2,8 +2,7 @@
 ghost use Rattle.std.specs.Prelude.{◌≡◌, Some, IfOk, OnOk};
 ghost use Rattle.yv_link_scopes.specs.Views.{lent_in};
 ghost use Rattle.yv_node_paths.specs.LeafPaths.{AreLeafPaths};
-ghost use Rattle.yv_schema_build.specs.Referrals.{referral_of};
-ghost use Rattle.yv_schema_build.specs.InnerNumbers.{IsNumbered, KeepsNumbers};
+ghost use Rattle.yv_schema_build.specs.{Referrals.{referral_of}, InnerNumbers.{IsNumbered, KeepsNumbers}};
 
 use std::alloc::{AllocError, Global};
 use yv_link_scopes::Rows;

@@ -3,12 +3,8 @@ ghost use Rattle.std.specs.Prelude.{◌≡◌, ◌≢◌, ◌<◌, ◌^◌, [], 
 ghost use Rattle.yv_link_scopes.specs.Views.{lent_in, rows_in};
 ghost use Rattle.yv_expand_tree.specs.FinalTree.{origin_at};
 ghost use Rattle.yv_nodes.specs.Numbers.{rows_from};
-ghost use Rattle.yv_node_leafrefs.specs.Above.{AreBehind};
-ghost use Rattle.yv_node_leafrefs.specs.Leafrefs.{AreLeafrefs};
-ghost use Rattle.yv_node_leafrefs.specs.Links.{AreLinks};
-ghost use Rattle.yv_schema_build.specs.InnerBasis.{NumberedBasis, stated_of};
-ghost use Rattle.yv_schema_build.specs.InnerContext.{Tells};
-ghost use Rattle.yv_schema_build.specs.InnerResolution.{AreStated, IsAnswered, no_links, schema_of_rows, statement_number};
+ghost use Rattle.yv_node_leafrefs.specs.{Above.{AreBehind}, Leafrefs.{AreLeafrefs}, Links.{AreLinks}};
+ghost use Rattle.yv_schema_build.specs.{InnerBasis.{NumberedBasis, stated_of}, InnerContext.{Tells}, InnerResolution.{AreStated, IsAnswered, no_links, schema_of_rows, statement_number}};
 
 use crate::all_referrals::referrals;
 use crate::context::Context;

@@ -1,12 +1,9 @@
 //! The modules of files.
-ghost use Rattle.std.specs.Prelude.{◌≡◌, ◌≤◌, ℕ, [], length, map, IfOk};
-ghost use Rattle.std.specs.Rc.{rc_str_bytes};
+ghost use Rattle.std.specs.{Prelude.{◌≡◌, ◌≤◌, ℕ, [], length, map, IfOk}, Rc.{rc_str_bytes}};
 ghost use Rattle.yv_statement.specs.Selection.{selected_of};
-ghost use Rattle.yv_link_scopes.specs.Files.{Files, tree_name};
-ghost use Rattle.yv_link_scopes.specs.Views.{lent_in};
+ghost use Rattle.yv_link_scopes.specs.{Files.{Files, tree_name}, Views.{lent_in}};
 ghost use Rattle.yv_expand_tree.specs.FileOrder.{is_given};
-ghost use Rattle.yv_schema_build.specs.Module.{module_name, modules_of};
-ghost use Rattle.yv_schema_build.specs.InnerModuleNames.{AreModuleNames};
+ghost use Rattle.yv_schema_build.specs.{Module.{module_name, modules_of}, InnerModuleNames.{AreModuleNames}};
 
 use crate::name::{name_of, prefix_of};
 use std::alloc::{AllocError, Global};

@@ -1,6 +1,5 @@
 //! The name and the prefix that a statement gives.
-ghost use Rattle.std.specs.Prelude.{◌≡◌};
-ghost use Rattle.std.specs.Option.{option_map};
+ghost use Rattle.std.specs.{Prelude.{◌≡◌}, Option.{option_map}};
 ghost use Rattle.yv_statement.specs.declared.keyword.Keyword.TheVariants as word;
 ghost use Rattle.yv_statement.specs.Tree.{name_of as name_at};
 ghost use Rattle.yv_node_properties.specs.Statements.{argument_of, first_of, is_of};

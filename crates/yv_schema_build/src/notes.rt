@@ -1,15 +1,10 @@
 //! The augments of modules that add nodes.
-ghost use Rattle.std.specs.Prelude.{◌≡◌, ◌<◌, ◌≤◌, All, length, map, option_to_list, IfOk, IfErr, slice_get};
-ghost use Rattle.std.specs.Option.{option_and_then};
+ghost use Rattle.std.specs.{Prelude.{◌≡◌, ◌<◌, ◌≤◌, All, length, map, option_to_list, IfOk, IfErr, slice_get}, Option.{option_and_then}};
 ghost use Rattle.yv_statement.specs.declared.refusal.Stop.TheVariants.{NoMemory};
-ghost use Rattle.yv_link_scopes.specs.Files.{module_file_at};
-ghost use Rattle.yv_link_scopes.specs.Views.{files_in, lent_in, rows_in};
+ghost use Rattle.yv_link_scopes.specs.{Files.{module_file_at}, Views.{files_in, lent_in, rows_in}};
 ghost use Rattle.yv_expand.specs.Tree.{Node};
 ghost use Rattle.yv_expand_tree.specs.FinalTree.{source_at};
-ghost use Rattle.yv_schema_build.specs.InnerContext.{IsTold, Tells};
-ghost use Rattle.yv_schema_build.specs.InnerRows.{IsWithin, numbers_at};
-ghost use Rattle.yv_schema_build.specs.InnerBasis.{NumberedBasis};
-ghost use Rattle.yv_schema_build.specs.InnerNotes.{note_of_augment, notes_of};
+ghost use Rattle.yv_schema_build.specs.{InnerContext.{IsTold, Tells}, InnerRows.{IsWithin, numbers_at}, InnerBasis.{NumberedBasis}, InnerNotes.{note_of_augment, notes_of}};
 
 use crate::context::Context;
 use crate::name::name_of;

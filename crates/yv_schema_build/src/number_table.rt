@@ -1,8 +1,7 @@
 //! What types say as leafrefs, with a number for each.
 ghost use Rattle.std.specs.Prelude.{◌≡◌, Some, IfOk, OnOk};
 ghost use Rattle.yv_link_scopes.specs.Views.{lent_in};
-ghost use Rattle.yv_schema_build.specs.Referrals.{referral_of};
-ghost use Rattle.yv_schema_build.specs.InnerNumbers.{Key, AreNumbered, IsNumbered, KeepsNumbers, number_of, said_in};
+ghost use Rattle.yv_schema_build.specs.{Referrals.{referral_of}, InnerNumbers.{Key, AreNumbered, IsNumbered, KeepsNumbers, number_of, said_in}};
 
 use crate::leafref::{put, read_leafref};
 use std::alloc::{AllocError, Global};

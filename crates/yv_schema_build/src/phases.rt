@@ -1,22 +1,14 @@
 //! The compilation of linked files, phase by phase.
 ghost use Rattle.std.specs.Prelude.{◌≡◌, ◌≤◌, length, IfOk, OnOk, Some, None, Err};
-ghost use Rattle.yv_statement.specs.declared.refusal.Refusal.{Refusal};
-ghost use Rattle.yv_statement.specs.declared.refusal.Stop.TheVariants.{Fault, PatternBuild};
-ghost use Rattle.yv_statement.specs.Order.{IsLeast};
-ghost use Rattle.yv_statement.specs.Selection.{Selected, selected_of};
+ghost use Rattle.yv_statement.specs.{declared.refusal.Refusal.{Refusal}, declared.refusal.Stop.TheVariants.{Fault, PatternBuild}, Order.{IsLeast}, Selection.{Selected, selected_of}};
 ghost use Rattle.yv_link_scopes.specs.Files.{Files};
 ghost use Rattle.yv_type_restrictions.specs.Types.{HasTypePattern};
 ghost use Rattle.yv_link_definitions.specs.Meanings.{AreNames};
 ghost use Rattle.yv_link.specs.LinkedFiles.{AreLinked, truth_in};
-ghost use Rattle.yv_types.specs.Refusals.{BadTypes};
-ghost use Rattle.yv_types.specs.Types.{AreTypes};
+ghost use Rattle.yv_types.specs.{Refusals.{BadTypes}, Types.{AreTypes}};
 ghost use Rattle.yv_nodes.specs.Rows.{whole};
 ghost use Rattle.yv_schema_tables.specs.Sound.{IsSound};
-ghost use Rattle.yv_schema_build.specs.InnerRefuses.{RefusesByNumber, RefusesBeforeTypesByNumber};
-ghost use Rattle.yv_schema_build.specs.Module.{modules_of};
-ghost use Rattle.yv_schema_build.specs.InnerSchema.{AreNumberedNotes, AreNumberedReferences, IsNumberedSchema};
-ghost use Rattle.yv_schema_build.specs.InnerStages.{HaveFinalTree, StopsLinked};
-ghost use Rattle.yv_schema_build.specs.InnerPhases.{AreClear, AreExpanded, SomeClear, SomeExpanded};
+ghost use Rattle.yv_schema_build.specs.{InnerRefuses.{RefusesByNumber, RefusesBeforeTypesByNumber}, Module.{modules_of}, InnerSchema.{AreNumberedNotes, AreNumberedReferences, IsNumberedSchema}, InnerStages.{HaveFinalTree, StopsLinked}, InnerPhases.{AreClear, AreExpanded, SomeClear, SomeExpanded}};
 
 use crate::build::build;
 use crate::context::{Context, refined_definitions};

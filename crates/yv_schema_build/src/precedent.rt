@@ -1,8 +1,6 @@
 //! What earlier nodes show of one that is a copy like them.
 ghost use Rattle.std.specs.Prelude.{◌≡◌, ◌<◌, ◌≤◌, ℕ, List, true, length, IfOk, IfSome, slice_index_or};
-ghost use Rattle.yv_schema_build.specs.InnerBasis.{NumberedBasis};
-ghost use Rattle.yv_schema_build.specs.InnerContext.{Tells};
-ghost use Rattle.yv_schema_build.specs.InnerRows.{AreOfItems, is_key_above, is_key_at, no_node, said_at};
+ghost use Rattle.yv_schema_build.specs.{InnerBasis.{NumberedBasis}, InnerContext.{Tells}, InnerRows.{AreOfItems, is_key_above, is_key_at, no_node, said_at}};
 
 use crate::copies::{FirstCopies, Original};
 use crate::tree::{Builder, number_at};

@@ -1,20 +1,10 @@
 //! The nodes of a schema.
-ghost use Rattle.std.specs.Prelude.{◌≡◌, ◌<◌, ◌≤◌, ◌+◌, [], ◌∷◌, ◌++◌, ◌&&◌, ℕ, All, List, Some, length, IfOk, IfErr, IfSome, OnOk, slice_get, slice_index_or};
-ghost use Rattle.std.specs.Rc.{rc_str_bytes};
+ghost use Rattle.std.specs.{Prelude.{◌≡◌, ◌<◌, ◌≤◌, ◌+◌, [], ◌∷◌, ◌++◌, ◌&&◌, ℕ, All, List, Some, length, IfOk, IfErr, IfSome, OnOk, slice_get, slice_index_or}, Rc.{rc_str_bytes}};
 ghost use Rattle.yv_statement.specs.declared.refusal.Stop.TheVariants.{NoMemory};
-ghost use Rattle.yv_schema_build.specs.Families.{lists_of};
+ghost use Rattle.yv_schema_build.specs.{Families.{lists_of}, InnerBasis.{NumberedBasis, label_at, stated_of}, InnerContext.{IsTold, Tells}, InnerModuleNames.{AreModuleNames}, InnerRows.{AreSeen, IsWithin, line_at, number_at, numbers_at, parent_of, row_of, rows_of_items}};
 ghost use Rattle.yv_expand.specs.Tree.{Node as Left};
-ghost use Rattle.yv_nodes.specs.Numbers.{numbers_from, rows_from};
-ghost use Rattle.yv_nodes.specs.Tree.{Label};
-ghost use Rattle.yv_nodes.specs.Above.{seen_of};
-ghost use Rattle.yv_nodes.specs.Labels.{has_key_called, label_of};
-ghost use Rattle.yv_nodes.specs.Member.{row_with};
-ghost use Rattle.yv_nodes.specs.Rows.{blank_row, rank};
+ghost use Rattle.yv_nodes.specs.{Numbers.{numbers_from, rows_from}, Tree.{Label}, Above.{seen_of}, Labels.{has_key_called, label_of}, Member.{row_with}, Rows.{blank_row, rank}};
 ghost use Rattle.yv_node_definition.specs.Kinds.{is_leaf};
-ghost use Rattle.yv_schema_build.specs.InnerBasis.{NumberedBasis, label_at, stated_of};
-ghost use Rattle.yv_schema_build.specs.InnerContext.{IsTold, Tells};
-ghost use Rattle.yv_schema_build.specs.InnerModuleNames.{AreModuleNames};
-ghost use Rattle.yv_schema_build.specs.InnerRows.{AreSeen, IsWithin, line_at, number_at, numbers_at, parent_of, row_of, rows_of_items};
 
 use crate::context::Context;
 use crate::copies::FirstCopies;
