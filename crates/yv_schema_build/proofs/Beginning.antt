@@ -1,5 +1,5 @@
 -- Where the paths of leafrefs begin in files that conform.
-use Rattle.std.proofs.Common.{◌≡◌, ◌≢◌, ℕ, zero, suc, ◌&&◌, Bool, true, false, cond, List, [], ◌∷◌, map, Option, Some, None, codes, refl, sym, ap, ◌∙◌, subst}
+use Rattle.std.proofs.Common.{◌≡◌, ◌≢◌, ℕ, suc, ◌&&◌, Bool, true, false, cond, List, [], ◌∷◌, map, Option, Some, None, codes, refl, sym, ap, ◌∙◌, subst}
 use Rattle.std.specs.List.{find, slice_get}
 use Rattle.std.specs.Option.{option_and_then, option_map, unwrap_or}
 use Rattle.std.specs.Str.{bytes_eq}
@@ -26,8 +26,8 @@ use Rattle.yv_expand.proofs.Fitting.{statement_fits}
 use Rattle.yv_node_paths.proofs.Fitting.{begins_in_files}
 use Rattle.yv_types.specs.Referrals.{HasReferral, IsLeafrefAt, first_in, path_at, path_in, written_in}
 use Rattle.yv_types.specs.declared.leafref_path.TypeLeafref.{TypeLeafref}
-use Rattle.yv_node_statements.specs.Definitions.{leafref_of, leafref_of_tree}
-use Rattle.yv_node_statements.specs.Kinds.{AreTypeReferrals, TypeReferrals, TypeMeanings}
+use Rattle.yv_node_statements.specs.Definitions.{leafref_of_tree}
+use Rattle.yv_node_statements.specs.Kinds.{AreTypeReferrals, TypeMeanings}
 use Rattle.yv_node_properties.specs.Statements.{file_at, first_of, statement_at}
 use Rattle.yv_types.specs.Types.{IsReferring}
 use Rattle.yv_node_leafrefs.specs.Schema.{Referral}

@@ -1,5 +1,5 @@
 -- The leafrefs of a basis, and those that are read of its nodes.
-use Rattle.std.proofs.Common.{◌≡◌, ◌≢◌, ◌⊎◌, inl, inr, ℕ, ◌+◌, ◌<◌, ◌≤◌, List, [], ◌∷◌, ◌++◌, length, map, refl, sym, ap, ◌∙◌, subst, arith, Option, Some, None}
+use Rattle.std.proofs.Common.{◌≡◌, ◌≢◌, ◌⊎◌, inl, inr, ℕ, ◌+◌, ◌<◌, ◌≤◌, List, [], ◌∷◌, ◌++◌, length, map, refl, sym, ap, ◌∙◌, arith, Option, Some, None}
 use Rattle.std.specs.List.{slice_get}
 use Rattle.std.specs.Option.{option_and_then, option_map}
 use Rattle.std.proofs.lemmas.Bool.{cases_lt}
@@ -32,7 +32,7 @@ use Rattle.yv_node_leafrefs.specs.Schema.{AreAlike, Referral, Schema, leafref_of
 use Rattle.yv_node_leafrefs.specs.Links.{AreLinks}
 use Rattle.yv_schema_build.specs.Referrals.{referral_at}
 use Rattle.yv_schema_build.specs.InnerResolution.{origins_of, schema_of_rows, statement_number}
-use Rattle.yv_schema_build.specs.InnerBasis.{NumberedBasis, label_at, with_labels, leafrefs_of, nodes_in, said_of, stated_of}
+use Rattle.yv_schema_build.specs.InnerBasis.{NumberedBasis, label_at, with_labels, leafrefs_of, nodes_in, stated_of}
 use Rattle.yv_schema_build.specs.InnerContext.{Tells}
 use Rattle.yv_schema_build.specs.declared.context.Context.{Context}
 use Rattle.yv_schema_build.proofs.Parenting.{count_rows, made_at}

@@ -1,20 +1,23 @@
 -- The rows of the nodes that are left are those of the schema tree.
-use Rattle.std.proofs.Common.{◌≡◌, ℕ, zero, suc, ◌+◌, ◌<◌, ◌≤◌, List, [], ◌∷◌, ◌++◌, length, get_or, drop, drop-cons, add-one, map, refl, sym, ap, ◌∙◌, subst, arith, append_assoc, append-nil, length-append, Option, Some, None}
+use Rattle.std.proofs.Common.{◌≡◌, ℕ, zero, suc, ◌+◌, ◌<◌, ◌≤◌, Bool, ◌&&◌, below_more, List, [], ◌∷◌, ◌++◌, length, get_or, drop, drop-cons, add-one, map, refl, sym, ap, ◌∙◌, subst, arith, append_assoc, append-nil, length-append, Option, Some, None}
+use Rattle.std.specs.Option.{IfSome}
 use Rattle.std.proofs.Math.Seq.{get_or-append_seam}
+use Rattle.std.proofs.lemmas.List.{get_or_append_left, get_or_at}
 use Rattle.yv_expand.specs.Tree as items
 use Rattle.yv_expand.specs.Tree.{Node}
 use Rattle.yv_schema_build.specs.Families as families
 use Rattle.yv_nodes.specs.declared.node.NodeId.{NodeId}
 use Rattle.yv_nodes.specs.declared.node.NodePlace.{NodePlace}
 use Rattle.yv_nodes.specs.Tree.{count, Forest, Label}
-use Rattle.yv_nodes.specs.Rows.{Row}
+use Rattle.yv_nodes.specs.Rows.{Row, blank_row}
+use Rattle.yv_node_definition.specs.Kinds.{is_leaf}
 use Rattle.yv_nodes.specs.Member.{row_with}
 use Rattle.yv_node_definition.specs.Definition.{Definition}
 use Rattle.yv_nodes.specs.Above.{View, seen_of}
-use Rattle.yv_nodes.specs.Labels.{label_of}
-use Rattle.yv_schema_build.specs.InnerBasis.{NumberedBasis, label_at, with_labels, stated_of}
+use Rattle.yv_nodes.specs.Labels.{has_key_called, label_of}
+use Rattle.yv_schema_build.specs.InnerBasis.{NumberedBasis, label_at, module_file_of, with_labels, stated_of}
 use Rattle.yv_nodes.specs.Numbers.{numbers_from, rows_below, rows_from}
-use Rattle.yv_schema_build.specs.InnerRows.{AreSeen, IsWithin, line_at, line_of, number_at, numbers_at, parent_of, row_of, rows_of_items}
+use Rattle.yv_schema_build.specs.InnerRows.{AreOfItems, AreSeen, IsWithin, is_key_above, is_key_at, line_at, line_of, no_node, number_at, numbers_at, parent_of, row_of, rows_of_items, said_at}
 
 length_below : (first : ℕ) (t : items.Nodes) → length (families.below_from first t) ≡ items.count t
 length_below first items.none = refl
@@ -160,25 +163,90 @@ pub record Kept (b : NumberedBasis) (below : List (List ℕ)) (seen : List View)
   pub lines : List (List Label)
   pub are : AreSeen lines seen
   pub rows : now ++ rows_of_items b below lines i (drop i xs) ≡ old ++ rows_of_items b below [] 0 xs
+  pub many : length lines ≡ i
+  pub heads : (k : ℕ) → k < i → (module_file : ℕ) (name : List ℕ) → has_key_called (get_or lines k []) module_file name ≡ is_key_above b xs (Some k) module_file name
+  pub noted : AreOfItems b xs now
+
+-- what the node above an item names in its key
+pub key_above : (b : NumberedBasis) (xs : List Node) (lines : List (List Label)) (i : ℕ)
+    → ((k : ℕ) → k < i → (module_file : ℕ) (name : List ℕ) → has_key_called (get_or lines k []) module_file name ≡ is_key_above b xs (Some k) module_file name)
+    → (parent : Option ℕ) → IsWithin parent i → (module_file : ℕ) (name : List ℕ) → has_key_called (line_at lines parent) module_file name ≡ is_key_above b xs parent module_file name
+key_above b xs lines i heads None within module_file name = refl
+key_above b xs lines i heads (Some place) within module_file name = heads place within module_file name
+
+-- whether it is a key
+pub key_is : (b : NumberedBasis) (below : List (List ℕ)) (seen : List View) (i : ℕ) (xs : List Node) (now old : List Row) (k : Kept b below seen i xs now old) (x : Node)
+    → IsWithin x.parent i → (label_at b (line_at k.lines x.parent) x.origin).is_key ≡ is_key_at b xs x
+key_is b below seen i xs now old k x within =
+    ap (λ (named : Bool). is_leaf (said_at b x.origin).kind && named) (key_above b xs k.lines i k.heads x.parent within (module_file_of b x.origin) (said_at b x.origin).name)
+
+-- an earlier row of which the same is said has what the row that is made has
+pub shared : (b : NumberedBasis) (xs : List Node) (rows : List Row) (place : ℕ) (row : Row) (earlier : Option ℕ) → AreOfItems b xs rows → length rows ≡ place
+    → IfSome earlier (λ (e : ℕ). e < place) → IfSome earlier (λ (e : ℕ). said_at b (get_or xs place no_node).origin ≡ said_at b (get_or xs e no_node).origin)
+    → row.label.defined ≡ said_at b (get_or xs place no_node).origin → IfSome earlier (λ (e : ℕ). (get_or rows e blank_row).label.defined ≡ row.label.defined)
+shared b xs rows place row None are many before same is = tt
+shared b xs rows place row (Some e) are many before same is = are.said e (omega (arith, before, many)) ∙ sym same ∙ sym is
+
+-- nothing yet
+pub kept_none : (b : NumberedBasis) (below : List (List ℕ)) (seen : List View) (xs : List Node) (old : List Row) → seen ≡ [] → old ≡ [] → Kept b below seen 0 xs old old
+kept_none b below seen xs old is none = record {
+  lines = [];
+  are = record { are = is };
+  rows = refl;
+  many = refl;
+  heads = λ k lt. absurd (omega arith);
+  noted = record { said = λ k lt. absurd (omega (arith, lt, ap (length {A = Row}) none)); keys = λ k lt. absurd (omega (arith, lt, ap (length {A = Row}) none)) };
+}
 
 -- one item more
-pub kept_more : (b : NumberedBasis) (below : List (List ℕ)) (seen next : List View) (one : View) (i : ℕ) (xs : List Node) (blank : Node) (now new old : List Row) (row : Row)
-    → (k : Kept b below seen i xs now old) → i < length xs → next ≡ seen ++ one ∷ [] → new ≡ now ++ row ∷ []
-    → row ≡ row_of b (line_at k.lines (get_or xs i blank).parent) (get_or xs i blank) (parent_of (get_or xs i blank).parent) (numbers_at (get_or below i []))
-    → one ≡ seen_of (line_of b k.lines (get_or xs i blank)) → Kept b below next (i + 1) xs new old
-kept_more b below seen next one i xs blank now new old row k lt grew added is told =
-    let x : Node = get_or xs i blank in
-    let above : List Label = line_at k.lines x.parent in
-    let line : List Label = line_of b k.lines x in
-    let made : Row = row_of b above x (parent_of x.parent) (numbers_at (get_or below i [])) in
-    let rest : List Row = rows_of_items b below (k.lines ++ line ∷ []) (i + 1) (drop (i + 1) xs) in
-    record {
-      lines = k.lines ++ line ∷ [];
-      are = seen_more k.lines line seen next one k.are told grew;
-      rows =
-          ap (λ (rs : List Row). rs ++ rest) (added ∙ ap (λ (r : Row). now ++ r ∷ []) is) ∙ append_assoc now (made ∷ []) rest
-          ∙ ap (λ (rs : List Row). now ++ rs) (sym (row_next b below k.lines xs i blank lt)) ∙ k.rows;
-    }
+module _ (b : NumberedBasis) (below : List (List ℕ)) (seen : List View) (i : ℕ) (xs : List Node) (now old : List Row) (k : Kept b below seen i xs now old) where
+  heads_more : (m : ℕ) (s : List ℕ) (n : ℕ) → n < i + 1 → has_key_called (get_or (k.lines ++ line_of b k.lines (get_or xs i no_node) ∷ []) n []) m s ≡ is_key_above b xs (Some n) m s
+  heads_more m s n lt =
+      let line : List Label = line_of b k.lines (get_or xs i no_node) in
+      let P : ℕ → Type 0 = λ n. has_key_called (get_or (k.lines ++ line ∷ []) n []) m s ≡ is_key_above b xs (Some n) m s in
+      let last : P i = ap (λ (ls : List Label). has_key_called ls m s) (get_or_at k.lines line [] [] i k.many) in
+      let each : (n : ℕ) → n < i → P n = λ n lt. ap (λ (ls : List Label). has_key_called ls m s) (get_or_append_left k.lines (line ∷ []) [] n (omega (arith, lt, k.many))) ∙ k.heads n lt m s in
+      below_more P i each last n lt
+
+  noted_more : (new : List Row) (row : Row) → length now ≡ i → new ≡ now ++ row ∷ []
+      → row ≡ row_of b (line_at k.lines (get_or xs i no_node).parent) (get_or xs i no_node) (parent_of (get_or xs i no_node).parent) (numbers_at (get_or below i []))
+      → IsWithin (get_or xs i no_node).parent i → AreOfItems b xs new
+  noted_more new row many added is within =
+      let x : Node = get_or xs i no_node in
+      let line : List Label = line_at k.lines x.parent in
+      let here : get_or new i blank_row ≡ row_of b line x (parent_of x.parent) (numbers_at (get_or below i [])) =
+      ap (λ (rs : List Row). get_or rs i blank_row) added ∙ get_or_at now row [] blank_row i many ∙ is in
+      let before : (n : ℕ) → n < i → get_or new n blank_row ≡ get_or now n blank_row = λ n lt.
+      ap (λ (rs : List Row). get_or rs n blank_row) added ∙ get_or_append_left now (row ∷ []) blank_row n (omega (arith, lt, many)) in
+      let long : length new ≡ i + 1 = ap (length {A = Row}) added ∙ length-append now (row ∷ []) ∙ ap (λ (n : ℕ). n + 1) many in
+      let Said : ℕ → Type 0 = λ n. (get_or new n blank_row).label.defined ≡ said_at b (get_or xs n no_node).origin in
+      let IsKey : ℕ → Type 0 = λ n. (get_or new n blank_row).label.is_key ≡ is_key_at b xs (get_or xs n no_node) in
+      let said : (n : ℕ) → n < i → Said n = λ n lt. ap (λ (r : Row). r.label.defined) (before n lt) ∙ k.noted.said n (omega (arith, lt, many)) in
+      let keys : (n : ℕ) → n < i → IsKey n = λ n lt. ap (λ (r : Row). r.label.is_key) (before n lt) ∙ k.noted.keys n (omega (arith, lt, many)) in
+      record {
+        said = λ n lt. below_more Said i said (ap (λ (r : Row). r.label.defined) here) n (omega (arith, lt, long));
+        keys = λ n lt. below_more IsKey i keys (ap (λ (r : Row). r.label.is_key) here ∙ key_is b below seen i xs now old k x within) n (omega (arith, lt, long));
+      }
+
+  pub kept_more : (next : List View) (one : View) (new : List Row) (row : Row) → i < length xs → length now ≡ i → next ≡ seen ++ one ∷ [] → new ≡ now ++ row ∷ []
+      → row ≡ row_of b (line_at k.lines (get_or xs i no_node).parent) (get_or xs i no_node) (parent_of (get_or xs i no_node).parent) (numbers_at (get_or below i []))
+      → one ≡ seen_of (line_of b k.lines (get_or xs i no_node)) → IsWithin (get_or xs i no_node).parent i → Kept b below next (i + 1) xs new old
+  kept_more next one new row lt many grew added is told within =
+      let x : Node = get_or xs i no_node in
+      let above : List Label = line_at k.lines x.parent in
+      let line : List Label = line_of b k.lines x in
+      let made : Row = row_of b above x (parent_of x.parent) (numbers_at (get_or below i [])) in
+      let rest : List Row = rows_of_items b below (k.lines ++ line ∷ []) (i + 1) (drop (i + 1) xs) in
+      record {
+        lines = k.lines ++ line ∷ [];
+        are = seen_more k.lines line seen next one k.are told grew;
+        rows =
+            ap (λ (rs : List Row). rs ++ rest) (added ∙ ap (λ (r : Row). now ++ r ∷ []) is) ∙ append_assoc now (made ∷ []) rest
+            ∙ ap (λ (rs : List Row). now ++ rs) (sym (row_next b below k.lines xs i no_node lt)) ∙ k.rows;
+        many = length-append k.lines (line ∷ []) ∙ ap (λ (n : ℕ). n + 1) k.many;
+        heads = λ n lt m s. heads_more m s n lt;
+        noted = noted_more new row many added is within;
+      }
 
 -- the row of a node that is made for an item of this definition, in the namespace of the module of
 -- its module_file

@@ -1,5 +1,5 @@
 -- Refusals of a file as such, and how they are told of its number.
-use Rattle.std.proofs.Common.{◌≡◌, ℕ, ◌⊎◌, inl, inr, Option, Some, None, refl, sym, ◌∙◌, subst, arith}
+use Rattle.std.proofs.Common.{◌≡◌, ℕ, inl, inr, Option, Some, None, refl, sym, ◌∙◌, subst, arith}
 use Rattle.std.specs.Option.{option_map}
 use Rattle.yv_statement.specs.Tree.{Head, Tree}
 use Rattle.yv_statement.specs.Codes.{phase_of}

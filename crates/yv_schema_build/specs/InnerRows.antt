@@ -1,11 +1,17 @@
 -- Only private clauses cite this: rows made of items, one by one.
-use Rattle.std.specs.Prelude.{◌≡◌, ℕ, ◌+◌, ◌<◌, List, [], ◌∷◌, ◌++◌, map, Option, Some, None, slice_index_or}
+use Rattle.std.specs.Prelude.{◌≡◌, ℕ, ◌+◌, ◌<◌, ◌&&◌, Bool, false, List, [], ◌∷◌, ◌++◌, length, map, Option, Some, None, slice_index_or}
 use Rattle.yv_expand.specs.Tree.{Node}
 use Rattle.yv_nodes.specs.declared.node.NodeId.{NodeId}
 use Rattle.yv_nodes.specs.Tree.{Label}
-use Rattle.yv_nodes.specs.Rows.{Row, root}
+use Rattle.yv_node_definition.specs.Definition.{Definition}
+use Rattle.yv_node_definition.specs.Kinds.{is_leaf}
+use Rattle.yv_node_statements.specs.Definitions.{refined_definition}
+use Rattle.yv_expand_tree.specs.Final.{changes_of}
+use Rattle.yv_expand_tree.specs.FinalTree.{origin_at}
+use Rattle.yv_nodes.specs.Labels.{has_key_called}
+use Rattle.yv_nodes.specs.Rows.{Row, blank_row, root}
 use Rattle.yv_nodes.specs.Above.{View, seen_of}
-use Rattle.yv_schema_build.specs.InnerBasis.{NumberedBasis, label_at}
+use Rattle.yv_schema_build.specs.InnerBasis.{NumberedBasis, label_at, module_file_of}
 
 -- a place, where there is one, is before this
 abbrev pub IsWithin : Option ℕ → ℕ → Type 0
@@ -47,3 +53,26 @@ rows_of_items b below lines number (x ∷ xs) =
 -- this is seen of the lines of items
 pub record AreSeen (lines : List (List Label)) (seen : List View) : Type 0 where
   pub are : seen ≡ map seen_of lines
+
+-- what stands where there is no item
+abbrev pub no_node : Node
+no_node = record { origin = 0; parent = None }
+
+-- what is said of the node of an item
+abbrev pub said_at : NumberedBasis → (item : ℕ) → Definition
+said_at b item = refined_definition b.typing b.files (origin_at b.final.items item) (slice_index_or (changes_of b.files b.final) item [])
+
+-- of these items, the node of that above has a key of this module and this name; nothing is above
+-- one at the top
+abbrev pub is_key_above : NumberedBasis → List Node → (above : Option ℕ) → (module_file : ℕ) → (name : List ℕ) → Bool
+is_key_above b xs None module_file name = false
+is_key_above b xs (Some place) module_file name = has_key_called (label_at b [] (slice_index_or xs place no_node).origin ∷ []) module_file name
+
+-- the node of one of these items is a key of the list just above
+abbrev pub is_key_at : NumberedBasis → List Node → Node → Bool
+is_key_at b xs x = is_leaf (said_at b x.origin).kind && is_key_above b xs x.parent (module_file_of b x.origin) (said_at b x.origin).name
+
+-- these are rows of the first of these items: so much is said of each, and so it is a key or not
+pub record AreOfItems (b : NumberedBasis) (xs : List Node) (rows : List Row) : Type 0 where
+  pub said : (k : ℕ) → k < length rows → (slice_index_or rows k blank_row).label.defined ≡ said_at b (slice_index_or xs k no_node).origin
+  pub keys : (k : ℕ) → k < length rows → (slice_index_or rows k blank_row).label.is_key ≡ is_key_at b xs (slice_index_or xs k no_node)

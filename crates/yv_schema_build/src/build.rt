@@ -67,6 +67,7 @@ pub(crate) fn build<'a>(
         alloc,
         context: &*context,
         module_files: &module_files,
+        statements: rows.entries().len(),
     };
     let NumberedNodes { nodes: stated, top } = builder.number_nodes(limit)?;
     let ResolvedLeafrefs {

@@ -1,10 +1,10 @@
 //! What is known of files before their nodes are built.
-ghost use Rattle.std.specs.Prelude.{◌≡◌, [], None, IfOk, slice_index_or};
+ghost use Rattle.std.specs.Prelude.{◌≡◌, true, None, IfOk};
 ghost use Rattle.yv_expand.specs.Tree.{item_list};
 ghost use Rattle.yv_statement.specs.Selection.{Selected};
-ghost use Rattle.yv_node_statements.specs.{Definitions.{refined_definition}, Context.{files_in, typing_in}};
-ghost use Rattle.yv_expand_tree.specs.{Final.{changes_of}, FinalTree.{AreKept, origin_at}};
-ghost use Rattle.yv_schema_build.specs.{InnerBasis.{NumberedBasis, module_file_of}, InnerContext.{IsRefinedOf, Tells}};
+ghost use Rattle.yv_node_statements.specs.Context.{files_in, typing_in};
+ghost use Rattle.yv_expand_tree.specs.FinalTree.{AreKept};
+ghost use Rattle.yv_schema_build.specs.{InnerBasis.{NumberedBasis, module_file_of}, InnerContext.{IsRefinedOf, Tells}, InnerRows.{said_at}};
 
 use std::alloc::{AllocError, Global};
 use yv_expand::RemainingNode;
@@ -85,11 +85,28 @@ impl<'c, 'a, 'b> Context<'c, 'a, 'b> {
         self.tree.module_file(item)
     }
 
+    /// Whether the nodes of two items are copies of one statement's that the same refines change.
+    pub(crate) fn are_copies(&self, one: usize, other: usize) -> bool
+        ensures { (b : NumberedBasis) → Tells b self.now → result ≡ true
+            → said_at b one ≡ said_at b other }
+    {
+        let changes = self.tree.changes();
+        self.tree.origin(one) == self.tree.origin(other)
+            && changes.sequence(one) == changes.sequence(other)
+    }
+
+    /// Whether two items belong to one module.
+    pub(crate) fn are_of_one_module(&self, one: usize, other: usize) -> bool
+        ensures { (b : NumberedBasis) → Tells b self.now → result ≡ true
+            → module_file_of b one ≡ module_file_of b other }
+    {
+        self.module_file(one) == self.module_file(other)
+    }
+
     /// What is said of the node of an item.
     pub(crate) fn definition(&self, item: usize) -> Result<Definition, AllocError>
-        ensures { (b : NumberedBasis) → Tells b self.now → IfOk result (λ d. d
-            ≡ refined_definition b.typing b.files (origin_at b.final.items item)
-            (slice_index_or (changes_of b.files b.final) item [])) }
+        ensures { (b : NumberedBasis) → Tells b self.now
+            → IfOk result (λ d. d ≡ said_at b item) }
     {
         let sequence = self.tree.changes().sequence(item);
         self.refined.of(self.tree.origin(item), sequence)

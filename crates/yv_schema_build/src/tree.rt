@@ -1,16 +1,19 @@
 //! The nodes of a schema.
-ghost use Rattle.std.specs.{Prelude.{◌≡◌, ◌<◌, ◌≤◌, ◌+◌, [], ◌∷◌, ◌++◌, ℕ, All, List, Some, length, IfOk, IfErr, OnOk, slice_get, slice_index_or}, Rc.{rc_str_bytes}};
+ghost use Rattle.std.specs.{Prelude.{◌≡◌, ◌<◌, ◌≤◌, ◌+◌, [], ◌∷◌, ◌++◌, ◌&&◌, ℕ, All, List, Some, length, IfOk, IfErr, IfSome, OnOk, slice_get, slice_index_or}, Rc.{rc_str_bytes}};
 ghost use Rattle.yv_statement.specs.declared.refusal.Stop.TheVariants.{NoMemory};
 ghost use Rattle.yv_schema_build.specs.{Families.{lists_of}, InnerBasis.{NumberedBasis, label_at, stated_of}, InnerContext.{IsTold, Tells}, InnerModuleNames.{AreModuleNames}, InnerRows.{AreSeen, IsWithin, line_at, number_at, numbers_at, parent_of, row_of, rows_of_items}};
 ghost use Rattle.yv_expand.specs.Tree.{Node as Left};
-ghost use Rattle.yv_nodes.specs.{Numbers.{numbers_from, rows_from}, Tree.{Label}, Above.{seen_of}};
+ghost use Rattle.yv_nodes.specs.{Numbers.{numbers_from, rows_from}, Tree.{Label}, Above.{seen_of}, Labels.{has_key_called, label_of}, Member.{row_with}, Rows.{blank_row, rank}};
+ghost use Rattle.yv_node_definition.specs.Kinds.{is_leaf};
 
 use crate::context::Context;
+use crate::copies::FirstCopies;
 use crate::families::families_of;
 use crate::module_names::ModuleNames;
 use std::alloc::{AllocError, Global};
 use yv_expand::RemainingNode as LeftNode;
-use yv_nodes::{Above, Node, NodeId, Nodes};
+use yv_node_definition::Definition;
+use yv_nodes::{Above, Node, NodeId, NodePlace, Nodes};
 use yv_schema_tables::Schema;
 use yv_statement::Stop;
 
@@ -27,6 +30,8 @@ pub(crate) struct Builder<'c, 'a, 'b> {
     pub(crate) alloc: Global,
     pub(crate) context: &'c Context<'c, 'a, 'b>,
     pub(crate) module_files: &'c ModuleNames,
+    /// How many statements there are.
+    pub(crate) statements: usize,
 }
 
 impl Builder<'_, '_, '_> {
@@ -52,13 +57,14 @@ impl Builder<'_, '_, '_> {
         Ok(NumberedNodes { nodes, top })
     }
 
-    // Adds the nodes of items, below which stand those in these places.
+    // Adds the nodes of items, below which stand those in these places, to none.
     fn add_nodes(
         &self,
         items: &[LeftNode],
         below: &[Vec<usize>],
         nodes: &mut Nodes,
     ) -> Result<(), Stop>
+        requires none { nodes.old.rows ≡ [] }
         requires room { length nodes.old.rows + length items.now ≤ nodes.old.limit }
         requires few { length items.now ≤ 4294967296 }
         requires parents { (place : ℕ) (item : Left) → slice_get items.now place ≡ Some item
@@ -73,32 +79,38 @@ impl Builder<'_, '_, '_> {
     {
         let top = Above::top();
         let mut aboves = Vec::new(self.alloc);
+        let mut copies = FirstCopies::new(self.alloc, self.statements)?;
         for (place, item) in items.iter().enumerate() {
             let above = above_at(&top, &aboves, item.parent);
             let parent = parent_of(item.parent);
             let children = numbers_at(self.alloc, places_at(below, place))?;
-            let made = self.node(item, above, parent, children)?;
+            let shown = self.precedent(items, place, nodes, &mut copies)?;
+            let made = self.node(item, above, parent, children, shown.is_key)?;
             aboves.push(made.above_others)?;
-            nodes.push(made.node)?;
+            add_node(nodes, made.node, shown.earlier)?;
         }
         Ok(())
     }
 
-    // The node of an item below these, with this parent and these children.
+    // The node of an item below these, with this parent and these children. It may be known whether
+    // it is a key.
     fn node(
         &self,
         item: &LeftNode,
         above: &Above,
         parent: NodeId,
         children: Vec<NodeId>,
+        is_key: Option<bool>,
     ) -> Result<MadeNodes, AllocError>
         ensures node { (b : NumberedBasis) (ls : List Label) → Tells b self.now.context.now
             → AreModuleNames b.files self.now.module_files.now
             → above.now ≡ seen_of ls
+            → IfSome is_key (λ known. known ≡ (label_at b ls item.now.origin).is_key)
             → IfOk result (λ made. made.node ≡ row_of b ls item.now parent children.items) }
         ensures above { (b : NumberedBasis) (ls : List Label) → Tells b self.now.context.now
             → AreModuleNames b.files self.now.module_files.now
             → above.now ≡ seen_of ls
+            → IfSome is_key (λ known. known ≡ (label_at b ls item.now.origin).is_key)
             → IfOk result
             (λ made. made.above_others ≡ seen_of (label_at b ls item.now.origin ∷ ls)) }
         ensures parent { IfOk result (λ made. made.node.parent ≡ parent) }
@@ -106,7 +118,7 @@ impl Builder<'_, '_, '_> {
         let definition = self.context.definition(item.origin)?;
         let module_file = self.context.module_file(item.origin);
         let name = self.module_files.name(module_file)?;
-        let standing = above.place_of(&definition, module_file)?;
+        let standing = node_place(above, &definition, module_file, is_key)?;
         let above_others = above.below(&definition, module_file, standing)?;
         Ok(MadeNodes {
             node: Node::new(definition, module_file, name, standing, parent, children),
@@ -131,6 +143,45 @@ fn above_at<'k>(top: &'k Above, aboves: &'k [Above], parent: Option<usize>) -> &
     match parent {
         Some(place) => aboves.get(place).unwrap_or(top),
         None => top,
+    }
+}
+
+// The place in the tree of the node that a statement defines, below these nodes. It may be known
+// whether it is a key.
+fn node_place(
+    above: &Above,
+    definition: &Definition,
+    module_file: u32,
+    is_key: Option<bool>,
+) -> Result<NodePlace, AllocError>
+    ensures { (ls : List Label) → above.now ≡ seen_of ls → IfSome is_key (λ known. known
+        ≡ (is_leaf definition.now.kind && has_key_called ls module_file definition.now.name))
+        → IfOk result (λ standing.
+        (module_name : List ℕ) (parent : NodeId) (children : List NodeId)
+        → (row_with definition.now module_file module_name standing parent children).label
+        ≡ label_of definition.now module_file module_name ls) }
+{
+    match is_key {
+        Some(is_key) => Ok(above.place_with(definition, module_file, is_key)),
+        None => above.place_of(definition, module_file),
+    }
+}
+
+// Adds a node. The same may be said of it as of an earlier one.
+fn add_node(nodes: &mut Nodes, node: Node, earlier: Option<usize>) -> Result<(), AllocError>
+    requires room { length nodes.old.rows < nodes.old.limit }
+    requires parent { rank node.parent ≤ length nodes.old.rows }
+    requires earlier { IfSome earlier (λ e. e < length nodes.old.rows) }
+    requires few { length nodes.old.rows ≤ 4294967296 }
+    ensures rows { IfSome earlier (λ e.
+        (slice_index_or nodes.old.rows e blank_row).label.defined ≡ node.label.defined)
+        → OnOk result (nodes.new.rows ≡ nodes.old.rows ++ node ∷ []) }
+    ensures count { OnOk result (length nodes.new.rows ≡ length nodes.old.rows + 1) }
+    ensures limit { nodes.new.limit ≡ nodes.old.limit }
+{
+    match earlier {
+        Some(earlier) => nodes.push_alike(node, number_at(earlier)),
+        None => nodes.push(node),
     }
 }
 

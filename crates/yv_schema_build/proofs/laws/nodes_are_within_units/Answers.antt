@@ -1,6 +1,5 @@
-use Rattle.std.proofs.Common.{◌∙◌, [], ap, sym, arith, subst}
+use Rattle.std.proofs.Common.{◌∙◌, [], sym, arith, subst}
 use Rattle.yv_link_scopes.specs.Files.{Files}
-use Rattle.yv_nodes.specs.Tree.{count}
 use Rattle.yv_schema_build.specs.InnerBasis.{leafrefs_of, stated_of}
 use Rattle.yv_schema_build.specs.Units.{TakeUnits}
 use Rattle.yv_schema_build.proofs.Typing.{count_resolved}

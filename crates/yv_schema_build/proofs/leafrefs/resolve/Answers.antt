@@ -1,15 +1,15 @@
-use Rattle.std.proofs.Common.{◌≡◌, ◌<◌, ◌^◌, ◌⊎◌, ℕ, [], List, Option, None, length, map, refl, sym, ap, ap₂, ◌∙◌, subst}
+use Rattle.std.proofs.Common.{◌≡◌, ◌<◌, ◌^◌, ℕ, [], List, Option, None, length, map, refl, sym, ap, ap₂, ◌∙◌, subst}
 use Rattle.std.specs.List.{slice_get}
 use Rattle.std.specs.Option.{option_and_then}
 use Rattle.yv_link_scopes.specs.Files.{Files}
-use Rattle.yv_link_scopes.specs.Views.{lent_in, rows_in}
+use Rattle.yv_link_scopes.specs.Views.{rows_in}
 use Rattle.yv_link_scopes.specs.RowList.{rows_of, statements_of}
 use Rattle.yv_expand.specs.declared.origin.Origin.{Origin}
 use Rattle.yv_node_statements.specs.Kinds.{TypeMeanings}
 use Rattle.yv_node_statements.specs.Context.{files_in, typing_in}
 use Rattle.yv_node_leafrefs.specs.Above.{AreBehind}
 use Rattle.yv_node_leafrefs.specs.Leafrefs.{AreLeafrefs}
-use Rattle.yv_node_leafrefs.specs.Schema.{AreAlike, Referral, Schema, leafref_of_row}
+use Rattle.yv_node_leafrefs.specs.Schema.{AreAlike, Schema, leafref_of_row}
 use Rattle.yv_schema_build.specs.Referrals.{referral_at}
 use Rattle.yv_schema_build.specs.InnerResolution.{origins_of, schema_of_rows, statement_number}
 use Rattle.yv_schema_build.specs.InnerBasis.{leafrefs_of, stated_of}

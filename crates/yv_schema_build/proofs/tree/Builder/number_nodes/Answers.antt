@@ -3,7 +3,6 @@ use Rattle.yv_expand.specs.Tree.{Node, count}
 use Rattle.yv_nodes.specs.Rows.{Row}
 use Rattle.yv_schema_build.specs.Families.{below_from, lists_of}
 use Rattle.yv_schema_build.specs.InnerRows.{numbers_at, rows_of_items}
-use Rattle.yv_schema_build.specs.InnerBasis.{nodes_in}
 use Rattle.yv_schema_build.proofs.Numbering.{AllBefore, below_before, each_before, numbers_before, parents_first}
 use Rattle.yv_schema_build.proofs.Parenting.{length_listed}
 use Rattle.yv_schema_build.proofs.Rowing.{rows_whole, top_whole}
