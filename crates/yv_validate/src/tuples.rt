@@ -9,13 +9,14 @@ ghost use Rattle.yv_validate.specs.InnerNotes.{HasTuples, list_tuple, tuple_in};
 ghost use Rattle.yv_faults.specs.Trails.{places, IsWithin};
 ghost use Rattle.yv_validate.specs.Faults.{unique_faults, unique_if};
 ghost use Rattle.yv_validate.specs.Work.{uniques_work};
+ghost use Rattle.yv_validate.specs.InnerPromises.{Reports};
 
 use crate::memory::stood_before;
 use crate::notes::Notes;
 use crate::walk::Walk;
 use serde_json::Value;
 use std::alloc::AllocError;
-use yv_faults::{Fault, FaultKind, Faults, Trail};
+use yv_faults::{FaultKind, Faults, Trail};
 use yv_nodes::NodeId;
 use yv_values::{Index, Meter, Tuple};
 
@@ -102,19 +103,11 @@ impl Walk<'_> {
         faults: &mut Faults,
     ) -> Result<(), AllocError>
         requires { IsWithin self.now.schema.now here.now }
-        ensures { OnOk result
-            (faults.new.items ≡ faults.old.items
-            ++ unique_if first (places self.now.schema.now here.now) (before + 1)) }
+        ensures { OnOk result (Reports faults.old faults.new
+            (unique_if first (places self.now.schema.now here.now) (before + 1))) }
     {
-        let Some(place) = first else {
-            return Ok(());
-        };
-        let path = faults.path(self.alloc, self.schema, here)?;
-        faults.push(Fault {
-            kind: FaultKind::Unique,
-            path,
-            number: before.saturating_add(1).min(4294967295) as u32,
-            earlier: Some(place.min(4294967295) as u32),
-        })
+        let number = before.saturating_add(1).min(4294967295) as u32;
+        self.tell_repeat(first, FaultKind::Unique, number, here, faults)?;
+        Ok(())
     }
 }
