@@ -3,10 +3,8 @@ ghost use Rattle.std.specs.Prelude.{◌≤◌, ◌+◌, ◌*◌};
 ghost use Rattle.serde_json.specs.Data.{Data};
 ghost use Rattle.yv_statement.specs.declared.document_kind.Kind.{Kind};
 ghost use Rattle.yv_nodes.specs.Rows.{Rows, whole};
-ghost use Rattle.yv_schema_tables.specs.Measures.{measures_of};
-ghost use Rattle.yv_schema_tables.specs.Sound.{IsSound};
-ghost use Rattle.yv_validate.specs.Size.{size};
-ghost use Rattle.yv_validate.specs.Work.{work};
+ghost use Rattle.yv_schema_tables.specs.{Measures.{measures_of}, Sound.{IsSound}};
+ghost use Rattle.yv_validate.specs.{Size.{size}, Work.{work}};
 
 /// The steps of a validation are at most as many as the measures of the schema and the size of the
 /// document say, whatever these are, and whatever kind of document is asked for. Of each schema

@@ -1,8 +1,7 @@
 //! Items of arrays that stood before.
 ghost use Rattle.std.specs.Prelude.{◌≡◌, ◌+◌, ◌∷◌, [], IfOk, OnOk, option_map, if◌then◌else◌};
 ghost use Rattle.yv_values.specs.Count.{count_up};
-ghost use Rattle.yv_validate.specs.InnerMemory.{Tells};
-ghost use Rattle.yv_validate.specs.Work.{tuple_work};
+ghost use Rattle.yv_validate.specs.{InnerMemory.{Tells}, Work.{tuple_work}};
 
 use std::alloc::{AllocError, Global};
 use yv_values::{Index, Meter, Tuple, Value};

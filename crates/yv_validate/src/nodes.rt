@@ -1,18 +1,12 @@
 //! Nodes below which the walk doesn't go.
 ghost use Rattle.std.specs.Prelude.{◌≡◌, ◌==◌, ◌&&◌, ◌∷◌, [], ◌++◌, ◌+◌, ◌<◌, Option, nat_lt, length, map, false, true, Some, None, IfOk, OnOk, option_map, unwrap_or, if◌then◌else◌};
-ghost use Rattle.serde_json.specs.Events.{items_len};
-ghost use Rattle.serde_json.specs.View.{view, items_view};
+ghost use Rattle.serde_json.specs.{Events.{items_len}, View.{view, items_view}};
 ghost use Rattle.yv_node_definition.specs.declared.kind.NodeKind.TheVariants.{Leaf, LeafList};
 ghost use Rattle.yv_values.specs.Count.{count_up};
-ghost use Rattle.yv_nodes.specs.Defaults.{width};
-ghost use Rattle.yv_nodes.specs.Rows.{row_at};
-ghost use Rattle.yv_leafref_values.specs.Findings.{Finds};
-ghost use Rattle.yv_leafref_values.specs.InUse.{is_asked, is_empty_at, uses_defaults};
-ghost use Rattle.yv_validate.specs.Faults.{anydata_faults, anyxml_faults, array_faults, choice_faults, count_faults, flaw_if, leaf_faults, misshapen as misshapen_faults};
-ghost use Rattle.yv_validate.specs.InnerNotes.{Gains};
+ghost use Rattle.yv_nodes.specs.{Defaults.{width}, Rows.{row_at}};
+ghost use Rattle.yv_leafref_values.specs.{Findings.{Finds}, InUse.{is_asked, is_empty_at, uses_defaults}};
+ghost use Rattle.yv_validate.specs.{Faults.{anydata_faults, anyxml_faults, array_faults, choice_faults, count_faults, flaw_if, leaf_faults, misshapen as misshapen_faults}, InnerNotes.{Gains}, InnerWalk.{items_at, leaf_at, leaf_list_at}, InnerPromises.{all_defaults_found, ClosesData, data_of, default_found, default_in_use, GainsData, GrowsAt, GrowsWithAt, IsAskedOn, IsNodeOn, met_at_item, own_node, RemembersItems, Reports, value_at, value_found_at, work_at_value}};
 ghost use Rattle.yv_faults.specs.Trails.{places, IsWithin};
-ghost use Rattle.yv_validate.specs.InnerWalk.{items_at, leaf_at, leaf_list_at};
-ghost use Rattle.yv_validate.specs.InnerPromises.{all_defaults_found, ClosesData, data_of, default_found, default_in_use, GainsData, GrowsAt, GrowsWithAt, IsAskedOn, IsNodeOn, met_at_item, own_node, RemembersItems, Reports, value_at, value_found_at, work_at_value};
 
 use crate::memory::{alone, stood_before};
 use crate::notes::Notes;

@@ -1,8 +1,7 @@
 //! The values of leafs that were met.
 ghost use Rattle.std.specs.Prelude.{◌≡◌, ◌==◌, ◌<◌, ℕ, length, map, Some, None, IfOk, OnOk, if◌then◌else◌};
 ghost use Rattle.yv_nodes.specs.Rows.{Rows, row_at};
-ghost use Rattle.yv_validate.specs.InnerNotes.{default_value, Gains, noted_at};
-ghost use Rattle.yv_validate.specs.Values.{all_values, tuple_of};
+ghost use Rattle.yv_validate.specs.{InnerNotes.{default_value, Gains, noted_at}, Values.{all_values, tuple_of}};
 
 use std::alloc::{AllocError, Global};
 use std::collections::BTreeMap;

@@ -1,22 +1,14 @@
 //! Objects, and what is met in them.
 ghost use Rattle.std.specs.Prelude.{◌≡◌, ◌==◌, ◌<◌, ◌≤◌, ◌+◌, ◌*◌, ℕ, List, [], ◌∷◌, length, IfOk, IfSome, OnOk, None, Some, if◌then◌else◌};
-ghost use Rattle.serde_json.specs.Data.{depth as nesting, object as an_object};
-ghost use Rattle.serde_json.specs.View.{view, items_view, members_view};
+ghost use Rattle.serde_json.specs.{Data.{depth as nesting, object as an_object}, View.{view, items_view, members_view}};
 ghost use Rattle.yv_node_definition.specs.Kinds.{is_data};
 ghost use Rattle.yv_values.specs.Count.{count_up};
 ghost use Rattle.yv_nodes.specs.Rows.{rank, below, whole};
 ghost use Rattle.yv_schema_tables.specs.Measures.{measures_of};
-ghost use Rattle.yv_walk.specs.Context.{members_len, members_of};
-ghost use Rattle.yv_walk.specs.Existence.{any, existence_of};
-ghost use Rattle.yv_leafref_values.specs.Findings.{first_of};
-ghost use Rattle.yv_leafref_values.specs.InUse.{is_asked, is_number};
-ghost use Rattle.yv_validate.specs.Faults.{array_faults, faults as all_faults, flaw};
-ghost use Rattle.yv_validate.specs.InnerNotes.{GainsBy, HasTuples};
+ghost use Rattle.yv_walk.specs.{Context.{members_len, members_of}, Existence.{any, existence_of}};
+ghost use Rattle.yv_leafref_values.specs.{Findings.{first_of}, InUse.{is_asked, is_number}};
+ghost use Rattle.yv_validate.specs.{Faults.{array_faults, faults as all_faults, flaw}, InnerNotes.{GainsBy, HasTuples}, InnerWalk.{children_met, Meets, MeetsBelow}, Size.{size}, Work.{work}, InnerPromises.{ClosesAt, ClosesData, data_of, fallback_in, faults_in, GainsData, GrowsAt, GrowsBy, GrowsWithAt, IsDataOn, IsObjectOn, IsParentOn, IsStateOn, MayChoose, MayMeet, MayMeetBelow, met_at_data, met_at_node, met_below, met_in_cases, met_in_container, met_in_entries, met_in_list, met_in_object, most_work, next_at, node_in, own_node, Reports, unknowns_in, work_in}};
 ghost use Rattle.yv_quiet_nodes.specs.Quiet.{IsEmptied, IsPassed};
-ghost use Rattle.yv_validate.specs.InnerWalk.{children_met, Meets, MeetsBelow};
-ghost use Rattle.yv_validate.specs.Size.{size};
-ghost use Rattle.yv_validate.specs.Work.{work};
-ghost use Rattle.yv_validate.specs.InnerPromises.{ClosesAt, ClosesData, data_of, fallback_in, faults_in, GainsData, GrowsAt, GrowsBy, GrowsWithAt, IsDataOn, IsObjectOn, IsParentOn, IsStateOn, MayChoose, MayMeet, MayMeetBelow, met_at_data, met_at_node, met_below, met_in_cases, met_in_container, met_in_entries, met_in_list, met_in_object, most_work, next_at, node_in, own_node, Reports, unknowns_in, work_in};
 
 use crate::laws::work_bound;
 use crate::memory::stood_before;

@@ -2,8 +2,7 @@
 ghost use Rattle.std.specs.Prelude.{◌≡◌, ◌&&◌, ◌∷◌, [], ◌++◌, map, OnOk};
 ghost use Rattle.yv_faults.specs.Trails.{places, IsWithin};
 ghost use Rattle.yv_leafref_values.specs.InUse.{enforces};
-ghost use Rattle.yv_validate.specs.Faults.{flaw, flaw_if, reference_faults, repeat_faults};
-ghost use Rattle.yv_validate.specs.InnerPromises.{Reports, unknown_at};
+ghost use Rattle.yv_validate.specs.{Faults.{flaw, flaw_if, reference_faults, repeat_faults}, InnerPromises.{Reports, unknown_at}};
 
 use crate::walk::Walk;
 use std::alloc::AllocError;

@@ -1,15 +1,10 @@
 //! The tuples by which list entries differ.
 ghost use Rattle.std.specs.Prelude.{◌≡◌, ◌∷◌, [], ◌++◌, ◌+◌, ◌<◌, length, map, min, Some, IfOk, OnOk};
-ghost use Rattle.serde_json.specs.Data.{Data};
-ghost use Rattle.serde_json.specs.View.{view};
+ghost use Rattle.serde_json.specs.{Data.{Data}, View.{view}};
 ghost use Rattle.yv_values.specs.Count.{count_up};
-ghost use Rattle.yv_validate.specs.InnerMemory.{RemembersEach};
+ghost use Rattle.yv_validate.specs.{InnerMemory.{RemembersEach}, InnerNotes.{HasTuples, list_tuple, tuple_in}, Faults.{unique_faults, unique_if}, Work.{uniques_work}, InnerPromises.{Reports}};
 ghost use Rattle.yv_quiet_nodes.specs.NamedLeafs.{uniques_at};
-ghost use Rattle.yv_validate.specs.InnerNotes.{HasTuples, list_tuple, tuple_in};
 ghost use Rattle.yv_faults.specs.Trails.{places, IsWithin};
-ghost use Rattle.yv_validate.specs.Faults.{unique_faults, unique_if};
-ghost use Rattle.yv_validate.specs.Work.{uniques_work};
-ghost use Rattle.yv_validate.specs.InnerPromises.{Reports};
 
 use crate::memory::stood_before;
 use crate::notes::Notes;

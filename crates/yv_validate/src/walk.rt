@@ -1,6 +1,5 @@
 //! A walk over a document and its schema.
-ghost use Rattle.yv_quiet_nodes.specs.Quiet.{AreKnown};
-ghost use Rattle.yv_quiet_nodes.specs.Runs.{HasRuns};
+ghost use Rattle.yv_quiet_nodes.specs.{Quiet.{AreKnown}, Runs.{HasRuns}};
 
 use std::alloc::Global;
 use yv_faults::Trail;
