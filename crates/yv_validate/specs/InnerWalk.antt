@@ -158,19 +158,6 @@ pub record Closes (k : Kind) (s : Rows) (old new : ProgressView) (ms : List Meet
 abbrev pub spot_at : Rows → Trail → ℕ → List ℕ → ℕ → Spot
 spot_at s way position outer entry = record { path = places s way; around = position ∷ outer; entry = entry }
 
--- whatever objects are around it, and whatever entry it is in
-abbrev pub GrowsAt : Kind → Rows → Trail → ℕ → ProgressView → ProgressView → (Spot → ℕ → List Meeting) → Type 0
-GrowsAt k s way position old new met_at =
-    (outer : List ℕ) (entry : ℕ) → Grows k s old new (met_at (spot_at s way position outer entry) (next_of old))
-
-abbrev pub GrowsWithAt : Kind → Rows → Trail → ℕ → ProgressView → ProgressView → (Spot → ℕ → List Meeting) → List Flaw → Type 0
-GrowsWithAt k s way position old new met_at own =
-    (outer : List ℕ) (entry : ℕ) → GrowsWith k s old new (met_at (spot_at s way position outer entry) (next_of old)) own
-
-abbrev pub ClosesAt : Kind → Rows → Trail → ℕ → ProgressView → ProgressView → (Spot → ℕ → List Meeting) → (Spot → Node) → Type 0
-ClosesAt k s way position old new met_at node_of =
-    (outer : List ℕ) (entry : ℕ) → Closes k s old new (met_at (spot_at s way position outer entry) (next_of old)) (node_of (spot_at s way position outer entry))
-
 -- the members write this for the node
 abbrev pub Writes : Rows → NodeId → Option Data → Members → Type 0
 Writes s n found ms = get_member (row_at s n).label.member ms ≡ found

@@ -6,5 +6,6 @@ pub mod Size
 pub mod InnerWalk
 pub mod InnerMemory
 pub mod InnerNotes
+pub mod InnerPromises
 pub use Rattle.yv_nodes.specs.Tree
 pub use Rattle.yv_nodes.specs.Rows

@@ -6,6 +6,7 @@ pub mod laws;
 mod memory;
 mod nodes;
 mod notes;
+mod objects;
 mod progress;
 mod report;
 mod tell;
@@ -13,8 +14,8 @@ mod tuples;
 mod walk;
 
 pub use count::size;
+pub use objects::validate;
 pub use report::Report;
-pub use walk::validate;
 pub use yv_faults::{Fault, FaultKind, Part, Path, PathSteps, line, push_line};
 pub use yv_leafref_values::{MemberName, RuleScope, Step};
 pub use yv_statement::Kind;

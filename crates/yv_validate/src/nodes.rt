@@ -1,17 +1,17 @@
 //! Nodes below which the walk doesn't go.
-ghost use Rattle.std.specs.Prelude.{◌≡◌, ◌==◌, ◌&&◌, ◌∷◌, [], ◌++◌, ◌+◌, ◌<◌, List, ℕ, Option, nat_lt, length, map, false, true, Some, None, IfOk, OnOk, option_map, unwrap_or, if◌then◌else◌};
-ghost use Rattle.serde_json.specs.{Data.{Members}, Events.{items_len}, View.{view, items_view}};
+ghost use Rattle.std.specs.Prelude.{◌≡◌, ◌==◌, ◌&&◌, ◌∷◌, [], ◌++◌, ◌+◌, ◌<◌, Option, nat_lt, length, map, false, true, Some, None, IfOk, OnOk, option_map, unwrap_or, if◌then◌else◌};
+ghost use Rattle.serde_json.specs.{Events.{items_len}, View.{view, items_view}};
 ghost use Rattle.yv_node_definition.specs.declared.kind.NodeKind.TheVariants.{Leaf, LeafList};
 ghost use Rattle.yv_values.specs.Count.{count_up};
-ghost use Rattle.yv_nodes.specs.{Defaults.{defaults_of, width}, Rows.{row_at}};
-ghost use Rattle.yv_leafref_values.specs.{Findings.{Finds}, InUse.{is_asked, is_empty_at, uses_defaults, value_of}, Meetings.{at_value}};
-ghost use Rattle.yv_validate.specs.{Faults.{anydata_faults, anyxml_faults, array_faults, choice_faults, count_faults, flaw_if, item_tuple, leaf_faults, misshapen as misshapen_faults}, InnerMemory.{Remembers}, InnerNotes.{default_value, Gains, GainsBy}, InnerWalk.{ClosesAt, defaults_found, empty_found, Grows, GrowsAt, GrowsWithAt, items_at, leaf_at, leaf_list_at, node_at, plain_at, spot_at, progress_view, value_found, with_node, Writes, written_at}, Work.{value_work}};
+ghost use Rattle.yv_nodes.specs.{Defaults.{width}, Rows.{row_at}};
+ghost use Rattle.yv_leafref_values.specs.{Findings.{Finds}, InUse.{is_asked, is_empty_at, uses_defaults}};
+ghost use Rattle.yv_validate.specs.{Faults.{anydata_faults, anyxml_faults, array_faults, choice_faults, count_faults, flaw_if, leaf_faults, misshapen as misshapen_faults}, InnerNotes.{Gains}, InnerWalk.{items_at, leaf_at, leaf_list_at}, InnerPromises.{all_defaults_found, ClosesData, data_of, default_found, default_in_use, GainsData, GrowsAt, GrowsWithAt, IsAskedOn, IsNodeOn, met_at_item, own_node, RemembersItems, Reports, value_at, value_found_at, work_at_value}};
 ghost use Rattle.yv_faults.specs.Trails.{places, IsWithin};
 
 use crate::memory::{alone, stood_before};
 use crate::notes::Notes;
 use crate::progress::{Progress, meet};
-use crate::walk::Walk;
+use crate::walk::{Visit, Walk};
 use serde_json::Value;
 use std::alloc::AllocError;
 use yv_faults::{FaultKind, Faults, Trail};
@@ -41,41 +41,26 @@ impl<'a> Walk<'a> {
     /// A leaf that was visited, written so or not.
     pub(crate) fn leaf(
         &self,
-        scope: RuleScope,
-        id: NodeId,
+        at: Visit<'_>,
         value: Option<&Value>,
-        position: u64,
-        path: &Trail<'_>,
         notes: &mut Notes,
         progress: &mut Progress<'a>,
     ) -> Result<(), AllocError>
-        requires node { id.0 < length self.now.schema.now.nodes }
-        requires kind { (row_at self.now.schema.now id).label.defined.kind ≡ Leaf }
-        requires asks { is_asked scope ≡ true }
-        requires way { IsWithin self.now.schema.now path.now }
-        ensures grows { OnOk result
-            ((ms : Members)
-            → Writes self.now.schema.now id (option_map (λ v. view v.now) value.entry) ms
-            → ClosesAt self.now.kind self.now.schema.now path.now position
-            (progress_view progress.old) (progress_view progress.new)
-            (leaf_at self.now.schema.now id (option_map (λ v. view v.now) value.entry))
-            (node_at self.now.schema.now scope id ms)) }
-        ensures notes { OnOk result
-            ((ms : Members)
-            → Writes self.now.schema.now id (option_map (λ v. view v.now) value.entry) ms
-            → GainsBy self.now.schema.now notes.old notes.new
-            (with_node (leaf_at self.now.schema.now id (option_map (λ v. view v.now) value.entry))
-            (node_at self.now.schema.now scope id ms))) }
+        requires { IsAskedOn self.now at Leaf }
+        ensures grows { OnOk result (ClosesData self.now at.entry progress.old progress.new
+            value.entry (leaf_at self.now.schema.now at.entry.id)) }
+        ensures notes { OnOk result (GainsData self.now at.entry notes.old notes.new value.entry
+            (leaf_at self.now.schema.now at.entry.id)) }
     {
         laws::nothing_met();
         laws::met_behind();
         laws::default_met();
         match value {
             None => {
-                self.note_default(scope, id, position, notes, &mut progress.found)?;
-                self.absent_leaf(scope, id, path, &mut progress.faults)
+                self.note_default(at, notes, &mut progress.found)?;
+                self.absent_leaf(at, &mut progress.faults)
             }
-            Some(written) => self.written_leaf(id, written, position, path, notes, progress),
+            Some(written) => self.written_leaf(at, written, notes, progress),
         }
     }
 
@@ -83,95 +68,70 @@ impl<'a> Walk<'a> {
     // use.
     fn note_default(
         &self,
-        scope: RuleScope,
-        id: NodeId,
-        position: u64,
+        at: Visit<'_>,
         notes: &mut Notes,
         found: &mut Findings,
     ) -> Result<(), AllocError>
-        requires { id.0 < length self.now.schema.now.nodes }
+        requires { at.id.0 < length self.now.schema.now.nodes }
         ensures notes { OnOk result (Gains self.now.schema.now notes.old notes.new
-            (λ n. if id.0 == n
-            then
-            (if uses_defaults scope then default_value (row_at self.now.schema.now id).label
-            else None) else None)) }
+            (λ n. if at.entry.id.0 == n then default_in_use self.now at.entry else None)) }
         ensures finds { OnOk result
-            (Finds found.old found.new (empty_found self.now.schema.now scope id position)) }
+            (Finds found.old found.new (default_found self.now at.entry)) }
     {
         laws::nothing_met();
-        if !scope.uses_defaults() {
+        if !at.scope.uses_defaults() {
             return Ok(());
         }
-        notes.keep_default(self.schema, id)?;
-        self.use_defaults(id, position, found)
+        notes.keep_default(self.schema, at.id)?;
+        self.use_defaults(at, found)
     }
 
     // Keeps for references that the defaults of a leaf or leaf-list are in use in the object with
     // this number, where it has some.
-    fn use_defaults(
-        &self,
-        id: NodeId,
-        position: u64,
-        found: &mut Findings,
-    ) -> Result<(), AllocError>
-        requires { id.0 < length self.now.schema.now.nodes }
+    fn use_defaults(&self, at: Visit<'_>, found: &mut Findings) -> Result<(), AllocError>
+        requires { at.id.0 < length self.now.schema.now.nodes }
         ensures { OnOk result (Finds found.old found.new
-            (defaults_found self.now.schema.now id position
-            (defaults_of (row_at self.now.schema.now id).label))) }
+            (all_defaults_found self.now at.entry)) }
     {
         laws::nothing_met();
-        if self.schema.node(id).defaults().is_empty() {
+        if self.schema.node(at.id).defaults().is_empty() {
             return Ok(());
         }
-        found.use_defaults(self.schema.links(), id, position)
+        found.use_defaults(self.schema.links(), at.id, at.position)
     }
 
-    fn absent_leaf(
-        &self,
-        scope: RuleScope,
-        id: NodeId,
-        path: &Trail<'_>,
-        faults: &mut Faults,
-    ) -> Result<(), AllocError>
-        requires node { id.0 < length self.now.schema.now.nodes }
-        requires way { IsWithin self.now.schema.now path.now }
-        ensures { OnOk result
-            (faults.new.items ≡ faults.old.items
-            ++ leaf_faults (plain_at self.now.schema.now scope id path.now) None) }
+    fn absent_leaf(&self, at: Visit<'_>, faults: &mut Faults) -> Result<(), AllocError>
+        requires { IsNodeOn self.now at }
+        ensures { OnOk result (Reports faults.old faults.new
+            (leaf_faults (own_node self.now at.entry) None)) }
     {
-        let node = self.schema.node(id);
-        let here = Trail::Below(&*path, id, None);
+        let node = self.schema.node(at.id);
+        let here = Trail::Below(at.path, at.id, None);
         if node.is_key() {
             self.tell(FaultKind::MissingKey, &here, faults)
         } else {
-            self.report_missing(node, scope, &here, faults)
+            self.report_missing(node, at.scope, &here, faults)
         }
     }
 
     fn written_leaf(
         &self,
-        id: NodeId,
+        at: Visit<'_>,
         value: &Value,
-        position: u64,
-        path: &Trail<'_>,
         notes: &mut Notes,
         progress: &mut Progress<'a>,
     ) -> Result<(), AllocError>
-        requires node { id.0 < length self.now.schema.now.nodes }
-        requires way { IsWithin self.now.schema.now path.now }
-        ensures grows { OnOk result
-            (GrowsAt self.now.kind self.now.schema.now path.now position
-            (progress_view progress.old) (progress_view progress.new)
-            (leaf_at self.now.schema.now id (Some (view value.now)))) }
+        requires { IsNodeOn self.now at }
+        ensures grows { OnOk result (GrowsAt self.now at.entry progress.old progress.new
+            (leaf_at self.now.schema.now at.entry.id (Some (view value.now)))) }
         ensures notes { OnOk result (Gains self.now.schema.now notes.old notes.new
-            (λ n. if id.0 == n then value_of (row_at self.now.schema.now id).label (view value.now)
-            else None)) }
+            (λ n. if at.entry.id.0 == n then value_at self.now at.entry value.now else None)) }
     {
         laws::value_met();
-        let here = Trail::Below(&*path, id, None);
-        let read = self.read(id, None, value, position, progress)?;
+        let here = Trail::Below(at.path, at.id, None);
+        let read = self.read(at, None, value, progress)?;
         match read {
-            Some(read) => notes.keep(id, read),
+            Some(read) => notes.keep(at.id, read),
             None => self.tell(FaultKind::Value, &here, &mut progress.faults),
         }
     }
@@ -180,23 +140,20 @@ impl<'a> Walk<'a> {
     // read it; it is kept and noted for references, with its number from 1, where it is an item.
     fn read(
         &self,
-        id: NodeId,
+        at: Visit<'_>,
         item: Option<u64>,
         value: &Value,
-        position: u64,
         progress: &mut Progress<'a>,
     ) -> Result<Option<Read>, AllocError>
-        requires { id.0 < length self.now.schema.now.nodes }
-        ensures value { IfOk result
-            (λ read. read ≡ value_of (row_at self.now.schema.now id).label (view value.now)) }
+        requires { at.id.0 < length self.now.schema.now.nodes }
+        ensures value { IfOk result (λ read. read ≡ value_at self.now at.entry value.now) }
         ensures faults { progress.new.faults.items ≡ progress.old.faults.items }
         ensures finds { OnOk result (Finds progress.old.found progress.new.found
-            (value_found self.now.schema.now id position item
-            (value_of (row_at self.now.schema.now id).label (view value.now)))) }
+            (value_found_at self.now at.entry item (value_at self.now at.entry value.now))) }
         ensures steps { OnOk result (count_up progress.new.meter ≡ count_up (progress.old.meter
-            + value_work (row_at self.now.schema.now id).label (view value.now))) }
+            + work_at_value self.now at.entry value.now)) }
     {
-        let node = self.schema.node(id);
+        let node = self.schema.node(at.id);
         let read = check_with(
             self.alloc,
             &mut progress.meter,
@@ -205,28 +162,24 @@ impl<'a> Walk<'a> {
             node.module(),
             value,
         )?;
-        meet(self.schema, id, item, &read, position, &mut progress.found)?;
+        meet(self.schema, at, item, &read, &mut progress.found)?;
         Ok(read)
     }
 
     /// An anydata node, written so or not: an object of any content.
     pub(crate) fn anydata(
         &self,
-        scope: RuleScope,
-        id: NodeId,
+        at: Visit<'_>,
         value: Option<&Value>,
-        path: &Trail<'_>,
         faults: &mut Faults,
     ) -> Result<(), AllocError>
-        requires node { id.0 < length self.now.schema.now.nodes }
-        requires way { IsWithin self.now.schema.now path.now }
-        ensures { OnOk result (faults.new.items ≡ faults.old.items
-            ++ anydata_faults (plain_at self.now.schema.now scope id path.now)
-            (option_map (λ v. view v.now) value.entry)) }
+        requires { IsNodeOn self.now at }
+        ensures { OnOk result (Reports faults.old faults.new
+            (anydata_faults (own_node self.now at.entry) (data_of value.entry))) }
     {
-        let here = Trail::Below(&*path, id, None);
+        let here = Trail::Below(at.path, at.id, None);
         match value {
-            None => self.report_missing(self.schema.node(id), scope, &here, faults),
+            None => self.report_missing(self.schema.node(at.id), at.scope, &here, faults),
             Some(Value::Object(_)) => Ok(()),
             Some(_) => self.tell(FaultKind::Shape, &here, faults),
         }
@@ -235,21 +188,17 @@ impl<'a> Walk<'a> {
     /// An anyxml node, written so or not: any value.
     pub(crate) fn anyxml(
         &self,
-        scope: RuleScope,
-        id: NodeId,
+        at: Visit<'_>,
         value: Option<&Value>,
-        path: &Trail<'_>,
         faults: &mut Faults,
     ) -> Result<(), AllocError>
-        requires node { id.0 < length self.now.schema.now.nodes }
-        requires way { IsWithin self.now.schema.now path.now }
-        ensures { OnOk result (faults.new.items ≡ faults.old.items
-            ++ anyxml_faults (plain_at self.now.schema.now scope id path.now)
-            (option_map (λ v. view v.now) value.entry)) }
+        requires { IsNodeOn self.now at }
+        ensures { OnOk result (Reports faults.old faults.new
+            (anyxml_faults (own_node self.now at.entry) (data_of value.entry))) }
     {
-        let here = Trail::Below(&*path, id, None);
+        let here = Trail::Below(at.path, at.id, None);
         match value {
-            None => self.report_missing(self.schema.node(id), scope, &here, faults),
+            None => self.report_missing(self.schema.node(at.id), at.scope, &here, faults),
             Some(_) => Ok(()),
         }
     }
@@ -257,24 +206,20 @@ impl<'a> Walk<'a> {
     /// What follows the cases of a choice, so many of which exist.
     pub(crate) fn end_choice(
         &self,
-        scope: RuleScope,
-        id: NodeId,
+        at: Visit<'_>,
         existing: usize,
-        path: &Trail<'_>,
         faults: &mut Faults,
     ) -> Result<(), AllocError>
-        requires node { id.0 < length self.now.schema.now.nodes }
-        requires way { IsWithin self.now.schema.now path.now }
-        ensures { OnOk result (faults.new.items ≡ faults.old.items
-            ++ (if is_asked scope
-            then choice_faults (plain_at self.now.schema.now scope id path.now) existing else [])) }
+        requires { IsNodeOn self.now at }
+        ensures { OnOk result (Reports faults.old faults.new (if is_asked at.entry.scope
+            then choice_faults (own_node self.now at.entry) existing else [])) }
     {
-        if !scope.is_asked() {
+        if !at.scope.is_asked() {
             return Ok(());
         }
-        let here = Trail::Below(&*path, id, None);
+        let here = Trail::Below(at.path, at.id, None);
         match existing {
-            0 => self.report_missing(self.schema.node(id), scope, &here, faults),
+            0 => self.report_missing(self.schema.node(at.id), at.scope, &here, faults),
             1 => Ok(()),
             _ => self.tell(FaultKind::Choice, &here, faults),
         }
@@ -283,40 +228,30 @@ impl<'a> Walk<'a> {
     /// What follows the entries of a list or leaf-list.
     pub(crate) fn end_array(
         &self,
-        scope: RuleScope,
-        id: NodeId,
+        at: Visit<'_>,
         total: usize,
-        path: &Trail<'_>,
         faults: &mut Faults,
     ) -> Result<(), AllocError>
-        requires node { id.0 < length self.now.schema.now.nodes }
-        requires way { IsWithin self.now.schema.now path.now }
-        ensures { OnOk result
-            (faults.new.items ≡ faults.old.items
-            ++ count_faults (plain_at self.now.schema.now scope id path.now) total) }
+        requires { IsNodeOn self.now at }
+        ensures { OnOk result (Reports faults.old faults.new
+            (count_faults (own_node self.now at.entry) total)) }
     {
-        let node = self.schema.node(id);
-        let here = Trail::Below(&*path, id, None);
-        let is_short = total < node.min() as usize && scope.enforces_beside(id);
+        let node = self.schema.node(at.id);
+        let here = Trail::Below(at.path, at.id, None);
+        let is_short = total < node.min() as usize && at.scope.enforces_beside(at.id);
         self.tell_if(is_short, FaultKind::Min, &here, faults)?;
         let is_long = exceeds(total, node.max());
         self.tell_if(is_long, FaultKind::Max, &here, faults)
     }
 
     /// A list or leaf-list for which no array is written.
-    pub(crate) fn misshapen(
-        &self,
-        id: NodeId,
-        path: &Trail<'_>,
-        faults: &mut Faults,
-    ) -> Result<(), AllocError>
-        requires node { id.0 < length self.now.schema.now.nodes }
-        requires way { IsWithin self.now.schema.now path.now }
-        ensures { OnOk result
-            (faults.new.items ≡ faults.old.items
-            ++ misshapen_faults (plain_at self.now.schema.now RuleScope.Always id path.now)) }
+    pub(crate) fn misshapen(&self, at: Visit<'_>, faults: &mut Faults) -> Result<(), AllocError>
+        requires { IsNodeOn self.now at }
+        ensures { OnOk result (Reports faults.old faults.new
+            (misshapen_faults (own_node self.now at.entry))) }
     {
-        self.tell(FaultKind::Shape, &Trail::Below(&*path, id, None), faults)
+        let here = Trail::Below(at.path, at.id, None);
+        self.tell(FaultKind::Shape, &here, faults)
     }
 
     /// Tells a fault, where there is one.
@@ -328,9 +263,8 @@ impl<'a> Walk<'a> {
         faults: &mut Faults,
     ) -> Result<(), AllocError>
         requires { IsWithin self.now.schema.now here.now }
-        ensures { OnOk result
-            (faults.new.items ≡ faults.old.items
-            ++ flaw_if is_wrong kind (places self.now.schema.now here.now)) }
+        ensures { OnOk result (Reports faults.old faults.new
+            (flaw_if is_wrong kind (places self.now.schema.now here.now))) }
     {
         if is_wrong {
             self.tell(kind, here, faults)?;
@@ -342,31 +276,20 @@ impl<'a> Walk<'a> {
     /// use.
     pub(crate) fn leaf_list(
         &self,
-        scope: RuleScope,
-        id: NodeId,
+        at: Visit<'_>,
         value: Option<&Value>,
-        position: u64,
-        path: &Trail<'_>,
         progress: &mut Progress<'a>,
     ) -> Result<(), AllocError>
-        requires node { id.0 < length self.now.schema.now.nodes }
-        requires kind { (row_at self.now.schema.now id).label.defined.kind ≡ LeafList }
-        requires asks { is_asked scope ≡ true }
-        requires way { IsWithin self.now.schema.now path.now }
-        ensures grows { OnOk result
-            ((ms : Members)
-            → Writes self.now.schema.now id (option_map (λ v. view v.now) value.entry) ms
-            → ClosesAt self.now.kind self.now.schema.now path.now position
-            (progress_view progress.old) (progress_view progress.new)
-            (leaf_list_at self.now.schema.now id (option_map (λ v. view v.now) value.entry))
-            (node_at self.now.schema.now scope id ms)) }
+        requires { IsAskedOn self.now at LeafList }
+        ensures grows { OnOk result (ClosesData self.now at.entry progress.old progress.new
+            value.entry (leaf_list_at self.now.schema.now at.entry.id)) }
     {
         laws::nothing_met();
         laws::met_behind();
         laws::default_met();
-        self.array(scope, id, value, position, path, progress)?;
-        if takes_defaults(scope, value) {
-            return self.use_defaults(id, position, &mut progress.found);
+        self.array(at, value, progress)?;
+        if takes_defaults(at.scope, value) {
+            return self.use_defaults(at, &mut progress.found);
         }
         Ok(())
     }
@@ -374,49 +297,37 @@ impl<'a> Walk<'a> {
     // The items of a leaf-list, and what is wrong with their number.
     fn array(
         &self,
-        scope: RuleScope,
-        id: NodeId,
+        at: Visit<'_>,
         value: Option<&Value>,
-        position: u64,
-        path: &Trail<'_>,
         progress: &mut Progress<'a>,
     ) -> Result<(), AllocError>
-        requires node { id.0 < length self.now.schema.now.nodes }
-        requires way { IsWithin self.now.schema.now path.now }
-        ensures grows { OnOk result
-            (GrowsWithAt self.now.kind self.now.schema.now path.now position
-            (progress_view progress.old) (progress_view progress.new)
-            (leaf_list_at self.now.schema.now id (option_map (λ v. view v.now) value.entry))
-            (array_faults (plain_at self.now.schema.now scope id path.now)
-            (option_map (λ v. view v.now) value.entry))) }
+        requires { IsNodeOn self.now at }
+        ensures grows { OnOk result (GrowsWithAt self.now at.entry progress.old progress.new
+            (leaf_list_at self.now.schema.now at.entry.id (data_of value.entry))
+            (array_faults (own_node self.now at.entry) (data_of value.entry))) }
     {
         laws::nothing_met();
         match value {
-            None => self.end_array(scope, id, 0, path, &mut progress.faults),
+            None => self.end_array(at, 0, &mut progress.faults),
             Some(written) => match written {
                 Value::Array(items) => {
-                    self.items(id, items, position, path, progress)?;
-                    self.end_array(scope, id, count_of(items), path, &mut progress.faults)
+                    self.items(at, items, progress)?;
+                    self.end_array(at, count_of(items), &mut progress.faults)
                 }
-                _ => self.misshapen(id, path, &mut progress.faults),
+                _ => self.misshapen(at, &mut progress.faults),
             },
         }
     }
 
     fn items(
         &self,
-        id: NodeId,
+        at: Visit<'_>,
         items: &Vec<Value>,
-        position: u64,
-        path: &Trail<'_>,
         progress: &mut Progress<'a>,
     ) -> Result<(), AllocError>
-        requires node { id.0 < length self.now.schema.now.nodes }
-        requires way { IsWithin self.now.schema.now path.now }
-        ensures grows { OnOk result
-            (GrowsAt self.now.kind self.now.schema.now path.now position
-            (progress_view progress.old) (progress_view progress.new)
-            (items_at self.now.schema.now id [] (items_view items.now.items))) }
+        requires { IsNodeOn self.now at }
+        ensures grows { OnOk result (GrowsAt self.now at.entry progress.old progress.new
+            (items_at self.now.schema.now at.entry.id [] (items_view items.now.items))) }
     {
         laws::nothing_met();
         laws::met_behind();
@@ -424,7 +335,7 @@ impl<'a> Walk<'a> {
         let mut kept = Index::new(self.alloc);
         for (index, item) in items.iter().enumerate() {
             let earlier = &items[..index];
-            self.item(id, earlier, item, &mut kept, position, path, progress)?;
+            self.item(at, earlier, item, &mut kept, progress)?;
         }
         Ok(())
     }
@@ -432,55 +343,45 @@ impl<'a> Walk<'a> {
     // An item of a leaf-list, behind these.
     fn item(
         &self,
-        id: NodeId,
+        at: Visit<'_>,
         earlier: &[Value],
         item: &Value,
         kept: &mut Index,
-        position: u64,
-        path: &Trail<'_>,
         progress: &mut Progress<'a>,
     ) -> Result<(), AllocError>
-        requires node { id.0 < length self.now.schema.now.nodes }
-        requires way { IsWithin self.now.schema.now path.now }
-        requires keeps { Remembers kept.now (item_tuple (row_at self.now.schema.now id).label)
-            (map view earlier.now) }
-        ensures grows { OnOk result
-            ((outer : List ℕ) (entry : ℕ)
-            → Grows self.now.kind self.now.schema.now (progress_view progress.old)
-            (progress_view progress.new)
-            (at_value
-            (written_at self.now.schema.now id (Some (map view earlier.now)) (view item.now)
-            (spot_at self.now.schema.now path.now position outer entry)) ∷ [])) }
-        ensures keeps { OnOk result
-            (Remembers kept.new (item_tuple (row_at self.now.schema.now id).label)
+        requires node { IsNodeOn self.now at }
+        requires keeps { RemembersItems self.now at kept.now (map view earlier.now) }
+        ensures grows { OnOk result (GrowsAt self.now at.entry progress.old progress.new
+            (met_at_item self.now at.entry (map view earlier.now) (view item.now))) }
+        ensures keeps { OnOk result (RemembersItems self.now at.entry kept.new
             (map view earlier.now ++ view item.now ∷ [])) }
     {
         laws::value_met();
-        let node = self.schema.node(id);
+        let node = self.schema.node(at.id);
         let place = earlier.len() as u64 + 1;
-        let here = Trail::Below(&*path, id, Some(place));
-        let read = self.read(id, Some(place), item, position, progress)?;
+        let here = Trail::Below(at.path, at.id, Some(place));
+        let read = self.read(at, Some(place), item, progress)?;
         let is_read = read.is_some();
         let tuple = alone(self.alloc, node.config(), read)?;
         let first = stood_before(tuple, place, kept, &mut progress.meter)?;
         if !is_read {
             return self.tell(FaultKind::Value, &here, &mut progress.faults);
         }
-        self.tell_duplicate(first, &here, &mut progress.faults)
+        self.tell_repeat(first, FaultKind::Duplicate, 0, &here, &mut progress.faults)
     }
 }
 
 // Whether the defaults of a leaf-list are in use.
 fn takes_defaults(scope: RuleScope, value: Option<&Value>) -> bool
     ensures { result
-        ≡ (uses_defaults scope && is_empty_at LeafList (option_map (λ v. view v.now) value.entry)) }
+        ≡ (uses_defaults scope && is_empty_at LeafList (data_of value.entry)) }
 {
     scope.uses_defaults() && has_no_items(value)
 }
 
 // Whether a leaf-list has no items: none are written, or an empty array is.
 fn has_no_items(value: Option<&Value>) -> bool
-    ensures { result ≡ is_empty_at LeafList (option_map (λ v. view v.now) value.entry) }
+    ensures { result ≡ is_empty_at LeafList (data_of value.entry) }
 {
     match value {
         Some(written) => !is_there(NodeKind::LeafList, written),

@@ -3,10 +3,10 @@ ghost use Rattle.std.specs.Prelude.{◌≡◌, [], IfOk, OnOk};
 ghost use Rattle.yv_leafref_values.specs.Findings.{Finds, none_found};
 ghost use Rattle.yv_validate.specs.InnerWalk.{value_found};
 
+use crate::walk::Visit;
 use std::alloc::{AllocError, Global};
 use yv_faults::Faults;
 use yv_leafref_values::Findings;
-use yv_nodes::NodeId;
 use yv_schema_tables::Schema;
 use yv_values::{Matchers, Meter, Value};
 
@@ -41,20 +41,19 @@ impl<'a> Progress<'a> {
 /// item. Nothing is kept of what wasn't read.
 pub(crate) fn meet(
     schema: &Schema,
-    node: NodeId,
+    at: Visit<'_>,
     item: Option<u64>,
     read: &Option<Value>,
-    position: u64,
     found: &mut Findings,
 ) -> Result<(), AllocError>
-    ensures { OnOk result
-        (Finds found.old found.new (value_found schema.now node position item read.now)) }
+    ensures { OnOk result (Finds found.old found.new
+        (value_found schema.now at.entry.id at.entry.position item read.now)) }
 {
     match read {
         Some(value) => {
             let links = schema.links();
-            found.keep(links, node, value, position)?;
-            found.note(links, node, item, value, position)
+            found.keep(links, at.id, value, at.position)?;
+            found.note(links, at.id, item, value, at.position)
         }
         None => Ok(()),
     }

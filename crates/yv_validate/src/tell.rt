@@ -1,8 +1,8 @@
 //! Faults as they are reported, with the way to their place.
 ghost use Rattle.std.specs.Prelude.{◌≡◌, ◌&&◌, ◌∷◌, [], ◌++◌, map, OnOk};
 ghost use Rattle.yv_faults.specs.Trails.{places, IsWithin};
-ghost use Rattle.yv_leafref_values.specs.{InUse.{enforces}, Place.{under}};
-ghost use Rattle.yv_validate.specs.Faults.{flaw, flaw_if, reference_faults, repeat_faults};
+ghost use Rattle.yv_leafref_values.specs.InUse.{enforces};
+ghost use Rattle.yv_validate.specs.{Faults.{flaw, flaw_if, reference_faults, repeat_faults}, InnerPromises.{Reports, unknown_at}};
 
 use crate::walk::Walk;
 use std::alloc::AllocError;
@@ -15,14 +15,21 @@ pub(crate) fn tell_references(paths: Vec<ValuePath>, faults: &mut Faults) -> Res
     ensures { OnOk result (faults.new.items ≡ faults.old.items ++ reference_faults paths.items) }
 {
     for path in paths {
-        faults.push(Fault {
-            kind: FaultKind::Reference,
-            path: Path::to_value(path),
-            number: 0,
-            earlier: None,
-        })?;
+        faults.push(plain(FaultKind::Reference, Path::to_value(path)))?;
     }
     Ok(())
+}
+
+// A fault that is about no statement, and repeats nothing.
+fn plain(kind: FaultKind, path: Path) -> Fault
+    ensures { result ≡ flaw kind path }
+{
+    Fault {
+        kind,
+        path,
+        number: 0,
+        earlier: None,
+    }
 }
 
 impl Walk<'_> {
@@ -34,39 +41,35 @@ impl Walk<'_> {
         faults: &mut Faults,
     ) -> Result<(), AllocError>
         requires { IsWithin self.now.schema.now trail.now }
-        ensures { OnOk result
-            (faults.new.items ≡ faults.old.items ++ flaw kind (places self.now.schema.now trail.now)
-            ∷ []) }
+        ensures { OnOk result (Reports faults.old faults.new
+            (flaw kind (places self.now.schema.now trail.now) ∷ [])) }
     {
         let path = faults.path(self.alloc, self.schema, trail)?;
-        faults.push(Fault {
-            kind,
-            path,
-            number: 0,
-            earlier: None,
-        })
+        faults.push(plain(kind, path))
     }
 
-    /// Reports that an entry or an item repeats an earlier one, of this place, where there is one.
-    pub(crate) fn tell_duplicate(
+    /// Reports that an entry or an item repeats an earlier one, of this place, where there is one;
+    /// by a `unique` statement with its number.
+    pub(crate) fn tell_repeat(
         &self,
         first: Option<u64>,
+        kind: FaultKind,
+        number: u32,
         trail: &Trail<'_>,
         faults: &mut Faults,
     ) -> Result<(), AllocError>
         requires { IsWithin self.now.schema.now trail.now }
-        ensures { OnOk result
-            (faults.new.items ≡ faults.old.items
-            ++ repeat_faults first FaultKind.Duplicate (places self.now.schema.now trail.now) 0) }
+        ensures { OnOk result (Reports faults.old faults.new
+            (repeat_faults first kind (places self.now.schema.now trail.now) number)) }
     {
         let Some(place) = first else {
             return Ok(());
         };
         let path = faults.path(self.alloc, self.schema, trail)?;
         faults.push(Fault {
-            kind: FaultKind::Duplicate,
+            kind,
             path,
-            number: 0,
+            number,
             earlier: Some(place.min(4294967295) as u32),
         })
     }
@@ -79,10 +82,8 @@ impl Walk<'_> {
         faults: &mut Faults,
     ) -> Result<(), AllocError>
         requires { IsWithin self.now.schema.now trail.now }
-        ensures { OnOk result (faults.new.items ≡ faults.old.items
-            ++ map
-            (λ key. flaw FaultKind.Unknown (under (places self.now.schema.now trail.now) key))
-            (map (λ k. k.now) names.now)) }
+        ensures { OnOk result (Reports faults.old faults.new
+            (map (λ key. unknown_at self.now trail.now key) (map (λ k. k.now) names.now))) }
     {
         for name in names {
             self.tell_unknown(name, trail, faults)?;
@@ -97,16 +98,11 @@ impl Walk<'_> {
         faults: &mut Faults,
     ) -> Result<(), AllocError>
         requires { IsWithin self.now.schema.now trail.now }
-        ensures { OnOk result (faults.new.items ≡ faults.old.items
-            ++ flaw FaultKind.Unknown (under (places self.now.schema.now trail.now) key.now) ∷ []) }
+        ensures { OnOk result (Reports faults.old faults.new
+            (unknown_at self.now trail.now key.now ∷ [])) }
     {
         let path = faults.path_under(self.alloc, self.schema, trail, key)?;
-        faults.push(Fault {
-            kind: FaultKind::Unknown,
-            path,
-            number: 0,
-            earlier: None,
-        })
+        faults.push(plain(FaultKind::Unknown, path))
     }
 
     /// Reports a node that is missing, where it must be there.
@@ -118,9 +114,9 @@ impl Walk<'_> {
         faults: &mut Faults,
     ) -> Result<(), AllocError>
         requires { IsWithin self.now.schema.now trail.now }
-        ensures { OnOk result (faults.new.items ≡ faults.old.items
-            ++ flaw_if (node.now.label.defined.is_mandatory && enforces scope) FaultKind.Mandatory
-            (places self.now.schema.now trail.now)) }
+        ensures { OnOk result (Reports faults.old faults.new
+            (flaw_if (node.now.label.defined.is_mandatory && enforces scope)
+            FaultKind.Mandatory (places self.now.schema.now trail.now))) }
     {
         if node.mandatory() && scope.enforces() {
             self.tell(FaultKind::Mandatory, trail, faults)?;

@@ -2,7 +2,7 @@
 ghost use Rattle.std.specs.Prelude.{◌≡◌, ◌∷◌, [], ◌++◌, ◌+◌, ◌<◌, length, map, min, Some, IfOk, OnOk};
 ghost use Rattle.serde_json.specs.{Data.{Data}, View.{view}};
 ghost use Rattle.yv_values.specs.Count.{count_up};
-ghost use Rattle.yv_validate.specs.{InnerMemory.{RemembersEach}, InnerNotes.{HasTuples, list_tuple, tuple_in}, Faults.{unique_faults, unique_if}, Work.{uniques_work}};
+ghost use Rattle.yv_validate.specs.{InnerMemory.{RemembersEach}, InnerNotes.{HasTuples, list_tuple, tuple_in}, Faults.{unique_faults, unique_if}, Work.{uniques_work}, InnerPromises.{Reports}};
 ghost use Rattle.yv_quiet_nodes.specs.NamedLeafs.{uniques_at};
 ghost use Rattle.yv_faults.specs.Trails.{places, IsWithin};
 
@@ -11,7 +11,7 @@ use crate::notes::Notes;
 use crate::walk::Walk;
 use serde_json::Value;
 use std::alloc::AllocError;
-use yv_faults::{Fault, FaultKind, Faults, Trail};
+use yv_faults::{FaultKind, Faults, Trail};
 use yv_nodes::NodeId;
 use yv_values::{Index, Meter, Tuple};
 
@@ -98,19 +98,11 @@ impl Walk<'_> {
         faults: &mut Faults,
     ) -> Result<(), AllocError>
         requires { IsWithin self.now.schema.now here.now }
-        ensures { OnOk result
-            (faults.new.items ≡ faults.old.items
-            ++ unique_if first (places self.now.schema.now here.now) (before + 1)) }
+        ensures { OnOk result (Reports faults.old faults.new
+            (unique_if first (places self.now.schema.now here.now) (before + 1))) }
     {
-        let Some(place) = first else {
-            return Ok(());
-        };
-        let path = faults.path(self.alloc, self.schema, here)?;
-        faults.push(Fault {
-            kind: FaultKind::Unique,
-            path,
-            number: before.saturating_add(1).min(4294967295) as u32,
-            earlier: Some(place.min(4294967295) as u32),
-        })
+        let number = before.saturating_add(1).min(4294967295) as u32;
+        self.tell_repeat(first, FaultKind::Unique, number, here, faults)?;
+        Ok(())
     }
 }

@@ -53,11 +53,11 @@ pub children-loop-child-init : goal.children-loop-child-init
 children-loop-child-init t c =
     let k = c.args.self.now.kind in
     let s = c.args.self.now.schema.now in
-    let p = c.args.parent in
+    let p = c.args.at.id in
     let kids = c.children-child-items in
     let cs = kids.result.now in
     let ms = members_of c.args.context.now in
-    let of : ℕ → Tree → RuleScope = λ at u. c.args.scope in
+    let of : ℕ → Tree → RuleScope = λ at u. c.args.at.scope in
     let start : ProgressView = progress_view c.args.progress.now in
     let are : AreKids s p cs = record {
       same = kids.ensures.value;
@@ -67,8 +67,8 @@ children-loop-child-init t c =
       numbers = c.child_numbers.ensures s p kids.ensures.sound c.requires.node;
     } in
     record {
-      grows = λ outer entry x h. grows_as k s start x _ _ (ones_start k s p cs of (spot_at s c.args.path.now c.args.position outer entry) (next_of start) ms are) h;
-      notes = λ spot next lt. notes_start k s of cs ms spot next c.args.notes.now (children_met k s c.args.scope p ms spot next) lt
+      grows = λ outer entry x h. grows_as k s start x _ _ (ones_start k s p cs of (spot_at s c.args.at.path.now c.args.at.position outer entry) (next_of start) ms are) h;
+      notes = λ spot next lt. notes_start k s of cs ms spot next c.args.notes.now (children_met k s c.args.at.scope p ms spot next) lt
           (ones_start k s p cs of spot next ms are);
     }
 
@@ -76,10 +76,10 @@ pub children-loop-child-preserved : goal.children-loop-child-preserved
 children-loop-child-preserved t c =
     let k = c.args.self.now.kind in
     let s = c.args.self.now.schema.now in
-    let p = c.args.parent in
+    let p = c.args.at.id in
     let cs = c.children-child-items.result.now in
     let ms = members_of c.args.context.now in
-    let of : ℕ → Tree → RuleScope = λ at u. c.args.scope in
+    let of : ℕ → Tree → RuleScope = λ at u. c.args.at.scope in
     let i = c.loop-child.child-index in
     let d : NodeId = record { 0 = 0 } in
     let n : NodeId = slice_index_or cs i d in
@@ -91,14 +91,14 @@ children-loop-child-preserved t c =
     let new : ProgressView = progress_view c.meet.new.progress in
     record {
       grows = λ outer entry x later.
-          let spot : Spot = spot_at s c.args.path.now c.args.position outer entry in
-          let one : List Meeting = one_met k s (scope_at k s c.args.scope n) n ms spot (next_of old) in
+          let spot : Spot = spot_at s c.args.at.path.now c.args.at.position outer entry in
+          let one : List Meeting = one_met k s (scope_at k s c.args.at.scope n) n ms spot (next_of old) in
           let grows : Grows k s old new one = c.in_ok-meet.ensures.grows outer entry in
           turn c.met_behind.ensures k s start old new one (ones_met k s of rest ms spot (next_of old + count_entered one)) (ones_met k s of left ms spot (next_of old))
-          (children_met k s c.args.scope p ms spot (next_of start)) grows (ones_drop k s of spot (next_of old) cs i d ms lt)
+          (children_met k s c.args.at.scope p ms spot (next_of start)) grows (ones_drop k s of spot (next_of old) cs i d ms lt)
           (c.loop-child.invariant.grows outer entry) x
           (subst (λ (m : ℕ). Grows k s new x (ones_met k s of rest ms spot m)) (next_behind c.kept_objects_are_entered.ensures k s old new one grows) later);
-      notes = λ spot next less. notes_turn k s of n left rest ms spot c.loop-child.notes c.meet.new.notes c.args.notes.now (children_met k s c.args.scope p ms spot next)
+      notes = λ spot next less. notes_turn k s of n left rest ms spot c.loop-child.notes c.meet.new.notes c.args.notes.now (children_met k s c.args.at.scope p ms spot next)
           (split_at cs i d lt) (c.loop-child.invariant.notes spot next less) c.in_ok-meet.ensures.notes;
     }
 
@@ -112,7 +112,7 @@ children-returns-clause-grows t c =
     let now : ProgressView = progress_view c.loop-child.progress in
     let past : drop i cs ≡ [] = drop_all i cs c.loop-child-test.false in
     λ outer entry. c.loop-child.invariant.grows outer entry now
-    (subst (λ (ns : List NodeId). Grows k s now now (ones_met k s (λ at u. c.args.scope) ns ms (spot_at s c.args.path.now c.args.position outer entry) (next_of now)))
+    (subst (λ (ns : List NodeId). Grows k s now now (ones_met k s (λ at u. c.args.at.scope) ns ms (spot_at s c.args.at.path.now c.args.at.position outer entry) (next_of now)))
     (sym past) (grows_nothing c.nothing_met.ensures k s now))
 
 pub children-returns-clause-notes : goal.children-returns-clause-notes
@@ -122,7 +122,7 @@ children-returns-clause-notes t c =
     let ms = members_of c.args.context.now in
     let cs = c.children-child-items.result.now in
     let i = c.loop-child.child-index in
-    λ spot next less. notes_done k s (λ at u. c.args.scope) (drop i cs) ms spot c.loop-child.notes c.args.notes.now (children_met k s c.args.scope c.args.parent ms spot next)
+    λ spot next less. notes_done k s (λ at u. c.args.at.scope) (drop i cs) ms spot c.loop-child.notes c.args.notes.now (children_met k s c.args.at.scope c.args.at.id ms spot next)
     (drop_all i cs c.loop-child-test.false) (c.loop-child.invariant.notes spot next less)
 
 -- ---- cases
@@ -131,7 +131,7 @@ pub cases-loop-place-init : goal.cases-loop-place-init
 cases-loop-place-init t c =
     let k = c.args.self.now.kind in
     let s = c.args.self.now.schema.now in
-    let p = c.args.choice in
+    let p = c.args.at.id in
     let kids = c.children-children in
     let cs = kids.result.now in
     let ms = members_of c.args.context.now in
@@ -148,7 +148,7 @@ cases-loop-place-init t c =
     } in
     record {
       grows = λ outer entry x h.
-          let spot : Spot = spot_at s c.args.path.now c.args.position outer entry in
+          let spot : Spot = spot_at s c.args.at.path.now c.args.at.position outer entry in
           past_turn c.nothing_met.ensures c.met_behind.ensures c.kept_objects_are_entered.ensures k s of ms spot start start (cases_met k s p ms spot (next_of start)) p cs 0 place.result place.new.meter are place.ensures
           (λ y g. grows_as k s start y _ _ (ones_start k s p cs of spot (next_of start) ms are) g) x h;
       notes = λ spot next lt. past_notes k s of ms spot c.args.notes.now c.args.notes.now (cases_met k s p ms spot next) p cs 0 place.result start.steps place.new.meter are place.ensures
@@ -159,7 +159,7 @@ pub cases-loop-place-preserved : goal.cases-loop-place-preserved
 cases-loop-place-preserved t c =
     let k = c.args.self.now.kind in
     let s = c.args.self.now.schema.now in
-    let p = c.args.choice in
+    let p = c.args.at.id in
     let kids = c.children-children in
     let cs = kids.result.now in
     let ms = members_of c.args.context.now in
@@ -189,7 +189,7 @@ cases-loop-place-preserved t c =
     c.fallback-fallback.ensures (c.case_scope-scope.ensures ∙ ap (λ (x : Existence). cond (is_number c.fallback-fallback.result n.0) InDefault (InCase x)) those) in
     record {
       grows = λ outer entry x later.
-          let spot : Spot = spot_at s c.args.path.now c.args.position outer entry in
+          let spot : Spot = spot_at s c.args.at.path.now c.args.at.position outer entry in
           let all : List Meeting = cases_met k s p ms spot (next_of start) in
           let at_scope : RuleScope → List Meeting = λ y. one_met k s (scope_at k s y n) n ms spot (next_of old) in
           let one : List Meeting = at_scope (of n.0 (tree_of s n)) in
@@ -210,7 +210,7 @@ pub cases-returns-clause-grows : goal.cases-returns-clause-grows
 cases-returns-clause-grows t c =
     let k = c.args.self.now.kind in
     let s = c.args.self.now.schema.now in
-    let p = c.args.choice in
+    let p = c.args.at.id in
     let ms = members_of c.args.context.now in
     let of = case_scope s p (rank p) (below s p) ms in
     let cs = c.children-children.result.now in
@@ -218,14 +218,14 @@ cases-returns-clause-grows t c =
     let now : ProgressView = progress_view c.loop-place.progress in
     let past : drop i cs ≡ [] = drop_all i cs c.loop-place-test.false in
     λ outer entry. c.loop-place.invariant.grows outer entry now
-    (subst (λ (ns : List NodeId). Grows k s now now (ones_met k s of ns ms (spot_at s c.args.path.now c.args.position outer entry) (next_of now)))
+    (subst (λ (ns : List NodeId). Grows k s now now (ones_met k s of ns ms (spot_at s c.args.at.path.now c.args.at.position outer entry) (next_of now)))
     (sym past) (grows_nothing c.nothing_met.ensures k s now))
 
 pub cases-returns-clause-notes : goal.cases-returns-clause-notes
 cases-returns-clause-notes t c =
     let k = c.args.self.now.kind in
     let s = c.args.self.now.schema.now in
-    let p = c.args.choice in
+    let p = c.args.at.id in
     let ms = members_of c.args.context.now in
     let of = case_scope s p (rank p) (below s p) ms in
     let cs = c.children-children.result.now in
@@ -239,16 +239,16 @@ pub object-returns-clause-grows : goal.object-returns-clause-grows
 object-returns-clause-grows t c =
     let k = c.args.self.now.kind in
     let s = c.args.self.now.schema.now in
-    let id = c.args.id in
-    let path = places s c.args.here.now in
+    let id = c.args.at.id in
+    let path = places s c.args.at.path.now in
     let ms = members_view c.args.members.now.entries in
-    let number = c.in_ok-number.number in
+    let number = c.in_ok-position.position in
     let begun = c.enter-2.new.self in
     let start : ProgressView = record { faults = c.enter.new.faults.items; found = begun; steps = c.enter.new.meter } in
     let walked : ProgressView = progress_view c.inside.new.progress in
-    λ outer entry around. object_grows c.object_met.ensures k s id c.args.item path outer entry c.args.position number ms (progress_view c.args.progress.now) begun
-    c.enter.new.faults.items c.enter.new.meter walked c.leave.new.self around c.in_ok-number.ensures.number
-    c.in_ok-number.ensures.positions c.in_ok-number.ensures.indexes c.in_ok-number.ensures.uses c.in_ok-number.ensures.notes
+    λ outer entry around. object_grows c.object_met.ensures k s id c.args.item path outer entry c.args.at.position number ms (progress_view c.args.progress.now) begun
+    c.enter.new.faults.items c.enter.new.meter walked c.leave.new.self around c.in_ok-position.ensures.number
+    c.in_ok-position.ensures.positions c.in_ok-position.ensures.indexes c.in_ok-position.ensures.uses c.in_ok-position.ensures.notes
     c.in_ok-context.ensures.faults c.in_ok-context.ensures.steps
     (subst (λ (ds : Members). Grows k s start walked (children_met k s Always id ds (record { path = path; around = number ∷ outer; entry = entry }) (length begun.positions)))
     c.in_ok-context.ensures.members (c.in_ok-inside.ensures.grows outer entry))
@@ -258,18 +258,18 @@ pub object-returns-clause-notes : goal.object-returns-clause-notes
 object-returns-clause-notes t c =
     let k = c.args.self.now.kind in
     let s = c.args.self.now.schema.now in
-    subst (λ (ds : Members). GainsBy s c.args.notes.now c.inside.new.notes (children_met k s Always c.args.id ds)) c.in_ok-context.ensures.members c.in_ok-inside.ensures.notes
+    subst (λ (ds : Members). GainsBy s c.args.notes.now c.inside.new.notes (children_met k s Always c.args.at.id ds)) c.in_ok-context.ensures.members c.in_ok-inside.ensures.notes
 
 pub inside-returns-in-Some-clause-grows : goal.inside-returns-in-Some-clause-grows
 inside-returns-in-Some-clause-grows t c =
     let k = c.args.self.now.kind in
     let s = c.args.self.now.schema.now in
-    let p = c.args.parent in
+    let p = c.args.at.id in
     let ms = members_of c.args.context.now in
     let old : ProgressView = progress_view c.args.progress.now in
     let is : IsEmptied s p ms c.in-Some.steps = subst (λ (ds : Members). IsEmptied s p ds c.in-Some.steps) (sym c.requires.members) c.in-Some.ensures in
     λ outer entry.
-    let spot : Spot = spot_at s c.args.path.now c.args.position outer entry in
+    let spot : Spot = spot_at s c.args.at.path.now c.args.at.position outer entry in
     quiet_grows c.nothing_met.ensures k s old c.visit_all.new.self c.in-Some.steps (children_met k s Always p ms spot (next_of old))
     (emptied_says k s p ms spot (next_of old) c.in-Some.steps is) c.visit_all.ensures
 
@@ -277,7 +277,7 @@ pub inside-returns-in-Some-clause-notes : goal.inside-returns-in-Some-clause-not
 inside-returns-in-Some-clause-notes t c =
     let k = c.args.self.now.kind in
     let s = c.args.self.now.schema.now in
-    let p = c.args.parent in
+    let p = c.args.at.id in
     let ms = members_of c.args.context.now in
     let is : IsEmptied s p ms c.in-Some.steps = subst (λ (ds : Members). IsEmptied s p ds c.in-Some.steps) (sym c.requires.members) c.in-Some.ensures in
     quiet_gains k s c.args.notes.now c.in-Some.steps (children_met k s Always p ms) (λ spot next. emptied_says k s p ms spot next c.in-Some.steps is)
@@ -288,7 +288,7 @@ pub entries-loop-index-preserved : goal.entries-loop-index-preserved
 entries-loop-index-preserved t c =
     let k = c.args.self.now.kind in
     let s = c.args.self.now.schema.now in
-    let id = c.args.id in
+    let id = c.args.at.id in
     let l = (row_at s id).label in
     let leafs = leafs_of s id l in
     let f = list_tuple k s id in
@@ -313,16 +313,16 @@ entries-loop-index-preserved t c =
     let old : ProgressView = progress_view c.loop-index.progress in
     let mid : ProgressView = progress_view c.entry.new.progress in
     let new : ProgressView = record { faults = c.end_uniques.new.faults.items; found = c.entry.new.progress.found; steps = c.end_uniques.new.meter } in
-    let here : ℕ → List Place = λ m. places s c.args.path.now ++ record { member = step_name l; item = Some m } ∷ [] in
-    let uniques : c.end_uniques.new.faults.items ≡ c.tell_duplicate.new.faults.items ++ unique_faults f (here (i + 1)) 1 leafs.uniques done d =
-    subst (λ (ds : List Data). c.end_uniques.new.faults.items ≡ c.tell_duplicate.new.faults.items ++ unique_faults f (here (i + 1)) 1 leafs.uniques ds d) earlier (c.in_ok-end_uniques.ensures.faults d has) in
-    let ended = end_told leafs f (here (i + 1)) done d mid.faults c.tell_duplicate.new.faults.items c.end_uniques.new.faults.items which same c.in_ok-tell_duplicate.ensures uniques in
+    let here : ℕ → List Place = λ m. places s c.args.at.path.now ++ record { member = step_name l; item = Some m } ∷ [] in
+    let uniques : c.end_uniques.new.faults.items ≡ c.tell_repeat.new.faults.items ++ unique_faults f (here (i + 1)) 1 leafs.uniques done d =
+    subst (λ (ds : List Data). c.end_uniques.new.faults.items ≡ c.tell_repeat.new.faults.items ++ unique_faults f (here (i + 1)) 1 leafs.uniques ds d) earlier (c.in_ok-end_uniques.ensures.faults d has) in
+    let ended = end_told leafs f (here (i + 1)) done d mid.faults c.tell_repeat.new.faults.items c.end_uniques.new.faults.items which same c.in_ok-tell_repeat.ensures uniques in
     record {
       grows = λ outer entry y later.
-          let spot : Spot = spot_at s c.args.path.now c.args.position outer entry in
+          let spot : Spot = spot_at s c.args.at.path.now c.args.at.position outer entry in
           let one : List Meeting = entry_met id l (below s id) spot (next_of old) done d (inside_at k s id) in
           let grows : Grows k s old new one =
-          entry_grows c.met_behind.ensures k s id (places s c.args.path.now) c.args.position outer entry (next_of old) (i + 1) done d old mid new place
+          entry_grows c.met_behind.ensures k s id (places s c.args.at.path.now) c.args.at.position outer entry (next_of old) (i + 1) done d old mid new place
           (c.in_ok-notes.ensures.grows outer)
           (ends c.nothing_met.ensures k s id spot done d mid new.faults new.steps first
           (subst (λ (m : ℕ). new.faults ≡ mid.faults ++ end_faults leafs f (here m) done d) place ended)
@@ -343,7 +343,7 @@ pub entries-returns : goal.entries-returns
 entries-returns t c =
     let k = c.args.self.now.kind in
     let s = c.args.self.now.schema.now in
-    let id = c.args.id in
+    let id = c.args.at.id in
     let xs = c.args.items.now.items in
     let i = c.loop-index.index in
     let now : ProgressView = progress_view c.loop-index.progress in
@@ -351,7 +351,7 @@ entries-returns t c =
     let le : length xs ≤ i = subst (λ (ys : List Value). length ys ≤ i) c.deref-item-items.ensures.value (omega (arith, c.loop-index-test.false)) in
     record {
       grows = λ outer entry. c.loop-index.invariant.grows outer entry now
-          (subst (λ (ys : List Value). Grows k s now now (entries_at k s id done (items_view ys) (spot_at s c.args.path.now c.args.position outer entry) (next_of now)))
+          (subst (λ (ys : List Value). Grows k s now now (entries_at k s id done (items_view ys) (spot_at s c.args.at.path.now c.args.at.position outer entry) (next_of now)))
           (sym (drop_all i xs le)) (grows_nothing c.nothing_met.ensures k s now));
     }
 
@@ -359,7 +359,7 @@ pub entry-returns-in_ok-object-in-Object-clause-tuples : goal.entry-returns-in_o
 entry-returns-in_ok-object-in-Object-clause-tuples t c =
     let k = c.args.self.now.kind in
     let s = c.args.self.now.schema.now in
-    let id = c.args.id in
+    let id = c.args.at.id in
     let ms = members_view c.in-Object.members.entries in
     let new = c.object.new.notes in
     let value : ℕ → Option Val = leaf_in k s (rank id) (below s id) (object ms) in
@@ -378,59 +378,57 @@ pub entry-returns-in_ok-object-in-Object-clause-grows : goal.entry-returns-in_ok
 entry-returns-in_ok-object-in-Object-clause-grows t c =
     let k = c.args.self.now.kind in
     let s = c.args.self.now.schema.now in
-    let id = c.args.id in
+    let id = c.args.at.id in
     let old : ProgressView = progress_view c.args.progress.now in
     let ms = members_view c.in-Object.members.entries in
     let doc : view c.args.item.now ≡ object ms = ap view c.in-Object.is ∙ view-Object c.in-Object.members in
-    λ outer. subst (λ (d : Data). Grows k s old (progress_view c.object.new.progress) (object_at k s id (Some c.args.place) c.args.here.now (c.args.position ∷ outer) (next_of old) (next_of old) d))
-    (sym doc) (c.in_ok-object-in-Object.ensures.grows (c.args.position ∷ outer) (next_of old) refl)
+    λ outer. subst (λ (d : Data). Grows k s old (progress_view c.object.new.progress) (object_at k s id (Some c.args.place) c.args.at.path.now (c.args.at.position ∷ outer) (next_of old) (next_of old) d))
+    (sym doc) (c.in_ok-object-in-Object.ensures.grows (c.args.at.position ∷ outer) (next_of old) refl)
 
 -- ---- containers
 
 pub container-children-requires : goal.container-children-requires
 container-children-requires t c =
     let s = c.args.self.now.schema.now in
-    let id = c.args.id in
+    let id = c.args.at.id in
     let sound = c.node-node.ensures.sound in
     let first : rank id ≡ id.0 + 1 = rank_is s id sound c.requires.node in
     let le : rank id ≤ length s.nodes = omega arith in (
       omega arith,
-      (
-        le,
-        (
-          meets_object s c.empty-context.result id c.child_stands.ensures sound le c.requires.object (c.empty-context.ensures.context s) c.empty-context.ensures.parent,
-          (c.requires.way, c.requires.node),
-        ),
-      ),
+      record {
+        node = le;
+        meets = meets_object s c.empty-context.result id c.child_stands.ensures sound le c.requires.object (c.empty-context.ensures.context s) c.empty-context.ensures.parent;
+        way = (c.requires.way, c.requires.node);
+      },
     )
 
 pub container-returns-then-presence-clause-grows : goal.container-returns-then-presence-clause-grows
 container-returns-then-presence-clause-grows t c =
     let k = c.args.self.now.kind in
     let s = c.args.self.now.schema.now in
-    let id = c.args.id in
+    let id = c.args.at.id in
     let old : ProgressView = progress_view c.args.progress.now in
     let found = option_map (λ (v : Bor Value). view v.now) c.args.value in
     let none : found ≡ None = ap (option_map (λ (v : Bor Value). view v.now)) c.in-None.is in
     let presence = sym (ap (λ r. r.label.defined.has_presence) c.node-node.ensures.value) ∙ sym c.presence.ensures ∙ c.if-presence.true in
     λ outer entry. grows_as k s old old [] _
-    (sym (container_none k s c.args.scope id found (spot_at s c.args.path.now c.args.position outer entry) (next_of old) none presence)) (grows_nothing c.nothing_met.ensures k s old)
+    (sym (container_none k s c.args.at.scope id found (spot_at s c.args.at.path.now c.args.at.position outer entry) (next_of old) none presence)) (grows_nothing c.nothing_met.ensures k s old)
 
 pub container-returns-then-presence-clause-notes : goal.container-returns-then-presence-clause-notes
 container-returns-then-presence-clause-notes t c =
     let k = c.args.self.now.kind in
     let s = c.args.self.now.schema.now in
-    let id = c.args.id in
+    let id = c.args.at.id in
     let found = option_map (λ (v : Bor Value). view v.now) c.args.value in
     let none : found ≡ None = ap (option_map (λ (v : Bor Value). view v.now)) c.in-None.is in
     let presence = sym (ap (λ r. r.label.defined.has_presence) c.node-node.ensures.value) ∙ sym c.presence.ensures ∙ c.if-presence.true in
-    gains_none s c.args.notes.now (container_at k s c.args.scope id found) (λ spot next. container_none k s c.args.scope id found spot next none presence)
+    gains_none s c.args.notes.now (container_at k s c.args.at.scope id found) (λ spot next. container_none k s c.args.at.scope id found spot next none presence)
 
 pub container-returns-else-presence-clause-grows : goal.container-returns-else-presence-clause-grows
 container-returns-else-presence-clause-grows t c =
     let k = c.args.self.now.kind in
     let s = c.args.self.now.schema.now in
-    let id = c.args.id in
+    let id = c.args.at.id in
     let old : ProgressView = progress_view c.args.progress.now in
     let new : ProgressView = progress_view c.children.new.progress in
     let found = option_map (λ (v : Bor Value). view v.now) c.args.value in
@@ -438,26 +436,26 @@ container-returns-else-presence-clause-grows t c =
     let plain = sym (ap (λ r. r.label.defined.has_presence) c.node-node.ensures.value) ∙ sym c.presence.ensures ∙ c.if-presence.false in
     on_ok_weaker c.children.result
     (λ h. λ outer entry.
-    let spot : Spot = spot_at s c.args.path.now c.args.position outer entry in
+    let spot : Spot = spot_at s c.args.at.path.now c.args.at.position outer entry in
     grows_as k s old new _ _
-    (ap (λ (ds : Members). children_met k s c.args.scope id ds (in_no_object spot (row_at s id).label) (next_of old)) c.empty-context.ensures.members
-    ∙ sym (container_open k s c.args.scope id found spot (next_of old) none plain)) (h outer entry))
+    (ap (λ (ds : Members). children_met k s c.args.at.scope id ds (in_no_object spot (row_at s id).label) (next_of old)) c.empty-context.ensures.members
+    ∙ sym (container_open k s c.args.at.scope id found spot (next_of old) none plain)) (h outer entry))
     c.children.ensures.grows
 
 pub container-returns-else-presence-clause-notes : goal.container-returns-else-presence-clause-notes
 container-returns-else-presence-clause-notes t c =
     let k = c.args.self.now.kind in
     let s = c.args.self.now.schema.now in
-    let id = c.args.id in
+    let id = c.args.at.id in
     let l = (row_at s id).label in
     let found = option_map (λ (v : Bor Value). view v.now) c.args.value in
     let none : found ≡ None = ap (option_map (λ (v : Bor Value). view v.now)) c.in-None.is in
     let plain = sym (ap (λ r. r.label.defined.has_presence) c.node-node.ensures.value) ∙ sym c.presence.ensures ∙ c.if-presence.false in
     on_ok_weaker c.children.result
     (λ h. gains_met s c.args.notes.now c.children.new.notes
-    (λ spot next. children_met k s c.args.scope id (members_of c.empty-context.result) (in_no_object spot l) next) (container_at k s c.args.scope id found)
-    (λ spot next. ap (λ (ds : Members). children_met k s c.args.scope id ds (in_no_object spot l) next) c.empty-context.ensures.members
-    ∙ sym (container_open k s c.args.scope id found spot next none plain))
+    (λ spot next. children_met k s c.args.at.scope id (members_of c.empty-context.result) (in_no_object spot l) next) (container_at k s c.args.at.scope id found)
+    (λ spot next. ap (λ (ds : Members). children_met k s c.args.at.scope id ds (in_no_object spot l) next) c.empty-context.ensures.members
+    ∙ sym (container_open k s c.args.at.scope id found spot next none plain))
     (λ spot next lt. h (in_no_object spot l) next lt))
     c.children.ensures.notes
 
@@ -465,7 +463,7 @@ pub container-returns-in-Object-clause-grows : goal.container-returns-in-Object-
 container-returns-in-Object-clause-grows t c =
     let k = c.args.self.now.kind in
     let s = c.args.self.now.schema.now in
-    let id = c.args.id in
+    let id = c.args.at.id in
     let old : ProgressView = progress_view c.args.progress.now in
     let new : ProgressView = progress_view c.object.new.progress in
     let found = option_map (λ (v : Bor Value). view v.now) c.args.value in
@@ -474,14 +472,14 @@ container-returns-in-Object-clause-grows t c =
     ∙ ap (λ (v : Value). Some (view v)) c.in-Object.is ∙ ap (λ (d : Data). Some d) (view-Object c.in-Object.members) in
     on_ok_weaker c.object.result
     (λ h. λ outer entry. grows_as k s old new _ _
-    (sym (container_some k s c.args.scope id found (spot_at s c.args.path.now c.args.position outer entry) (next_of old) (object ms) some)) (h (c.args.position ∷ outer) entry refl))
+    (sym (container_some k s c.args.at.scope id found (spot_at s c.args.at.path.now c.args.at.position outer entry) (next_of old) (object ms) some)) (h (c.args.at.position ∷ outer) entry refl))
     c.object.ensures.grows
 
 pub container-returns-in-Object-clause-notes : goal.container-returns-in-Object-clause-notes
 container-returns-in-Object-clause-notes t c =
     let k = c.args.self.now.kind in
     let s = c.args.self.now.schema.now in
-    let id = c.args.id in
+    let id = c.args.at.id in
     let l = (row_at s id).label in
     let found = option_map (λ (v : Bor Value). view v.now) c.args.value in
     let ms = members_view c.in-Object.members.entries in
@@ -489,8 +487,8 @@ container-returns-in-Object-clause-notes t c =
     ∙ ap (λ (v : Value). Some (view v)) c.in-Object.is ∙ ap (λ (d : Data). Some d) (view-Object c.in-Object.members) in
     on_ok_weaker c.object.result
     (λ h. gains_met s c.args.notes.now c.object.new.notes
-    (λ spot next. object_met id None (below s id) (in_container spot next l) next (object ms) (inside_at k s id)) (container_at k s c.args.scope id found)
-    (λ spot next. sym (container_some k s c.args.scope id found spot next (object ms) some))
+    (λ spot next. object_met id None (below s id) (in_container spot next l) next (object ms) (inside_at k s id)) (container_at k s c.args.at.scope id found)
+    (λ spot next. sym (container_some k s c.args.at.scope id found spot next (object ms) some))
     (λ spot next lt. h (in_container spot next l) (next + 1) (omega (arith, lt))))
     c.object.ensures.notes
 
@@ -500,38 +498,38 @@ pub data-returns-in-Container-clause-grows : goal.data-returns-in-Container-clau
 data-returns-in-Container-clause-grows t c =
     let k = c.args.self.now.kind in
     let s = c.args.self.now.schema.now in
-    let id = c.args.id in
+    let id = c.args.at.id in
     let old : ProgressView = progress_view c.args.progress.now in
     let new : ProgressView = progress_view c.container.new.progress in
     let found = option_map (λ (v : Bor Value). view v.now) c.args.value in
     let is : (row_at s id).label.defined.kind ≡ kind.Container = sym (ap (λ r. r.label.defined.kind) c.node-node.ensures.value) ∙ sym c.kind.ensures ∙ c.in-Container.is in
     let asked = sym c.is_asked.ensures ∙ c.if-not-is_asked.false in
     on_ok_weaker c.container.result
-    (λ h. λ ms writes outer entry. arm_closes c.default_met.ensures c.nothing_met.ensures c.met_behind.ensures k s c.args.scope id ms found
-    (spot_at s c.args.path.now c.args.position outer entry) (next_of old) old new kind.Container is asked (λ e. cc) (λ e. cc) writes (grows_alone k s old new _ (h outer entry)))
+    (λ h. λ ms writes outer entry. arm_closes c.default_met.ensures c.nothing_met.ensures c.met_behind.ensures k s c.args.at.scope id ms found
+    (spot_at s c.args.at.path.now c.args.at.position outer entry) (next_of old) old new kind.Container is asked (λ e. cc) (λ e. cc) writes (grows_alone k s old new _ (h outer entry)))
     c.container.ensures.grows
 
 pub data-returns-in-Container-clause-notes : goal.data-returns-in-Container-clause-notes
 data-returns-in-Container-clause-notes t c =
     let k = c.args.self.now.kind in
     let s = c.args.self.now.schema.now in
-    let id = c.args.id in
+    let id = c.args.at.id in
     let l = (row_at s id).label in
     let found = option_map (λ (v : Bor Value). view v.now) c.args.value in
     let is : l.defined.kind ≡ kind.Container = sym (ap (λ r. r.label.defined.kind) c.node-node.ensures.value) ∙ sym c.kind.ensures ∙ c.in-Container.is in
     let asked = sym c.is_asked.ensures ∙ c.if-not-is_asked.false in
     on_ok_weaker c.container.result
-    (λ h. λ ms writes. gains_behind s c.args.notes.now c.container.new.notes (data_met k s c.args.scope id found) (node_at s c.args.scope id ms)
-    (λ spot. ap (λ K. in_use K l c.args.scope (found_of (node_at s c.args.scope id ms spot))) is ∙ in_use_other kind.Container l c.args.scope (found_of (node_at s c.args.scope id ms spot)) (λ e. cc) (λ e. cc))
-    (gains_met s c.args.notes.now c.container.new.notes (container_at k s c.args.scope id found) (data_met k s c.args.scope id found)
-    (λ spot next. data_asked k s c.args.scope id found spot next kind.Container is asked) h))
+    (λ h. λ ms writes. gains_behind s c.args.notes.now c.container.new.notes (data_met k s c.args.at.scope id found) (node_at s c.args.at.scope id ms)
+    (λ spot. ap (λ K. in_use K l c.args.at.scope (found_of (node_at s c.args.at.scope id ms spot))) is ∙ in_use_other kind.Container l c.args.at.scope (found_of (node_at s c.args.at.scope id ms spot)) (λ e. cc) (λ e. cc))
+    (gains_met s c.args.notes.now c.container.new.notes (container_at k s c.args.at.scope id found) (data_met k s c.args.at.scope id found)
+    (λ spot next. data_asked k s c.args.at.scope id found spot next kind.Container is asked) h))
     c.container.ensures.notes
 
 pub data-returns-in-Leaf-clause-grows : goal.data-returns-in-Leaf-clause-grows
 data-returns-in-Leaf-clause-grows t c =
     let k = c.args.self.now.kind in
     let s = c.args.self.now.schema.now in
-    let id = c.args.id in
+    let id = c.args.at.id in
     let old : ProgressView = progress_view c.args.progress.now in
     let new : ProgressView = progress_view c.leaf.new.progress in
     let found = option_map (λ (v : Bor Value). view v.now) c.args.value in
@@ -539,29 +537,29 @@ data-returns-in-Leaf-clause-grows t c =
     let asked = sym c.is_asked.ensures ∙ c.if-not-is_asked.false in
     on_ok_weaker c.leaf.result
     (λ h. λ ms writes outer entry.
-    let spot : Spot = spot_at s c.args.path.now c.args.position outer entry in
-    subst (λ (xs : List Meeting). Closes k s old new xs (node_at s c.args.scope id ms spot)) (data_asked k s c.args.scope id found spot (next_of old) kind.Leaf is asked) (h ms writes outer entry))
+    let spot : Spot = spot_at s c.args.at.path.now c.args.at.position outer entry in
+    subst (λ (xs : List Meeting). Closes k s old new xs (node_at s c.args.at.scope id ms spot)) (data_asked k s c.args.at.scope id found spot (next_of old) kind.Leaf is asked) (h ms writes outer entry))
     c.leaf.ensures.grows
 
 pub data-returns-in-Leaf-clause-notes : goal.data-returns-in-Leaf-clause-notes
 data-returns-in-Leaf-clause-notes t c =
     let k = c.args.self.now.kind in
     let s = c.args.self.now.schema.now in
-    let id = c.args.id in
+    let id = c.args.at.id in
     let found = option_map (λ (v : Bor Value). view v.now) c.args.value in
     let is : (row_at s id).label.defined.kind ≡ kind.Leaf = sym (ap (λ r. r.label.defined.kind) c.node-node.ensures.value) ∙ sym c.kind.ensures ∙ c.in-Leaf.is in
     let asked = sym c.is_asked.ensures ∙ c.if-not-is_asked.false in
     on_ok_weaker c.leaf.result
-    (λ h. λ ms writes. gains_met s c.args.notes.now c.leaf.new.notes (with_node (leaf_at s id found) (node_at s c.args.scope id ms))
-    (with_node (data_met k s c.args.scope id found) (node_at s c.args.scope id ms))
-    (λ spot next. ap (λ (xs : List Meeting). xs ++ at_node (node_at s c.args.scope id ms spot) ∷ []) (data_asked k s c.args.scope id found spot next kind.Leaf is asked)) (h ms writes))
+    (λ h. λ ms writes. gains_met s c.args.notes.now c.leaf.new.notes (with_node (leaf_at s id found) (node_at s c.args.at.scope id ms))
+    (with_node (data_met k s c.args.at.scope id found) (node_at s c.args.at.scope id ms))
+    (λ spot next. ap (λ (xs : List Meeting). xs ++ at_node (node_at s c.args.at.scope id ms spot) ∷ []) (data_asked k s c.args.at.scope id found spot next kind.Leaf is asked)) (h ms writes))
     c.leaf.ensures.notes
 
 pub data-returns-in-LeafList-clause-grows : goal.data-returns-in-LeafList-clause-grows
 data-returns-in-LeafList-clause-grows t c =
     let k = c.args.self.now.kind in
     let s = c.args.self.now.schema.now in
-    let id = c.args.id in
+    let id = c.args.at.id in
     let old : ProgressView = progress_view c.args.progress.now in
     let new : ProgressView = progress_view c.leaf_list.new.progress in
     let found = option_map (λ (v : Bor Value). view v.now) c.args.value in
@@ -569,102 +567,102 @@ data-returns-in-LeafList-clause-grows t c =
     let asked = sym c.is_asked.ensures ∙ c.if-not-is_asked.false in
     on_ok_weaker c.leaf_list.result
     (λ h. λ ms writes outer entry.
-    let spot : Spot = spot_at s c.args.path.now c.args.position outer entry in
-    subst (λ (xs : List Meeting). Closes k s old new xs (node_at s c.args.scope id ms spot)) (data_asked k s c.args.scope id found spot (next_of old) kind.LeafList is asked) (h ms writes outer entry))
+    let spot : Spot = spot_at s c.args.at.path.now c.args.at.position outer entry in
+    subst (λ (xs : List Meeting). Closes k s old new xs (node_at s c.args.at.scope id ms spot)) (data_asked k s c.args.at.scope id found spot (next_of old) kind.LeafList is asked) (h ms writes outer entry))
     c.leaf_list.ensures.grows
 
 pub data-returns-in-LeafList-clause-notes : goal.data-returns-in-LeafList-clause-notes
 data-returns-in-LeafList-clause-notes t c =
     let k = c.args.self.now.kind in
     let s = c.args.self.now.schema.now in
-    let id = c.args.id in
+    let id = c.args.at.id in
     let found = option_map (λ (v : Bor Value). view v.now) c.args.value in
     let is : (row_at s id).label.defined.kind ≡ kind.LeafList = sym (ap (λ r. r.label.defined.kind) c.node-node.ensures.value) ∙ sym c.kind.ensures ∙ c.in-LeafList.is in
     on_ok_weaker c.leaf_list.result
-    (λ h. λ ms writes. gains_array k s c.args.notes.now id c.args.scope ms kind.LeafList found is tt)
+    (λ h. λ ms writes. gains_array k s c.args.notes.now id c.args.at.scope ms kind.LeafList found is tt)
     c.leaf_list.ensures.grows
 
 pub data-returns-in-List-clause-grows : goal.data-returns-in-List-clause-grows
 data-returns-in-List-clause-grows t c =
     let k = c.args.self.now.kind in
     let s = c.args.self.now.schema.now in
-    let id = c.args.id in
+    let id = c.args.at.id in
     let old : ProgressView = progress_view c.args.progress.now in
     let new : ProgressView = progress_view c.list.new.progress in
     let found = option_map (λ (v : Bor Value). view v.now) c.args.value in
     let is : (row_at s id).label.defined.kind ≡ kind.List = sym (ap (λ r. r.label.defined.kind) c.node-node.ensures.value) ∙ sym c.kind.ensures ∙ c.in-List.is in
     let asked = sym c.is_asked.ensures ∙ c.if-not-is_asked.false in
     on_ok_weaker c.list.result
-    (λ h. λ ms writes outer entry. arm_closes c.default_met.ensures c.nothing_met.ensures c.met_behind.ensures k s c.args.scope id ms found
-    (spot_at s c.args.path.now c.args.position outer entry) (next_of old) old new kind.List is asked (λ e. cc) (λ e. cc) writes (h outer entry))
+    (λ h. λ ms writes outer entry. arm_closes c.default_met.ensures c.nothing_met.ensures c.met_behind.ensures k s c.args.at.scope id ms found
+    (spot_at s c.args.at.path.now c.args.at.position outer entry) (next_of old) old new kind.List is asked (λ e. cc) (λ e. cc) writes (h outer entry))
     c.list.ensures.grows
 
 pub data-returns-in-List-clause-notes : goal.data-returns-in-List-clause-notes
 data-returns-in-List-clause-notes t c =
     let k = c.args.self.now.kind in
     let s = c.args.self.now.schema.now in
-    let id = c.args.id in
+    let id = c.args.at.id in
     let found = option_map (λ (v : Bor Value). view v.now) c.args.value in
     let is : (row_at s id).label.defined.kind ≡ kind.List = sym (ap (λ r. r.label.defined.kind) c.node-node.ensures.value) ∙ sym c.kind.ensures ∙ c.in-List.is in
     on_ok_weaker c.list.result
-    (λ h. λ ms writes. gains_array k s c.args.notes.now id c.args.scope ms kind.List found is tt)
+    (λ h. λ ms writes. gains_array k s c.args.notes.now id c.args.at.scope ms kind.List found is tt)
     c.list.ensures.grows
 
 pub data-returns-in-Anydata-clause-grows : goal.data-returns-in-Anydata-clause-grows
 data-returns-in-Anydata-clause-grows t c =
     let k = c.args.self.now.kind in
     let s = c.args.self.now.schema.now in
-    let id = c.args.id in
+    let id = c.args.at.id in
     let old : ProgressView = progress_view c.args.progress.now in
     let found = option_map (λ (v : Bor Value). view v.now) c.args.value in
     let is : (row_at s id).label.defined.kind ≡ kind.Anydata = sym (ap (λ r. r.label.defined.kind) c.node-node.ensures.value) ∙ sym c.kind.ensures ∙ c.in-Anydata.is in
     let asked = sym c.is_asked.ensures ∙ c.if-not-is_asked.false in
     on_ok_weaker c.anydata.result
-    (λ h. λ ms writes outer entry. arm_closes c.default_met.ensures c.nothing_met.ensures c.met_behind.ensures k s c.args.scope id ms found
-    (spot_at s c.args.path.now c.args.position outer entry) (next_of old) old _ kind.Anydata is asked (λ e. cc) (λ e. cc) writes (grows_only c.nothing_met.ensures k s old c.anydata.new.faults.items _ h))
+    (λ h. λ ms writes outer entry. arm_closes c.default_met.ensures c.nothing_met.ensures c.met_behind.ensures k s c.args.at.scope id ms found
+    (spot_at s c.args.at.path.now c.args.at.position outer entry) (next_of old) old _ kind.Anydata is asked (λ e. cc) (λ e. cc) writes (grows_only c.nothing_met.ensures k s old c.anydata.new.faults.items _ h))
     c.anydata.ensures
 
 pub data-returns-in-Anydata-clause-notes : goal.data-returns-in-Anydata-clause-notes
 data-returns-in-Anydata-clause-notes t c =
     let k = c.args.self.now.kind in
     let s = c.args.self.now.schema.now in
-    let id = c.args.id in
+    let id = c.args.at.id in
     let found = option_map (λ (v : Bor Value). view v.now) c.args.value in
     let is : (row_at s id).label.defined.kind ≡ kind.Anydata = sym (ap (λ r. r.label.defined.kind) c.node-node.ensures.value) ∙ sym c.kind.ensures ∙ c.in-Anydata.is in
     on_ok_weaker c.anydata.result
-    (λ h. λ ms writes. gains_array k s c.args.notes.now id c.args.scope ms kind.Anydata found is tt)
+    (λ h. λ ms writes. gains_array k s c.args.notes.now id c.args.at.scope ms kind.Anydata found is tt)
     c.anydata.ensures
 
 pub data-returns-in-Anyxml-clause-grows : goal.data-returns-in-Anyxml-clause-grows
 data-returns-in-Anyxml-clause-grows t c =
     let k = c.args.self.now.kind in
     let s = c.args.self.now.schema.now in
-    let id = c.args.id in
+    let id = c.args.at.id in
     let old : ProgressView = progress_view c.args.progress.now in
     let found = option_map (λ (v : Bor Value). view v.now) c.args.value in
     let is : (row_at s id).label.defined.kind ≡ kind.Anyxml = sym (ap (λ r. r.label.defined.kind) c.node-node.ensures.value) ∙ sym c.kind.ensures ∙ c.in-Anyxml.is in
     let asked = sym c.is_asked.ensures ∙ c.if-not-is_asked.false in
     on_ok_weaker c.anyxml.result
-    (λ h. λ ms writes outer entry. arm_closes c.default_met.ensures c.nothing_met.ensures c.met_behind.ensures k s c.args.scope id ms found
-    (spot_at s c.args.path.now c.args.position outer entry) (next_of old) old _ kind.Anyxml is asked (λ e. cc) (λ e. cc) writes (grows_only c.nothing_met.ensures k s old c.anyxml.new.faults.items _ h))
+    (λ h. λ ms writes outer entry. arm_closes c.default_met.ensures c.nothing_met.ensures c.met_behind.ensures k s c.args.at.scope id ms found
+    (spot_at s c.args.at.path.now c.args.at.position outer entry) (next_of old) old _ kind.Anyxml is asked (λ e. cc) (λ e. cc) writes (grows_only c.nothing_met.ensures k s old c.anyxml.new.faults.items _ h))
     c.anyxml.ensures
 
 pub data-returns-in-Anyxml-clause-notes : goal.data-returns-in-Anyxml-clause-notes
 data-returns-in-Anyxml-clause-notes t c =
     let k = c.args.self.now.kind in
     let s = c.args.self.now.schema.now in
-    let id = c.args.id in
+    let id = c.args.at.id in
     let found = option_map (λ (v : Bor Value). view v.now) c.args.value in
     let is : (row_at s id).label.defined.kind ≡ kind.Anyxml = sym (ap (λ r. r.label.defined.kind) c.node-node.ensures.value) ∙ sym c.kind.ensures ∙ c.in-Anyxml.is in
     on_ok_weaker c.anyxml.result
-    (λ h. λ ms writes. gains_array k s c.args.notes.now id c.args.scope ms kind.Anyxml found is tt)
+    (λ h. λ ms writes. gains_array k s c.args.notes.now id c.args.at.scope ms kind.Anyxml found is tt)
     c.anyxml.ensures
 
 pub data-returns-in_default : goal.data-returns-in_default
 data-returns-in_default t c =
     let s = c.args.self.now.schema.now in
-    let is : c.kind.result ≡ (row_at s c.args.id).label.defined.kind = c.kind.ensures ∙ ap (λ r. r.label.defined.kind) c.node-node.ensures.value in
-    absurd (other_kind (row_at s c.args.id).label.defined.kind c.requires.«data» (λ e. c.in_default.not-Container (is ∙ e)) (λ e. c.in_default.not-Leaf (is ∙ e)) (λ e. c.in_default.not-LeafList (is ∙ e))
+    let is : c.kind.result ≡ (row_at s c.args.at.id).label.defined.kind = c.kind.ensures ∙ ap (λ r. r.label.defined.kind) c.node-node.ensures.value in
+    absurd (other_kind (row_at s c.args.at.id).label.defined.kind c.requires.«data» (λ e. c.in_default.not-Container (is ∙ e)) (λ e. c.in_default.not-Leaf (is ∙ e)) (λ e. c.in_default.not-LeafList (is ∙ e))
     (λ e. c.in_default.not-List (is ∙ e)) (λ e. c.in_default.not-Anydata (is ∙ e)) (λ e. c.in_default.not-Anyxml (is ∙ e)))
 
 -- ---- state
@@ -673,7 +671,7 @@ pub state-returns-in-Some-clause-grows : goal.state-returns-in-Some-clause-grows
 state-returns-in-Some-clause-grows t c =
     let k = c.args.self.now.kind in
     let s = c.args.self.now.schema.now in
-    let id = c.args.id in
+    let id = c.args.at.id in
     let old : ProgressView = progress_view c.args.progress.now in
     let found = option_map (λ (v : Bor Value). view v.now) c.args.value in
     let d = view c.in-Some.written.now in
@@ -682,12 +680,12 @@ state-returns-in-Some-clause-grows t c =
     let there : c.is_there-exists.result ≡ is_there (row_at s id).label.defined.kind d = c.is_there-exists.ensures ∙ ap (λ K. is_there K d) is in
     on_ok_weaker c.tell_if.result
     (λ h. λ ms writes outer entry.
-    let spot : Spot = spot_at s c.args.path.now c.args.position outer entry in
-    let m = node_at s c.args.scope id ms spot in
+    let spot : Spot = spot_at s c.args.at.path.now c.args.at.position outer entry in
+    let m = node_at s c.args.at.scope id ms spot in
     let own : c.tell_if.new.faults.items ≡ old.faults ++ state_faults m.label.defined.kind m found =
     h ∙ ap (λ b. old.faults ++ flaw_if b State (at spot m.label None)) there ∙ ap (λ (o : Option Data). old.faults ++ state_faults m.label.defined.kind m o) (sym some) in
-    state_closes c.default_met.ensures c.nothing_met.ensures c.met_behind.ensures k s c.args.scope id ms found spot (next_of old) old _ [] c.requires.nothing_asked writes
-    (data_left k s c.args.scope id d spot (next_of old) c.requires.«data» c.requires.nothing_asked ∙ ap (λ (o : Option Data). data_met k s c.args.scope id o spot (next_of old)) (sym some))
+    state_closes c.default_met.ensures c.nothing_met.ensures c.met_behind.ensures k s c.args.at.scope id ms found spot (next_of old) old _ [] c.requires.nothing_asked writes
+    (data_left k s c.args.at.scope id d spot (next_of old) c.requires.«data» c.requires.nothing_asked ∙ ap (λ (o : Option Data). data_met k s c.args.at.scope id o spot (next_of old)) (sym some))
     (grows_only c.nothing_met.ensures k s old c.tell_if.new.faults.items _ own))
     c.tell_if.ensures
 
@@ -695,23 +693,23 @@ pub state-returns-in-Some-clause-notes : goal.state-returns-in-Some-clause-notes
 state-returns-in-Some-clause-notes t c =
     let k = c.args.self.now.kind in
     let s = c.args.self.now.schema.now in
-    let id = c.args.id in
+    let id = c.args.at.id in
     let l = (row_at s id).label in
     let found = option_map (λ (v : Bor Value). view v.now) c.args.value in
     let d = view c.in-Some.written.now in
     let some : found ≡ Some d = ap (option_map (λ (v : Bor Value). view v.now)) c.in-Some.is in
     on_ok_weaker c.tell_if.result
-    (λ h. λ ms writes. gains_behind s c.args.notes.now c.args.notes.now (data_met k s c.args.scope id found) (node_at s c.args.scope id ms)
-    (λ spot. in_use_unasked l.defined.kind l c.args.scope (found_of (node_at s c.args.scope id ms spot)) c.requires.nothing_asked)
-    (gains_none s c.args.notes.now (data_met k s c.args.scope id found)
-    (λ spot next. ap (λ (o : Option Data). data_met k s c.args.scope id o spot next) some ∙ sym (data_left k s c.args.scope id d spot next c.requires.«data» c.requires.nothing_asked))))
+    (λ h. λ ms writes. gains_behind s c.args.notes.now c.args.notes.now (data_met k s c.args.at.scope id found) (node_at s c.args.at.scope id ms)
+    (λ spot. in_use_unasked l.defined.kind l c.args.at.scope (found_of (node_at s c.args.at.scope id ms spot)) c.requires.nothing_asked)
+    (gains_none s c.args.notes.now (data_met k s c.args.at.scope id found)
+    (λ spot next. ap (λ (o : Option Data). data_met k s c.args.at.scope id o spot next) some ∙ sym (data_left k s c.args.at.scope id d spot next c.requires.«data» c.requires.nothing_asked))))
     c.tell_if.ensures
 
 pub state-returns-in-Container-clause-grows : goal.state-returns-in-Container-clause-grows
 state-returns-in-Container-clause-grows t c =
     let k = c.args.self.now.kind in
     let s = c.args.self.now.schema.now in
-    let id = c.args.id in
+    let id = c.args.at.id in
     let old : ProgressView = progress_view c.args.progress.now in
     let new : ProgressView = progress_view c.container.new.progress in
     let found = option_map (λ (v : Bor Value). view v.now) c.args.value in
@@ -719,12 +717,12 @@ state-returns-in-Container-clause-grows t c =
     let is : (row_at s id).label.defined.kind ≡ kind.Container = sym (c.kind-kind.ensures ∙ ap (λ r. r.label.defined.kind) c.node.ensures.value) ∙ c.in-Container.is in
     on_ok_weaker c.container.result
     (λ h. λ ms writes outer entry.
-    let spot : Spot = spot_at s c.args.path.now c.args.position outer entry in
-    let m = node_at s c.args.scope id ms spot in
-    state_closes c.default_met.ensures c.nothing_met.ensures c.met_behind.ensures k s c.args.scope id ms found spot (next_of old) old new
-    (container_at k s c.args.scope id None spot (next_of old)) c.requires.nothing_asked writes
-    (data_absent k s c.args.scope id spot (next_of old) kind.Container is ∙ ap (λ (o : Option Data). data_met k s c.args.scope id o spot (next_of old)) (sym none))
-    (subst (λ (o : Option Data). GrowsWith k s old new (container_at k s c.args.scope id None spot (next_of old)) (state_faults m.label.defined.kind m o)) (sym none)
+    let spot : Spot = spot_at s c.args.at.path.now c.args.at.position outer entry in
+    let m = node_at s c.args.at.scope id ms spot in
+    state_closes c.default_met.ensures c.nothing_met.ensures c.met_behind.ensures k s c.args.at.scope id ms found spot (next_of old) old new
+    (container_at k s c.args.at.scope id None spot (next_of old)) c.requires.nothing_asked writes
+    (data_absent k s c.args.at.scope id spot (next_of old) kind.Container is ∙ ap (λ (o : Option Data). data_met k s c.args.at.scope id o spot (next_of old)) (sym none))
+    (subst (λ (o : Option Data). GrowsWith k s old new (container_at k s c.args.at.scope id None spot (next_of old)) (state_faults m.label.defined.kind m o)) (sym none)
     (grows_alone k s old new _ (h outer entry))))
     c.container.ensures.grows
 
@@ -732,23 +730,23 @@ pub state-returns-in-Container-clause-notes : goal.state-returns-in-Container-cl
 state-returns-in-Container-clause-notes t c =
     let k = c.args.self.now.kind in
     let s = c.args.self.now.schema.now in
-    let id = c.args.id in
+    let id = c.args.at.id in
     let l = (row_at s id).label in
     let found = option_map (λ (v : Bor Value). view v.now) c.args.value in
     let none : found ≡ None = ap (option_map (λ (v : Bor Value). view v.now)) c.in-None.is in
     let is : l.defined.kind ≡ kind.Container = sym (c.kind-kind.ensures ∙ ap (λ r. r.label.defined.kind) c.node.ensures.value) ∙ c.in-Container.is in
     on_ok_weaker c.container.result
-    (λ h. λ ms writes. gains_behind s c.args.notes.now c.container.new.notes (data_met k s c.args.scope id found) (node_at s c.args.scope id ms)
-    (λ spot. in_use_unasked l.defined.kind l c.args.scope (found_of (node_at s c.args.scope id ms spot)) c.requires.nothing_asked)
-    (gains_met s c.args.notes.now c.container.new.notes (container_at k s c.args.scope id None) (data_met k s c.args.scope id found)
-    (λ spot next. data_absent k s c.args.scope id spot next kind.Container is ∙ ap (λ (o : Option Data). data_met k s c.args.scope id o spot next) (sym none)) h))
+    (λ h. λ ms writes. gains_behind s c.args.notes.now c.container.new.notes (data_met k s c.args.at.scope id found) (node_at s c.args.at.scope id ms)
+    (λ spot. in_use_unasked l.defined.kind l c.args.at.scope (found_of (node_at s c.args.at.scope id ms spot)) c.requires.nothing_asked)
+    (gains_met s c.args.notes.now c.container.new.notes (container_at k s c.args.at.scope id None) (data_met k s c.args.at.scope id found)
+    (λ spot next. data_absent k s c.args.at.scope id spot next kind.Container is ∙ ap (λ (o : Option Data). data_met k s c.args.at.scope id o spot next) (sym none)) h))
     c.container.ensures.notes
 
 pub state-returns-in_default : goal.state-returns-in_default
 state-returns-in_default t c =
     let k = c.args.self.now.kind in
     let s = c.args.self.now.schema.now in
-    let id = c.args.id in
+    let id = c.args.at.id in
     let l = (row_at s id).label in
     let old : ProgressView = progress_view c.args.progress.now in
     let found = option_map (λ (v : Bor Value). view v.now) c.args.value in
@@ -756,16 +754,16 @@ state-returns-in_default t c =
     let other : l.defined.kind ≡ kind.Container → ⊥ = λ e. c.in_default.not-Container (c.kind-kind.ensures ∙ ap (λ r. r.label.defined.kind) c.node.ensures.value ∙ e) in
     record {
       grows = λ ms writes outer entry.
-          let spot : Spot = spot_at s c.args.path.now c.args.position outer entry in
-          let m = node_at s c.args.scope id ms spot in
-          state_closes c.default_met.ensures c.nothing_met.ensures c.met_behind.ensures k s c.args.scope id ms found spot (next_of old) old old [] c.requires.nothing_asked writes
-          (data_nothing k s c.args.scope id spot (next_of old) c.requires.«data» other ∙ ap (λ (o : Option Data). data_met k s c.args.scope id o spot (next_of old)) (sym none))
+          let spot : Spot = spot_at s c.args.at.path.now c.args.at.position outer entry in
+          let m = node_at s c.args.at.scope id ms spot in
+          state_closes c.default_met.ensures c.nothing_met.ensures c.met_behind.ensures k s c.args.at.scope id ms found spot (next_of old) old old [] c.requires.nothing_asked writes
+          (data_nothing k s c.args.at.scope id spot (next_of old) c.requires.«data» other ∙ ap (λ (o : Option Data). data_met k s c.args.at.scope id o spot (next_of old)) (sym none))
           (subst (λ (o : Option Data). GrowsWith k s old old [] (state_faults m.label.defined.kind m o)) (sym none)
           (grows_alone k s old old [] (grows_nothing c.nothing_met.ensures k s old)));
-      notes = λ ms writes. gains_behind s c.args.notes.now c.args.notes.now (data_met k s c.args.scope id found) (node_at s c.args.scope id ms)
-          (λ spot. in_use_unasked l.defined.kind l c.args.scope (found_of (node_at s c.args.scope id ms spot)) c.requires.nothing_asked)
-          (gains_none s c.args.notes.now (data_met k s c.args.scope id found)
-          (λ spot next. ap (λ (o : Option Data). data_met k s c.args.scope id o spot next) none ∙ sym (data_nothing k s c.args.scope id spot next c.requires.«data» other)));
+      notes = λ ms writes. gains_behind s c.args.notes.now c.args.notes.now (data_met k s c.args.at.scope id found) (node_at s c.args.at.scope id ms)
+          (λ spot. in_use_unasked l.defined.kind l c.args.at.scope (found_of (node_at s c.args.at.scope id ms spot)) c.requires.nothing_asked)
+          (gains_none s c.args.notes.now (data_met k s c.args.at.scope id found)
+          (λ spot next. ap (λ (o : Option Data). data_met k s c.args.at.scope id o spot next) none ∙ sym (data_nothing k s c.args.at.scope id spot next c.requires.«data» other)));
     }
 
 -- ---- choices
@@ -774,7 +772,7 @@ pub choice-returns-clause-grows : goal.choice-returns-clause-grows
 choice-returns-clause-grows t c =
     let k = c.args.self.now.kind in
     let s = c.args.self.now.schema.now in
-    let id = c.args.id in
+    let id = c.args.at.id in
     let ms = members_of c.args.context.now in
     let old : ProgressView = progress_view c.args.progress.now in
     let mid : ProgressView = progress_view c.cases.new.progress in
@@ -782,8 +780,8 @@ choice-returns-clause-grows t c =
     let passed : passes s id ≡ true = choice_passes s id c.node-node.ensures.sound c.requires.node c.requires.kind in
     on_ok_weaker c.end_choice.result
     (λ h. λ outer entry.
-    let spot : Spot = spot_at s c.args.path.now c.args.position outer entry in
-    choice_closes c.default_met.ensures c.nothing_met.ensures c.met_behind.ensures k s c.args.scope id ms spot old _ (cases_met k s id ms spot (next_of old)) c.count-existing.result c.requires.kind
+    let spot : Spot = spot_at s c.args.at.path.now c.args.at.position outer entry in
+    choice_closes c.default_met.ensures c.nothing_met.ensures c.met_behind.ensures k s c.args.at.scope id ms spot old _ (cases_met k s id ms spot (next_of old)) c.count-existing.result c.requires.kind
     first (c.count-existing.ensures c.requires.itself.context c.requires.itself.stands passed)
     (grows_with k s old mid _ c.end_choice.new.faults.items _ (c.in_ok-cases.ensures.grows outer entry) h))
     c.end_choice.ensures
@@ -794,12 +792,12 @@ pub meet-returns-in-Some-clause-grows : goal.meet-returns-in-Some-clause-grows
 meet-returns-in-Some-clause-grows t c =
     let k = c.args.self.now.kind in
     let s = c.args.self.now.schema.now in
-    let id = c.args.id in
+    let id = c.args.at.id in
     let ms = members_of c.args.context.now in
     let old : ProgressView = progress_view c.args.progress.now in
-    let scope = scope_at k s c.args.scope id in
+    let scope = scope_at k s c.args.at.scope id in
     λ outer entry.
-    let spot : Spot = spot_at s c.args.path.now c.args.position outer entry in
+    let spot : Spot = spot_at s c.args.at.path.now c.args.at.position outer entry in
     quiet_grows c.nothing_met.ensures k s old c.visit_all.new.self c.in-Some.steps (one_met k s scope id ms spot (next_of old))
     (one_says k s scope id ms spot (next_of old) c.in-Some.steps c.requires.node c.in-Some.ensures) c.visit_all.ensures
 
@@ -807,9 +805,9 @@ pub meet-returns-in-Some-clause-notes : goal.meet-returns-in-Some-clause-notes
 meet-returns-in-Some-clause-notes t c =
     let k = c.args.self.now.kind in
     let s = c.args.self.now.schema.now in
-    let id = c.args.id in
+    let id = c.args.at.id in
     let ms = members_of c.args.context.now in
-    let scope = scope_at k s c.args.scope id in
+    let scope = scope_at k s c.args.at.scope id in
     quiet_gains k s c.args.notes.now c.in-Some.steps (one_met k s scope id ms)
     (λ spot next. one_says k s scope id ms spot next c.in-Some.steps c.requires.node c.in-Some.ensures)
 
@@ -819,29 +817,29 @@ pub node-returns-then-is_operation_or_notification-clause-grows : goal.node-retu
 node-returns-then-is_operation_or_notification-clause-grows t c =
     let k = c.args.self.now.kind in
     let s = c.args.self.now.schema.now in
-    let id = c.args.id in
+    let id = c.args.at.id in
     let ms = members_of c.args.context.now in
     let old : ProgressView = progress_view c.args.progress.now in
     let is : c.kind-kind.result ≡ (row_at s id).label.defined.kind = c.kind-kind.ensures ∙ ap (λ r. r.label.defined.kind) c.node-node.ensures.value in
     let op = sym (ap is_operation_or_notification is) ∙ sym c.is_operation_or_notification.ensures ∙ c.if-is_operation_or_notification.true in
-    λ outer entry. grows_as k s old old [] _ (sym (at_operation k s (scope_at k s c.args.scope id) id ms (spot_at s c.args.path.now c.args.position outer entry) (next_of old) op))
+    λ outer entry. grows_as k s old old [] _ (sym (at_operation k s (scope_at k s c.args.at.scope id) id ms (spot_at s c.args.at.path.now c.args.at.position outer entry) (next_of old) op))
     (grows_nothing c.nothing_met.ensures k s old)
 
 pub node-returns-then-is_operation_or_notification-clause-notes : goal.node-returns-then-is_operation_or_notification-clause-notes
 node-returns-then-is_operation_or_notification-clause-notes t c =
     let k = c.args.self.now.kind in
     let s = c.args.self.now.schema.now in
-    let id = c.args.id in
+    let id = c.args.at.id in
     let ms = members_of c.args.context.now in
     let is : c.kind-kind.result ≡ (row_at s id).label.defined.kind = c.kind-kind.ensures ∙ ap (λ r. r.label.defined.kind) c.node-node.ensures.value in
     let op = sym (ap is_operation_or_notification is) ∙ sym c.is_operation_or_notification.ensures ∙ c.if-is_operation_or_notification.true in
-    gains_none s c.args.notes.now (one_met k s (scope_at k s c.args.scope id) id ms) (λ spot next. at_operation k s (scope_at k s c.args.scope id) id ms spot next op)
+    gains_none s c.args.notes.now (one_met k s (scope_at k s c.args.at.scope id) id ms) (λ spot next. at_operation k s (scope_at k s c.args.at.scope id) id ms spot next op)
 
 pub node-returns-then-is_data-clause-grows : goal.node-returns-then-is_data-clause-grows
 node-returns-then-is_data-clause-grows t c =
     let k = c.args.self.now.kind in
     let s = c.args.self.now.schema.now in
-    let id = c.args.id in
+    let id = c.args.at.id in
     let ms = members_of c.args.context.now in
     let old : ProgressView = progress_view c.args.progress.now in
     let new : ProgressView = progress_view c.«data».new.progress in
@@ -850,11 +848,11 @@ node-returns-then-is_data-clause-grows t c =
     let plain = sym (ap is_operation_or_notification is) ∙ sym c.is_operation_or_notification.ensures ∙ c.if-is_operation_or_notification.false in
     let one = sym (ap is_data is) ∙ sym c.is_data.ensures ∙ c.if-is_data.true in
     let writes = sym (c.value-value.ensures s c.requires.meets.context c.requires.meets.stands one) in
-    let scope : c.narrow-scope.result ≡ scope_at k s c.args.scope id = c.narrow-scope.ensures
-    ∙ ap (λ b. scope_in k b c.args.scope) (c.config.ensures ∙ ap (λ r. r.label.is_config) c.node-node.ensures.value) in
+    let scope : c.narrow-scope.result ≡ scope_at k s c.args.at.scope id = c.narrow-scope.ensures
+    ∙ ap (λ b. scope_in k b c.args.at.scope) (c.config.ensures ∙ ap (λ r. r.label.is_config) c.node-node.ensures.value) in
     on_ok_weaker c.«data».result
     (λ h. λ outer entry.
-    let spot : Spot = spot_at s c.args.path.now c.args.position outer entry in
+    let spot : Spot = spot_at s c.args.at.path.now c.args.at.position outer entry in
     subst (λ (y : RuleScope). Grows k s old new (one_met k s y id ms spot (next_of old))) scope
     (grows_as k s old new _ _ (at_data k s c.narrow-scope.result id ms found spot (next_of old) plain one writes)
     (visited k s old c.visit.new.meter new _ (node_at s c.narrow-scope.result id ms spot) c.visit.ensures (h ms writes outer entry))))
@@ -864,15 +862,15 @@ pub node-returns-then-is_data-clause-notes : goal.node-returns-then-is_data-clau
 node-returns-then-is_data-clause-notes t c =
     let k = c.args.self.now.kind in
     let s = c.args.self.now.schema.now in
-    let id = c.args.id in
+    let id = c.args.at.id in
     let ms = members_of c.args.context.now in
     let found = option_map (λ (v : Bor Value). view v.now) c.value-value.result in
     let is : c.kind-kind.result ≡ (row_at s id).label.defined.kind = c.kind-kind.ensures ∙ ap (λ r. r.label.defined.kind) c.node-node.ensures.value in
     let plain = sym (ap is_operation_or_notification is) ∙ sym c.is_operation_or_notification.ensures ∙ c.if-is_operation_or_notification.false in
     let one = sym (ap is_data is) ∙ sym c.is_data.ensures ∙ c.if-is_data.true in
     let writes = sym (c.value-value.ensures s c.requires.meets.context c.requires.meets.stands one) in
-    let scope : c.narrow-scope.result ≡ scope_at k s c.args.scope id = c.narrow-scope.ensures
-    ∙ ap (λ b. scope_in k b c.args.scope) (c.config.ensures ∙ ap (λ r. r.label.is_config) c.node-node.ensures.value) in
+    let scope : c.narrow-scope.result ≡ scope_at k s c.args.at.scope id = c.narrow-scope.ensures
+    ∙ ap (λ b. scope_in k b c.args.at.scope) (c.config.ensures ∙ ap (λ r. r.label.is_config) c.node-node.ensures.value) in
     on_ok_weaker c.«data».result
     (λ h. subst (λ (y : RuleScope). GainsBy s c.args.notes.now c.«data».new.notes (one_met k s y id ms)) scope
     (gains_met s c.args.notes.now c.«data».new.notes (with_node (data_met k s c.narrow-scope.result id found) (node_at s c.narrow-scope.result id ms)) (one_met k s c.narrow-scope.result id ms)
@@ -883,16 +881,16 @@ pub node-returns-in-Choice-clause-grows : goal.node-returns-in-Choice-clause-gro
 node-returns-in-Choice-clause-grows t c =
     let k = c.args.self.now.kind in
     let s = c.args.self.now.schema.now in
-    let id = c.args.id in
+    let id = c.args.at.id in
     let ms = members_of c.args.context.now in
     let old : ProgressView = progress_view c.args.progress.now in
     let new : ProgressView = progress_view c.choice.new.progress in
     let as_kind : (row_at s id).label.defined.kind ≡ kind.Choice = sym (c.kind-kind.ensures ∙ ap (λ r. r.label.defined.kind) c.node-node.ensures.value) ∙ c.in-Choice.is in
-    let scope : c.narrow-scope.result ≡ scope_at k s c.args.scope id = c.narrow-scope.ensures
-    ∙ ap (λ b. scope_in k b c.args.scope) (c.config.ensures ∙ ap (λ r. r.label.is_config) c.node-node.ensures.value) in
+    let scope : c.narrow-scope.result ≡ scope_at k s c.args.at.scope id = c.narrow-scope.ensures
+    ∙ ap (λ b. scope_in k b c.args.at.scope) (c.config.ensures ∙ ap (λ r. r.label.is_config) c.node-node.ensures.value) in
     on_ok_weaker c.choice.result
     (λ h. λ outer entry.
-    let spot : Spot = spot_at s c.args.path.now c.args.position outer entry in
+    let spot : Spot = spot_at s c.args.at.path.now c.args.at.position outer entry in
     subst (λ (y : RuleScope). Grows k s old new (one_met k s y id ms spot (next_of old))) scope
     (grows_as k s old new _ _ (at_choice k s c.narrow-scope.result id ms spot (next_of old) as_kind)
     (visited k s old c.visit.new.meter new _ (node_at s c.narrow-scope.result id ms spot) c.visit.ensures (h outer entry))))
@@ -902,12 +900,12 @@ pub node-returns-in-Choice-clause-notes : goal.node-returns-in-Choice-clause-not
 node-returns-in-Choice-clause-notes t c =
     let k = c.args.self.now.kind in
     let s = c.args.self.now.schema.now in
-    let id = c.args.id in
+    let id = c.args.at.id in
     let l = (row_at s id).label in
     let ms = members_of c.args.context.now in
     let as_kind : l.defined.kind ≡ kind.Choice = sym (c.kind-kind.ensures ∙ ap (λ r. r.label.defined.kind) c.node-node.ensures.value) ∙ c.in-Choice.is in
-    let scope : c.narrow-scope.result ≡ scope_at k s c.args.scope id = c.narrow-scope.ensures
-    ∙ ap (λ b. scope_in k b c.args.scope) (c.config.ensures ∙ ap (λ r. r.label.is_config) c.node-node.ensures.value) in
+    let scope : c.narrow-scope.result ≡ scope_at k s c.args.at.scope id = c.narrow-scope.ensures
+    ∙ ap (λ b. scope_in k b c.args.at.scope) (c.config.ensures ∙ ap (λ r. r.label.is_config) c.node-node.ensures.value) in
     on_ok_weaker c.choice.result
     (λ h. subst (λ (y : RuleScope). GainsBy s c.args.notes.now c.choice.new.notes (one_met k s y id ms)) scope
     (gains_met s c.args.notes.now c.choice.new.notes (with_node (cases_met k s id ms) (node_at s c.narrow-scope.result id ms)) (one_met k s c.narrow-scope.result id ms)
@@ -920,16 +918,16 @@ pub node-returns-in-Case-clause-grows : goal.node-returns-in-Case-clause-grows
 node-returns-in-Case-clause-grows t c =
     let k = c.args.self.now.kind in
     let s = c.args.self.now.schema.now in
-    let id = c.args.id in
+    let id = c.args.at.id in
     let ms = members_of c.args.context.now in
     let old : ProgressView = progress_view c.args.progress.now in
     let new : ProgressView = progress_view c.children.new.progress in
     let as_kind : (row_at s id).label.defined.kind ≡ kind.Case = sym (c.kind-kind.ensures ∙ ap (λ r. r.label.defined.kind) c.node-node.ensures.value) ∙ c.in-Case.is in
-    let scope : c.narrow-scope.result ≡ scope_at k s c.args.scope id = c.narrow-scope.ensures
-    ∙ ap (λ b. scope_in k b c.args.scope) (c.config.ensures ∙ ap (λ r. r.label.is_config) c.node-node.ensures.value) in
+    let scope : c.narrow-scope.result ≡ scope_at k s c.args.at.scope id = c.narrow-scope.ensures
+    ∙ ap (λ b. scope_in k b c.args.at.scope) (c.config.ensures ∙ ap (λ r. r.label.is_config) c.node-node.ensures.value) in
     on_ok_weaker c.children.result
     (λ h. λ outer entry.
-    let spot : Spot = spot_at s c.args.path.now c.args.position outer entry in
+    let spot : Spot = spot_at s c.args.at.path.now c.args.at.position outer entry in
     subst (λ (y : RuleScope). Grows k s old new (one_met k s y id ms spot (next_of old))) scope
     (grows_as k s old new _ _ (at_case k s c.narrow-scope.result id ms spot (next_of old) as_kind)
     (visited k s old c.visit.new.meter new _ (node_at s c.narrow-scope.result id ms spot) c.visit.ensures (other_closes c.default_met.ensures c.nothing_met.ensures c.met_behind.ensures k s c.narrow-scope.result id ms spot (record { faults = old.faults; found = old.found; steps = c.visit.new.meter }) new _ (ap is_data as_kind) (λ e. cc) (h outer entry)))))
@@ -939,12 +937,12 @@ pub node-returns-in-Case-clause-notes : goal.node-returns-in-Case-clause-notes
 node-returns-in-Case-clause-notes t c =
     let k = c.args.self.now.kind in
     let s = c.args.self.now.schema.now in
-    let id = c.args.id in
+    let id = c.args.at.id in
     let l = (row_at s id).label in
     let ms = members_of c.args.context.now in
     let as_kind : l.defined.kind ≡ kind.Case = sym (c.kind-kind.ensures ∙ ap (λ r. r.label.defined.kind) c.node-node.ensures.value) ∙ c.in-Case.is in
-    let scope : c.narrow-scope.result ≡ scope_at k s c.args.scope id = c.narrow-scope.ensures
-    ∙ ap (λ b. scope_in k b c.args.scope) (c.config.ensures ∙ ap (λ r. r.label.is_config) c.node-node.ensures.value) in
+    let scope : c.narrow-scope.result ≡ scope_at k s c.args.at.scope id = c.narrow-scope.ensures
+    ∙ ap (λ b. scope_in k b c.args.at.scope) (c.config.ensures ∙ ap (λ r. r.label.is_config) c.node-node.ensures.value) in
     on_ok_weaker c.children.result
     (λ h. subst (λ (y : RuleScope). GainsBy s c.args.notes.now c.children.new.notes (one_met k s y id ms)) scope
     (gains_met s c.args.notes.now c.children.new.notes (with_node (children_met k s c.narrow-scope.result id ms) (node_at s c.narrow-scope.result id ms)) (one_met k s c.narrow-scope.result id ms)
@@ -957,7 +955,7 @@ pub node-returns-in_default : goal.node-returns-in_default
 node-returns-in_default t c =
     let k = c.args.self.now.kind in
     let s = c.args.self.now.schema.now in
-    let id = c.args.id in
+    let id = c.args.at.id in
     let l = (row_at s id).label in
     let ms = members_of c.args.context.now in
     let old : ProgressView = progress_view c.args.progress.now in
@@ -967,10 +965,10 @@ node-returns-in_default t c =
     let none = sym (ap is_data is) ∙ sym c.is_data.ensures ∙ c.if-is_data.false in
     let no_choice : l.defined.kind ≡ kind.Choice → ⊥ = λ e. c.in_default.not-Choice (is ∙ e) in
     let no_case : l.defined.kind ≡ kind.Case → ⊥ = λ e. c.in_default.not-Case (is ∙ e) in
-    let y : RuleScope = scope_at k s c.args.scope id in
+    let y : RuleScope = scope_at k s c.args.at.scope id in
     record {
       grows = λ outer entry.
-          let spot : Spot = spot_at s c.args.path.now c.args.position outer entry in
+          let spot : Spot = spot_at s c.args.at.path.now c.args.at.position outer entry in
           grows_as k s old begun _ _ (at_other k s y id ms spot (next_of old) plain none no_choice no_case)
           (visited k s old c.visit.new.meter begun [] (node_at s y id ms spot) c.visit.ensures
           (other_closes c.default_met.ensures c.nothing_met.ensures c.met_behind.ensures k s y id ms spot begun begun [] none no_choice (grows_nothing c.nothing_met.ensures k s begun)));
@@ -986,15 +984,15 @@ pub list-returns-in-None : goal.list-returns-in-None
 list-returns-in-None t c =
     let k = c.args.self.now.kind in
     let s = c.args.self.now.schema.now in
-    let id = c.args.id in
+    let id = c.args.at.id in
     let old : ProgressView = progress_view c.args.progress.now in
     let found = option_map (λ (v : Bor Value). view v.now) c.args.value in
     let none : found ≡ None = ap (option_map (λ (v : Bor Value). view v.now)) c.in-None.is in
     record {
       grows = on_ok_weaker c.end_array.result
           (λ h. λ outer entry.
-          let spot : Spot = spot_at s c.args.path.now c.args.position outer entry in
-          subst (λ (o : Option Data). GrowsWith k s old (record { faults = c.end_array.new.faults.items; found = old.found; steps = old.steps }) (list_at k s id o spot (next_of old)) (array_faults (plain_at s c.args.scope id c.args.path.now) o)) (sym none)
+          let spot : Spot = spot_at s c.args.at.path.now c.args.at.position outer entry in
+          subst (λ (o : Option Data). GrowsWith k s old (record { faults = c.end_array.new.faults.items; found = old.found; steps = old.steps }) (list_at k s id o spot (next_of old)) (array_faults (plain_at s c.args.at.scope id c.args.at.path.now) o)) (sym none)
           (grows_only c.nothing_met.ensures k s old c.end_array.new.faults.items _ h))
           c.end_array.ensures;
     }
@@ -1003,7 +1001,7 @@ pub list-returns-in_ok-entries-in-Array : goal.list-returns-in_ok-entries-in-Arr
 list-returns-in_ok-entries-in-Array t c =
     let k = c.args.self.now.kind in
     let s = c.args.self.now.schema.now in
-    let id = c.args.id in
+    let id = c.args.at.id in
     let old : ProgressView = progress_view c.args.progress.now in
     let mid : ProgressView = progress_view c.entries.new.progress in
     let found = option_map (λ (v : Bor Value). view v.now) c.args.value in
@@ -1013,8 +1011,8 @@ list-returns-in_ok-entries-in-Array t c =
     record {
       grows = on_ok_weaker c.end_array-in-Array.result
           (λ h. λ outer entry.
-          let spot : Spot = spot_at s c.args.path.now c.args.position outer entry in
-          let m = plain_at s c.args.scope id c.args.path.now in
+          let spot : Spot = spot_at s c.args.at.path.now c.args.at.position outer entry in
+          let m = plain_at s c.args.at.scope id c.args.at.path.now in
           subst (λ (o : Option Data). GrowsWith k s old (record { faults = c.end_array-in-Array.new.faults.items; found = mid.found; steps = mid.steps }) (list_at k s id o spot (next_of old)) (array_faults m o)) (sym some)
           (grows_with k s old mid _ c.end_array-in-Array.new.faults.items _ (c.in_ok-entries-in-Array.ensures.grows outer entry)
           (h ∙ ap (λ n. mid.faults ++ count_faults m n) c.count_of.ensures)))
@@ -1027,8 +1025,8 @@ object-leave-requires t c =
     let start : ProgressView = record { faults = c.enter.new.faults.items; found = begun; steps = c.enter.new.meter } in
     omega (
       arith,
-      c.in_ok-number.ensures.number,
-      ap length c.in_ok-number.ensures.positions,
-      length-append c.args.progress.now.found.positions (open_object c.args.position c.args.id.0 c.args.item ∷ []),
+      c.in_ok-position.ensures.number,
+      ap length c.in_ok-position.ensures.positions,
+      length-append c.args.progress.now.found.positions (open_object c.args.at.position c.args.at.id.0 c.args.item ∷ []),
       not_fewer start (progress_view c.inside.new.progress) (c.in_ok-inside.ensures.grows [] 0),
     )

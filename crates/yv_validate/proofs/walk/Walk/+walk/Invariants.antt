@@ -21,11 +21,11 @@ invariant-children-loop-child l =
     let left = drop l.child-index l.child-items in
     record {
       grows : (outer : List ℕ) (entry : ℕ) (x : ProgressView)
-          → Grows k s (progress_view l.progress) x (ones_met k s (λ at t. l.fn.scope) left ms (spot_at s l.path l.fn.position outer entry) (next_of (progress_view l.progress)))
+          → Grows k s (progress_view l.progress) x (ones_met k s (λ at t. l.fn.at.scope) left ms (spot_at s l.fn.at.path.now l.fn.at.position outer entry) (next_of (progress_view l.progress)))
           → Grows k s (progress_view l.initial.progress) x
-          (children_met k s l.fn.scope l.fn.parent ms (spot_at s l.path l.fn.position outer entry) (next_of (progress_view l.initial.progress)));
+          (children_met k s l.fn.at.scope l.fn.at.id ms (spot_at s l.fn.at.path.now l.fn.at.position outer entry) (next_of (progress_view l.initial.progress)));
       notes : (spot : Spot) (next : ℕ) → spot.entry < next
-          → NotesLeft k s (λ at t. l.fn.scope) left ms spot l.notes l.initial.notes (children_met k s l.fn.scope l.fn.parent ms spot next);
+          → NotesLeft k s (λ at t. l.fn.at.scope) left ms spot l.notes l.initial.notes (children_met k s l.fn.at.scope l.fn.at.id ms spot next);
     }
 
 -- the same of cases
@@ -34,15 +34,15 @@ invariant-cases-loop-place l =
     let k = l.self.kind in
     let s = l.self.schema.now in
     let ms = members_of l.context in
-    let of = case_scope s l.fn.choice (rank l.fn.choice) (below s l.fn.choice) ms in
+    let of = case_scope s l.fn.at.id (rank l.fn.at.id) (below s l.fn.at.id) ms in
     let left = drop l.place l.children in
     record {
       grows : (outer : List ℕ) (entry : ℕ) (x : ProgressView)
-          → Grows k s (progress_view l.progress) x (ones_met k s of left ms (spot_at s l.path l.fn.position outer entry) (next_of (progress_view l.progress)))
+          → Grows k s (progress_view l.progress) x (ones_met k s of left ms (spot_at s l.fn.at.path.now l.fn.at.position outer entry) (next_of (progress_view l.progress)))
           → Grows k s (progress_view l.fn.progress) x
-          (cases_met k s l.fn.choice ms (spot_at s l.path l.fn.position outer entry) (next_of (progress_view l.fn.progress)));
+          (cases_met k s l.fn.at.id ms (spot_at s l.fn.at.path.now l.fn.at.position outer entry) (next_of (progress_view l.fn.progress)));
       notes : (spot : Spot) (next : ℕ) → spot.entry < next
-          → NotesLeft k s of left ms spot l.notes l.initial.notes (cases_met k s l.fn.choice ms spot next);
+          → NotesLeft k s of left ms spot l.notes l.initial.notes (cases_met k s l.fn.at.id ms spot next);
     }
 
 abbrev pub decreases-cases-loop-place : goal.decreases-cases-loop-place
@@ -57,49 +57,49 @@ invariant-entries-loop-index l =
     let left = items_view (drop l.index l.items.items) in
     record {
       grows : (outer : List ℕ) (entry : ℕ) (x : ProgressView)
-          → Grows k s (progress_view l.progress) x (entries_at k s l.fn.id done left (spot_at s l.path l.fn.position outer entry) (next_of (progress_view l.progress)))
+          → Grows k s (progress_view l.progress) x (entries_at k s l.fn.at.id done left (spot_at s l.fn.at.path.now l.fn.at.position outer entry) (next_of (progress_view l.progress)))
           → Grows k s (progress_view l.initial.progress) x
-          (entries_at k s l.fn.id [] (items_view l.items.items) (spot_at s l.path l.fn.position outer entry) (next_of (progress_view l.initial.progress)));
-      keys : Remembers l.keys (list_tuple k s l.id (key_leafs s l.id (row_at s l.id).label)) done;
-      uniques : RemembersEach l.uniques.items (list_tuple k s l.id) (uniques_at s l.id) done;
+          (entries_at k s l.fn.at.id [] (items_view l.items.items) (spot_at s l.fn.at.path.now l.fn.at.position outer entry) (next_of (progress_view l.initial.progress)));
+      keys : Remembers l.keys (list_tuple k s l.fn.at.id (key_leafs s l.fn.at.id (row_at s l.fn.at.id).label)) done;
+      uniques : RemembersEach l.uniques.items (list_tuple k s l.fn.at.id) (uniques_at s l.fn.at.id) done;
     }
 
 -- the nodes behind, and the turns that each takes
 abbrev pub decreases-children : goal.decreases-children
-decreases-children l = 9 * (length l.self.now.schema.now.nodes - rank l.parent)
+decreases-children l = 9 * (length l.self.now.schema.now.nodes - rank l.at.id)
 
 abbrev pub decreases-cases : goal.decreases-cases
-decreases-cases l = 9 * (length l.self.now.schema.now.nodes - rank l.choice) + 1
+decreases-cases l = 9 * (length l.self.now.schema.now.nodes - rank l.at.id) + 1
 
 abbrev pub decreases-choice : goal.decreases-choice
-decreases-choice l = 9 * (length l.self.now.schema.now.nodes - rank l.id) + 2
+decreases-choice l = 9 * (length l.self.now.schema.now.nodes - rank l.at.id) + 2
 
 abbrev pub decreases-meet : goal.decreases-meet
-decreases-meet l = 9 * (length l.self.now.schema.now.nodes - l.id.0) - 1
+decreases-meet l = 9 * (length l.self.now.schema.now.nodes - l.at.id.0) - 1
 
 abbrev pub decreases-node : goal.decreases-node
-decreases-node l = 9 * (length l.self.now.schema.now.nodes - l.id.0) - 2
+decreases-node l = 9 * (length l.self.now.schema.now.nodes - l.at.id.0) - 2
 
 abbrev pub decreases-data : goal.decreases-data
-decreases-data l = 9 * (length l.self.now.schema.now.nodes - l.id.0) - 3
+decreases-data l = 9 * (length l.self.now.schema.now.nodes - l.at.id.0) - 3
 
 abbrev pub decreases-state : goal.decreases-state
-decreases-state l = 9 * (length l.self.now.schema.now.nodes - l.id.0) - 4
+decreases-state l = 9 * (length l.self.now.schema.now.nodes - l.at.id.0) - 4
 
 abbrev pub decreases-container : goal.decreases-container
-decreases-container l = 9 * (length l.self.now.schema.now.nodes - l.id.0) - 5
+decreases-container l = 9 * (length l.self.now.schema.now.nodes - l.at.id.0) - 5
 
 abbrev pub decreases-list : goal.decreases-list
-decreases-list l = 9 * (length l.self.now.schema.now.nodes - l.id.0) - 4
+decreases-list l = 9 * (length l.self.now.schema.now.nodes - l.at.id.0) - 4
 
 abbrev pub decreases-entries : goal.decreases-entries
-decreases-entries l = 9 * (length l.self.now.schema.now.nodes - l.id.0) - 5
+decreases-entries l = 9 * (length l.self.now.schema.now.nodes - l.at.id.0) - 5
 
 abbrev pub decreases-entry : goal.decreases-entry
-decreases-entry l = 9 * (length l.self.now.schema.now.nodes - l.id.0) - 6
+decreases-entry l = 9 * (length l.self.now.schema.now.nodes - l.at.id.0) - 6
 
 abbrev pub decreases-object : goal.decreases-object
-decreases-object l = 9 * (length l.self.now.schema.now.nodes - rank l.id) + 2
+decreases-object l = 9 * (length l.self.now.schema.now.nodes - rank l.at.id) + 2
 
 abbrev pub decreases-inside : goal.decreases-inside
-decreases-inside l = 9 * (length l.self.now.schema.now.nodes - rank l.parent) + 1
+decreases-inside l = 9 * (length l.self.now.schema.now.nodes - rank l.at.id) + 1

@@ -23,7 +23,7 @@ pub returns-clause-grows : goal.returns-clause-grows
 returns-clause-grows c =
     let k = c.args.self.now.kind in
     let s = c.args.self.now.schema.now in
-    let id = c.args.id in
+    let id = c.args.at.id in
     let l = (row_at s id).label in
     let before = map view c.args.earlier.now in
     let d = view c.args.item.now in
@@ -33,24 +33,24 @@ returns-clause-grows c =
     let made : item_tuple l d ≡ c.in_ok-tuple.tuple = alone_is c.node-node.result.now (row_at s id) d c.config.result c.in_ok-read.read c.in_ok-tuple.tuple c.node-node.ensures.value c.config.ensures is c.in_ok-tuple.ensures in
     let first : c.in_ok-first.first ≡ repeat_of (item_tuple l) before d = c.in_ok-first.ensures.tells.same (item_tuple l) before d c.requires.keeps made in
     let many : length c.args.earlier.now + 1 ≡ length before + 1 = ap (λ n. n + 1) (sym (length-map c.args.earlier.now view)) in
-    let here : ℕ → List Place = λ n. places s c.args.path.now ++ record { member = step_name l; item = Some n } ∷ [] in
+    let here : ℕ → List Place = λ n. places s c.args.at.path.now ++ record { member = step_name l; item = Some n } ∷ [] in
     let steps = steps_both old.steps c.read.new.progress.meter c.stood_before.new.meter (value_work l d) (tuple_work (item_tuple l d)) c.in_ok-read.ensures.steps
     (c.in_ok-first.ensures.steps ∙ ap (λ (o : Option (List Val)). min (c.read.new.progress.meter + tuple_work o) 18446744073709551615) (sym made)) in
-    on_ok_weaker c.tell_duplicate.result
+    on_ok_weaker c.tell_repeat.result
     (λ h. λ outer entry.
-    let spot = spot_at s c.args.path.now c.args.position outer entry in
-    writes c.value_met.ensures k s id spot (Some before) d old c.tell_duplicate.new.faults.items c.read.new.progress.found c.stood_before.new.meter
-    (read_told (written_at s id (Some before) d spot) old.faults c.tell_duplicate.new.faults.items c.in_ok-first.first has first
+    let spot = spot_at s c.args.at.path.now c.args.at.position outer entry in
+    writes c.value_met.ensures k s id spot (Some before) d old c.tell_repeat.new.faults.items c.read.new.progress.found c.stood_before.new.meter
+    (read_told (written_at s id (Some before) d spot) old.faults c.tell_repeat.new.faults.items c.in_ok-first.first has first
     (h ∙ ap (λ (fs : List Flaw). fs ++ repeat_faults c.in_ok-first.first Duplicate (here (length c.args.earlier.now + 1)) 0) c.read.ensures.faults
     ∙ ap (λ n. old.faults ++ repeat_faults c.in_ok-first.first Duplicate (here n) 0) many))
-    (subst (λ n. Finds old.found c.read.new.progress.found (value_found s id c.args.position (Some n) (value_of l d))) many c.in_ok-read.ensures.finds) steps)
-    c.tell_duplicate.ensures
+    (subst (λ n. Finds old.found c.read.new.progress.found (value_found s id c.args.at.position (Some n) (value_of l d))) many c.in_ok-read.ensures.finds) steps)
+    c.tell_repeat.ensures
 
 pub returns-then-not-is_read-clause-grows : goal.returns-then-not-is_read-clause-grows
 returns-then-not-is_read-clause-grows c =
     let k = c.args.self.now.kind in
     let s = c.args.self.now.schema.now in
-    let id = c.args.id in
+    let id = c.args.at.id in
     let l = (row_at s id).label in
     let before = map view c.args.earlier.now in
     let d = view c.args.item.now in
@@ -59,33 +59,33 @@ returns-then-not-is_read-clause-grows c =
     let none : is_some (value_of l d) ≡ false = sym (ap is_some is) ∙ sym c.is_some-is_read.ensures ∙ c.if-not-is_read.true in
     let made : item_tuple l d ≡ c.in_ok-tuple.tuple = alone_is c.node-node.result.now (row_at s id) d c.config.result c.in_ok-read.read c.in_ok-tuple.tuple c.node-node.ensures.value c.config.ensures is c.in_ok-tuple.ensures in
     let many : length c.args.earlier.now + 1 ≡ length before + 1 = ap (λ n. n + 1) (sym (length-map c.args.earlier.now view)) in
-    let here : ℕ → List Place = λ n. places s c.args.path.now ++ record { member = step_name l; item = Some n } ∷ [] in
+    let here : ℕ → List Place = λ n. places s c.args.at.path.now ++ record { member = step_name l; item = Some n } ∷ [] in
     let steps = steps_both old.steps c.read.new.progress.meter c.stood_before.new.meter (value_work l d) (tuple_work (item_tuple l d)) c.in_ok-read.ensures.steps
     (c.in_ok-first.ensures.steps ∙ ap (λ (o : Option (List Val)). min (c.read.new.progress.meter + tuple_work o) 18446744073709551615) (sym made)) in
     on_ok_weaker c.tell.result
     (λ h. λ outer entry.
-    let spot = spot_at s c.args.path.now c.args.position outer entry in
+    let spot = spot_at s c.args.at.path.now c.args.at.position outer entry in
     writes c.value_met.ensures k s id spot (Some before) d old c.tell.new.faults.items c.read.new.progress.found c.stood_before.new.meter
     (unread_told (written_at s id (Some before) d spot) old.faults c.tell.new.faults.items none
     (h ∙ ap (λ (fs : List Flaw). fs ++ flaw Unread (here (length c.args.earlier.now + 1)) ∷ []) c.read.ensures.faults
     ∙ ap (λ n. old.faults ++ flaw Unread (here n) ∷ []) many))
-    (subst (λ n. Finds old.found c.read.new.progress.found (value_found s id c.args.position (Some n) (value_of l d))) many c.in_ok-read.ensures.finds) steps)
+    (subst (λ n. Finds old.found c.read.new.progress.found (value_found s id c.args.at.position (Some n) (value_of l d))) many c.in_ok-read.ensures.finds) steps)
     c.tell.ensures
 
 pub returns-clause-keeps : goal.returns-clause-keeps
 returns-clause-keeps c =
-    let l = (row_at c.args.self.now.schema.now c.args.id).label in
+    let l = (row_at c.args.self.now.schema.now c.args.at.id).label in
     let before = map view c.args.earlier.now in
     let d = view c.args.item.now in
-    let made : item_tuple l d ≡ c.in_ok-tuple.tuple = alone_is c.node-node.result.now (row_at c.args.self.now.schema.now c.args.id) d c.config.result c.in_ok-read.read c.in_ok-tuple.tuple c.node-node.ensures.value c.config.ensures c.in_ok-read.ensures.value c.in_ok-tuple.ensures in
+    let made : item_tuple l d ≡ c.in_ok-tuple.tuple = alone_is c.node-node.result.now (row_at c.args.self.now.schema.now c.args.at.id) d c.config.result c.in_ok-read.read c.in_ok-tuple.tuple c.node-node.ensures.value c.config.ensures c.in_ok-read.ensures.value c.in_ok-tuple.ensures in
     let place : length before + 1 ≡ length c.args.earlier.now + 1 = ap (λ n. n + 1) (length-map c.args.earlier.now view) in
-    on_ok_weaker c.tell_duplicate.result (λ h. c.in_ok-first.ensures.tells.next (item_tuple l) before d place c.requires.keeps made) c.tell_duplicate.ensures
+    on_ok_weaker c.tell_repeat.result (λ h. c.in_ok-first.ensures.tells.next (item_tuple l) before d place c.requires.keeps made) c.tell_repeat.ensures
 
 pub returns-then-not-is_read-clause-keeps : goal.returns-then-not-is_read-clause-keeps
 returns-then-not-is_read-clause-keeps c =
-    let l = (row_at c.args.self.now.schema.now c.args.id).label in
+    let l = (row_at c.args.self.now.schema.now c.args.at.id).label in
     let before = map view c.args.earlier.now in
     let d = view c.args.item.now in
-    let made : item_tuple l d ≡ c.in_ok-tuple.tuple = alone_is c.node-node.result.now (row_at c.args.self.now.schema.now c.args.id) d c.config.result c.in_ok-read.read c.in_ok-tuple.tuple c.node-node.ensures.value c.config.ensures c.in_ok-read.ensures.value c.in_ok-tuple.ensures in
+    let made : item_tuple l d ≡ c.in_ok-tuple.tuple = alone_is c.node-node.result.now (row_at c.args.self.now.schema.now c.args.at.id) d c.config.result c.in_ok-read.read c.in_ok-tuple.tuple c.node-node.ensures.value c.config.ensures c.in_ok-read.ensures.value c.in_ok-tuple.ensures in
     let place : length before + 1 ≡ length c.args.earlier.now + 1 = ap (λ n. n + 1) (length-map c.args.earlier.now view) in
     on_ok_weaker c.tell.result (λ h. c.in_ok-first.ensures.tells.next (item_tuple l) before d place c.requires.keeps made) c.tell.ensures

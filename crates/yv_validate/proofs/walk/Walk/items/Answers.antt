@@ -16,7 +16,7 @@ pub loop-index-preserved : goal.loop-index-preserved
 loop-index-preserved c =
     let k = c.args.self.now.kind in
     let s = c.args.self.now.schema.now in
-    let id = c.args.id in
+    let id = c.args.at.id in
     let l = (row_at s id).label in
     let xs = c.args.items.now.items in
     let i = c.loop-index.index in
@@ -31,7 +31,7 @@ loop-index-preserved c =
     let earlier : map view (take i c.deref.result.now) ≡ done = ap (λ (ys : List Value). map view (take i ys)) c.deref.ensures.value in
     record {
       grows = λ outer entry y later.
-          let spot : Spot = spot_at s c.args.path.now c.args.position outer entry in
+          let spot : Spot = spot_at s c.args.at.path.now c.args.at.position outer entry in
           let one : List Data → List Meeting = λ ds. at_value (written_at s id (Some ds) d spot) ∷ [] in
           turn c.met_behind.ensures k s start old new (one done) (items_at s id (map view (take (i + 1) xs)) (items_view (drop (i + 1) xs)) spot (next_of new))
           (items_at s id done (items_view (drop i xs)) spot (next_of old)) (items_at s id [] (items_view xs) spot (next_of start))
@@ -44,7 +44,7 @@ pub returns : goal.returns
 returns c =
     let k = c.args.self.now.kind in
     let s = c.args.self.now.schema.now in
-    let id = c.args.id in
+    let id = c.args.at.id in
     let xs = c.args.items.now.items in
     let i = c.loop-index.index in
     let now : ProgressView = progress_view c.loop-index.progress in
@@ -52,6 +52,6 @@ returns c =
     let le : length xs ≤ i = subst (λ (ys : List Value). length ys ≤ i) c.deref-item-items.ensures.value (omega (arith, c.loop-index-test.false)) in
     record {
       grows = λ outer entry. c.loop-index.invariant.grows outer entry now
-          (subst (λ (ys : List Value). Grows k s now now (items_at s id done (items_view ys) (spot_at s c.args.path.now c.args.position outer entry) (next_of now)))
+          (subst (λ (ys : List Value). Grows k s now now (items_at s id done (items_view ys) (spot_at s c.args.at.path.now c.args.at.position outer entry) (next_of now)))
           (sym (drop_all i xs le)) (grows_nothing c.nothing_met.ensures k s now));
     }

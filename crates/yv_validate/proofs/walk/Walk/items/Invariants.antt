@@ -16,8 +16,8 @@ invariant-loop-index l =
     let left = items_view (drop l.index l.items.items) in
     record {
       grows : (outer : List ℕ) (entry : ℕ) (x : ProgressView)
-          → Grows k s (progress_view l.progress) x (items_at s l.fn.id done left (spot_at s l.path l.fn.position outer entry) (next_of (progress_view l.progress)))
+          → Grows k s (progress_view l.progress) x (items_at s l.fn.at.id done left (spot_at s l.fn.at.path.now l.fn.at.position outer entry) (next_of (progress_view l.progress)))
           → Grows k s (progress_view l.initial.progress) x
-          (items_at s l.fn.id [] (items_view l.items.items) (spot_at s l.path l.fn.position outer entry) (next_of (progress_view l.initial.progress)));
-      kept : Remembers l.kept (item_tuple (row_at s l.id).label) done;
+          (items_at s l.fn.at.id [] (items_view l.items.items) (spot_at s l.fn.at.path.now l.fn.at.position outer entry) (next_of (progress_view l.initial.progress)));
+      kept : Remembers l.kept (item_tuple (row_at s l.fn.at.id).label) done;
     }

@@ -3,7 +3,7 @@ use Rattle.serde_json.specs.Data.{Data, object}
 use Rattle.serde_json.proofs.Views.{view-Object}
 use Rattle.serde_json.specs.View.{members_view, view}
 use Rattle.yv_validate.specs.Faults.{faults}
-use Rattle.yv_validate.proofs.walk.validate.Goals as goal
+use Rattle.yv_validate.proofs.objects.validate.Goals as goal
 
 pub returns-in-Object-clause-faults : goal.returns-in-Object-clause-faults
 returns-in-Object-clause-faults c =
