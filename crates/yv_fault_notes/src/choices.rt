@@ -23,8 +23,7 @@ pub(crate) fn push_missing_choice(
     spot: &Spot<'_>,
     name: &MemberName<'_>,
 ) -> Result<(), AllocError> {
-    let alloc = *text.allocator();
-    let choice = choice_of(alloc, spot, name)?;
+    let choice = choice_of(*text.allocator(), spot, name)?;
     let cases = children_at(spot.schema, choice);
     if cases.is_empty() {
         return text.push_str("the schema requires a node of one of its cases, but it has none");
