@@ -44,7 +44,7 @@ fn is_wanted(wanted: WantedFiles, entry: &Entry<'_, '_>) -> bool
     }
 }
 
-// The block in which a statement stands that is wanted.
+// The block in which a wanted statement is.
 fn block_place(wanted: WantedFiles, number: usize, entry: &Entry<'_, '_>) -> Option<usize>
     ensures { result ≡ block_place (is_wanted wanted) number (row entry.now) }
 {
@@ -55,7 +55,7 @@ fn block_place(wanted: WantedFiles, number: usize, entry: &Entry<'_, '_>) -> Opt
     }
 }
 
-// The file at whose top a statement stands that is wanted.
+// The file at whose top a wanted statement is.
 fn top_place(
     rows: &Rows<'_, '_>,
     wanted: WantedFiles,

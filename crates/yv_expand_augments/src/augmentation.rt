@@ -355,7 +355,8 @@ impl AugmentedItems {
     }
 }
 
-// No items, and no augments of modules. Nothing is asked of the statements then.
+// No items, and no augments of modules. No statement is read then: each would take time for
+// nothing.
 fn nothing_augmented(alloc: Global) -> Result<AugmentedItems, AllocError>
     ensures { (files : Briefs) (rows : List Row)
         → IfOk result

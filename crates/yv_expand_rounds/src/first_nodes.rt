@@ -1,12 +1,12 @@
-//! For each name a node: of the first names in a list, of the others in a map.
+//! For each name a node: the first ones are in a list, the others in a map.
 ghost use Rattle.std.specs.Prelude.{◌≡◌, ◌==◌, ℕ, None, Some, if◌then◌else◌, OnErr, OnOk};
 ghost use Rattle.yv_expand_rounds.specs.InnerFirstNodes.{last_of, node_of};
 
 use std::alloc::{AllocError, Global};
 use std::collections::BTreeMap;
 
-/// How many names are kept in the list. Most nodes have fewer children, and a map takes a quarter
-/// of a kilobyte even for one name.
+/// How many pairs the list holds at most. A name that is set twice takes two. Most nodes have fewer
+/// children, and a map takes a quarter of a kilobyte even for one name.
 const FEW: usize = 8;
 
 /// For each name a node.

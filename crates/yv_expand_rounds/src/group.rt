@@ -153,7 +153,7 @@ impl Group {
         Ok(displaced)
     }
 
-    // How many members stand in front of the last ones that come before the limit. None where these
+    // How many members are in front of the last ones that come before the limit. None where these
     // are more than `most`.
     fn front(&self, limit: usize, most: usize) -> Option<usize>
         ensures within { IfSome result (λ front. front ≤ length self.now.members.items) }
@@ -174,7 +174,7 @@ impl Group {
         Some(front)
     }
 
-    // So many members stand in front of those that may come before the limit. None where these are
+    // So many members are in front of those that may come before the limit. None where these are
     // more than `most`.
     fn count_before(&self, limit: usize, most: usize) -> Option<usize>
         ensures within { IfSome result (λ front. front ≤ length self.now.members.items) }

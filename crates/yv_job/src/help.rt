@@ -3,7 +3,7 @@
 pub const VERSION: &str = "0.2.0 (rattle-kit-13b logic dac8208d650f15bf)";
 
 /// What `--help` says of the program or of one of its commands: in a line, before the options, and
-/// behind them.
+/// after them.
 #[derive(Clone, Copy)]
 pub(crate) struct CommandHelp {
     pub(crate) about: &'static str,

@@ -1,4 +1,4 @@
--- For private clauses alone: a number that is there or not.
+-- Inner definitions, which only private clauses cite: a number, if there is one.
 use Rattle.std.specs.Prelude.{ℕ, Bool, true, false, Option, Some, None}
 
 abbrev pub number_if : Bool → ℕ → Option ℕ

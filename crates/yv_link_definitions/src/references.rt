@@ -77,7 +77,7 @@ impl References {
         ensures { OnOk result ((f o : ℕ)
             → placed_in self.new f o ≡ keep_first (placed_in self.old) file offset number f o) }
     {
-        // A place is searched for once.
+        // One search finds the place or makes room for it; the first number stays.
         self.map.entry((file, offset))?.or_insert(number);
         Ok(())
     }

@@ -93,8 +93,8 @@ pub(crate) fn module_file<'a>(
     names.get(0, file.module_file).unwrap_or(number)
 }
 
-/// For each file that of its module. A name is looked up once for a file, and not for each of its
-/// statements: the names may be long.
+/// For each file the file of its module. A name is looked up once for a file, and not for each of
+/// its statements: the names may be long.
 pub(crate) fn module_files<'a>(
     alloc: Global,
     files: &[File<'a, '_>],

@@ -11,7 +11,7 @@ use yv_link_scopes::{PrefixTable, Rows};
 use yv_node_definition::{PathPiece, PathStep};
 
 impl<'a> PathReader<'_, 'a> {
-    // Adds the path that a text without blanks is. An empty one is none.
+    // Adds the path that a text without blanks spells. An empty text is not one.
     fn push_path(
         &self,
         paths: &mut Vec<Vec<Option<PathStep>>>,
@@ -27,7 +27,7 @@ impl<'a> PathReader<'_, 'a> {
         Ok(())
     }
 
-    // Adds the name that a text without blanks is. An empty one is none.
+    // Adds the name that a text without blanks spells. An empty text is not one.
     fn push_name(&self, names: &mut Vec<Option<PathStep>>, piece: &'a str) -> Result<(), AllocError>
         ensures { (files : Files) → IsPrefixTable files self.now.module_files.now
             → OnOk result
@@ -90,7 +90,7 @@ impl<'a> LeafPaths<'a> {
         Ok(LeafPaths { module_files })
     }
 
-    // What reads the paths in a file.
+    // The reader of paths in this file.
     fn reader(&self, alloc: Global, file: usize) -> PathReader<'_, 'a>
         ensures table { result.module_files.now ≡ self.now.module_files }
         ensures file { result.file ≡ file }

@@ -16,7 +16,7 @@ pub struct LeafrefPath {
     pub steps: Vec<Option<PathStep>>,
 }
 
-// What stands behind the '/' with which an absolute path begins.
+// What comes after the '/' with which an absolute path begins.
 fn behind_root(text: &str) -> Option<&str>
     ensures { MatchOption result (is_absolute text.now ≡ false)
         (λ names. (is_absolute text.now ≡ true) × (names.now ≡ drop 1 text.now)) }

@@ -64,7 +64,7 @@ pub(crate) fn node_name(kind: NodeKind, argument: &str) -> &str
     }
 }
 
-// The status that a text tells. Other texts than those of the three are no statuses, and no file
+// The status that a text names. Other texts than those of the three are no statuses, and no file
 // that conforms has one.
 fn status_of(text: &str) -> NodeStatus
     ensures { result ≡ status_of text.now }

@@ -58,7 +58,8 @@ fn retype(nodes: &mut Vec<Node>, number: usize, types: RcSlice<PlainType>)
 pub struct Nodes {
     limit: u32,
     nodes: Vec<Node>,
-    // Of each node the number of the first that is known to be said the same of.
+    // For each node the number of the first node of which the same is said, as far as that is
+    // known.
     firsts: Vec<u32>,
 }
 
@@ -122,7 +123,7 @@ impl Nodes {
     }
 
     /// The same of a node of which the same is said as of an earlier one: the two share it, and
-    /// `first_alike` tells that they are alike.
+    /// `first_alike` gives the same node for both.
     pub fn push_alike(&mut self, node: Node, earlier: NodeId) -> Result<(), AllocError>
         requires room { length self.old.rows < self.old.limit }
         requires parent { rank node.parent ≤ length self.old.rows }

@@ -67,8 +67,8 @@ impl<'r, 'a, 'b> Leads<'r, 'a, 'b> {
         Ok(())
     }
 
-    // The statements that are reached from this one, up to itself, where it leads first to these.
-    // None, if it isn't reached again.
+    // The statements that are reached from `start`, beginning with `first`, until it is reached
+    // again. None, if it isn't reached again.
     fn search<'s>(
         &self,
         alloc: Global,

@@ -176,7 +176,7 @@ fn case_around<'s, 'a>(node: &Site<'s, 'a>) -> Option<Site<'s, 'a>> {
     node.parent().filter(|parent| parent.is("case"))
 }
 
-// Adds why a node is no target.
+// Adds why a node is not a target.
 fn say_no_target<'a>(telling: &mut Message<'a>, node: &Site<'_, 'a>) {
     if !is_among(node.keyword(), TARGETS) {
         telling.statement_at(

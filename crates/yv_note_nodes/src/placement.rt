@@ -119,12 +119,12 @@ fn push_around<'s, 'a>(
     Ok(())
 }
 
-// Whether the nodes in a statement come to be elsewhere.
+// Whether the nodes in a statement are elsewhere in the tree.
 fn is_copied(site: &Site<'_, '_>) -> bool {
     site.is("grouping") || site.is("augment")
 }
 
-// Adds where the nodes in a grouping or in an `augment` come to be.
+// Adds where in the tree the nodes in a grouping or in an `augment` are.
 fn push_copies<'s, 'a>(
     alloc: Global,
     open: &mut Vec<Hindrance<'s, 'a>>,
@@ -169,13 +169,13 @@ fn hinders(node: &Site<'_, '_>) -> bool {
 /// How many `uses` of a grouping are looked at.
 const MOST_USES: usize = 64;
 
-/// How many groupings and augments are followed to where their nodes come to be.
+/// How many groupings and augments are followed to where their nodes are.
 const MOST_FOLLOWED: usize = 16;
 
 /// How many places of a node are compared.
 const MOST_PLACES: usize = 256;
 
-// Where a node comes to be: the block, and the last `uses` by which it comes there.
+// Where a node is: the block, and the last `uses` by which it comes there.
 #[derive(Clone, Copy)]
 struct Landing<'s, 'a> {
     node: Site<'s, 'a>,
@@ -313,7 +313,7 @@ fn partner<'s, 'a>(
         .find(|other| is_pair(number, one, other))
 }
 
-/// Adds which other node has the name of one, and by which `uses` the two come to be in one place.
+/// Adds which other node has the name of one, and by which `uses` the two are in one place.
 pub fn tell_second_node<'a>(
     telling: &mut Message<'a>,
     site: &Site<'_, 'a>,

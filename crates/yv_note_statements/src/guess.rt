@@ -37,7 +37,8 @@ impl<'n> Guess<'n> {
     }
 }
 
-/// The one of these words, between which are blanks, that is most like one that was written.
+/// The one of these words, which have blanks between them, that is most like one that was
+/// written.
 pub fn nearest_word(written: &str, words: &'static str) -> Option<Guess<'static>> {
     words.split_whitespace().fold(None, |nearest, word| {
         Guess::nearer(nearest, Guess::of(written, word, None))

@@ -49,7 +49,7 @@ impl<'w> Message<'w> {
         }
     }
 
-    /// Where the pieces are kept, and what else is needed to tell a refusal.
+    /// The allocator of the pieces, and of what else the message needs.
     pub fn alloc(&self) -> Global {
         *self.before.allocator()
     }
@@ -168,7 +168,7 @@ impl<'w> Message<'w> {
         self.head(before, site.keyword(), site.entry.argument, after);
     }
 
-    /// The same with the file and the line of the statement behind its name.
+    /// The same with the file and the line of the statement after its name.
     pub fn statement_at(&mut self, before: &'w str, site: &Site<'_, 'w>, after: &'w str) {
         self.statement(before, site, " at ");
         self.point("", site, after);

@@ -50,7 +50,7 @@ impl<'s, 'a> Site<'s, 'a> {
         self.entry.is_root
     }
 
-    /// Whether it is in the file of another statement.
+    /// Whether it is in the same file as another statement.
     pub fn is_beside(&self, other: &Site<'_, '_>) -> bool {
         self.entry.file == other.entry.file
     }
@@ -104,7 +104,8 @@ impl<'s, 'a> Site<'s, 'a> {
         self.parent().is_some_and(|parent| parent.is(keyword))
     }
 
-    /// Whether a statement is in its block, or is the first behind it.
+    /// Whether a statement is a substatement of this one, or comes after its block, where a search
+    /// of the block ends.
     pub(crate) fn is_left(&self, entry: &StatementEntry<'_>) -> bool {
         entry.scope == self.number || (entry.scope < self.number && !self.is_root())
     }
@@ -159,7 +160,7 @@ pub fn named_in_file<'s, 'a>(
         && other.argument() == name)
 }
 
-/// Whether a word is one of these, between which are blanks.
+/// Whether a word is one of these words, which are written with blanks between.
 pub fn is_among(word: &str, words: &str) -> bool {
     words.split_whitespace().any(|one| one == word)
 }

@@ -75,7 +75,7 @@ fn digits_in(chain: &[Site<'_, '_>]) -> Option<u32> {
     digits_of(chain.last()?)
 }
 
-// The first word of a text that is no bit of a type, among those that are looked at.
+// The first word of a text that is not a bit of a type, among those that are looked at.
 fn unknown_bit<'a>(chain: &[Site<'_, 'a>], text: &'a str) -> Option<&'a str> {
     text.split(' ')
         .take(MOST_WORDS)

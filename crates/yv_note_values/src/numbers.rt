@@ -69,8 +69,8 @@ pub(crate) fn push_spans(
     Ok(())
 }
 
-/// Adds these words before the item of this place, unless it is the first one. Of many 4 are
-/// listed: behind those it adds that there are others, and returns false.
+/// Adds these words before the item of this place, unless it is the first one. After 4 items it
+/// adds that there are others, and returns false.
 pub(crate) fn push_or(
     text: &mut String,
     place: usize,

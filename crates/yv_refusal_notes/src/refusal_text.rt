@@ -12,7 +12,7 @@ use yv_note_statements::{Message, Site, entries, push_around, push_plain, senten
 use yv_statement::{Code, Refusal, Selection, Statement};
 use yv_streams::Input;
 
-// Whether a statement stands at the refusal's place.
+// Whether a statement is at the refusal's place.
 fn is_at(entry: &Entry<'_, '_>, refusal: &Refusal) -> bool
     ensures { result ≡ is_at refusal.now (row entry.now) }
 {
@@ -121,8 +121,8 @@ fn sentence(
 }
 
 /// Adds what is said of a refusal: a sentence that names the word at fault, if there is a statement
-/// at its place, and else one that fits every refusal of its code. The sentence tells the cause as
-/// far as it is found. If memory runs out, the text is as it was.
+/// at its place, and else one that fits every refusal of its code. The sentence reports the cause
+/// as far as it is found. If memory runs out, the text is as it was.
 pub fn push_sentence(
     alloc: Global,
     text: &mut String,

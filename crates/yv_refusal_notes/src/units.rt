@@ -23,7 +23,7 @@ fn marks(
     Ok(marks)
 }
 
-// Whether a numbered statement stands at the top of a file that is marked: behind the roots, in the
+// Whether a numbered statement is at the top of a file that is marked: after the roots, in the
 // block of one.
 fn is_counted(marks: &[bool], number: usize, entry: &Entry<'_, '_>) -> bool {
     let is_top = number >= marks.len() && entry.scope < marks.len();
@@ -149,7 +149,7 @@ fn say_count(telling: &mut Message<'_>, count: &Count, limit: u32) {
     });
 }
 
-// What is said behind a number that may be one of many more.
+// What is said after a number that may be one of many more.
 fn or_more(number: u64) -> &'static str {
     if number == u64::MAX { " or more" } else { "" }
 }

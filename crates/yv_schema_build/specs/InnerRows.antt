@@ -54,7 +54,7 @@ rows_of_items b below lines number (x ∷ xs) =
 pub record AreSeen (lines : List (List Label)) (seen : List View) : Type 0 where
   pub are : seen ≡ map seen_of lines
 
--- what stands where there is no item
+-- the item that is read at a place past the last one
 abbrev pub no_node : Node
 no_node = record { origin = 0; parent = None }
 
@@ -62,8 +62,7 @@ no_node = record { origin = 0; parent = None }
 abbrev pub said_at : NumberedBasis → (item : ℕ) → Definition
 said_at b item = refined_definition b.typing b.files (origin_at b.final.items item) (slice_index_or (changes_of b.files b.final) item [])
 
--- of these items, the node of that above has a key of this module and this name; nothing is above
--- one at the top
+-- whether the item at the place above, if there is one, has a key of this module and name
 abbrev pub is_key_above : NumberedBasis → List Node → (above : Option ℕ) → (module_file : ℕ) → (name : List ℕ) → Bool
 is_key_above b xs None module_file name = false
 is_key_above b xs (Some place) module_file name = has_key_called (label_at b [] (slice_index_or xs place no_node).origin ∷ []) module_file name
@@ -72,7 +71,8 @@ is_key_above b xs (Some place) module_file name = has_key_called (label_at b [] 
 abbrev pub is_key_at : NumberedBasis → List Node → Node → Bool
 is_key_at b xs x = is_leaf (said_at b x.origin).kind && is_key_above b xs x.parent (module_file_of b x.origin) (said_at b x.origin).name
 
--- these are rows of the first of these items: so much is said of each, and so it is a key or not
+-- these rows are those of the first items: each has what is said of its item, and whether it is a
+-- key
 pub record AreOfItems (b : NumberedBasis) (xs : List Node) (rows : List Row) : Type 0 where
   pub said : (k : ℕ) → k < length rows → (slice_index_or rows k blank_row).label.defined ≡ said_at b (slice_index_or xs k no_node).origin
   pub keys : (k : ℕ) → k < length rows → (slice_index_or rows k blank_row).label.is_key ≡ is_key_at b xs (slice_index_or xs k no_node)

@@ -85,7 +85,7 @@ impl<'c, 'a, 'b> Context<'c, 'a, 'b> {
         self.tree.module_file(item)
     }
 
-    /// Whether the nodes of two items are copies of one statement's that the same refines change.
+    /// Whether the nodes of two items are copies of one statement that the same refines change.
     pub(crate) fn are_copies(&self, one: usize, other: usize) -> bool
         ensures { (b : NumberedBasis) → Tells b self.now → result ≡ true
             → said_at b one ≡ said_at b other }

@@ -3,11 +3,12 @@ use std::alloc::{AllocError, Global};
 use std::collections::BTreeMap;
 use yv_expand::Origin;
 
-/// A node by its first copy, and the number of the file of its module.
+/// The number of the first node of which the same is said, and that of the file of the node's
+/// module.
 pub(crate) type Original = (u32, u32);
 
-/// Where the first node of each kind of copies may stand. Nothing is promised of it: who asks looks
-/// whether the node is one of the kind.
+/// The place of the first node of each kind of copies. No clause says that a copy is there: the
+/// caller compares the nodes.
 #[derive(Drop)]
 pub(crate) struct FirstCopies {
     // By the number of a statement: of its nodes that no refine changes.
@@ -19,7 +20,7 @@ pub(crate) struct FirstCopies {
 }
 
 impl FirstCopies {
-    /// None are known yet of so many statements.
+    /// No copies yet. There are this many statements.
     pub(crate) fn new(alloc: Global, statements: usize) -> Result<FirstCopies, AllocError> {
         Ok(FirstCopies {
             plain: vec![in alloc; 0u32; statements]?,
@@ -40,7 +41,7 @@ impl FirstCopies {
         Some(*place? as usize)
     }
 
-    /// Keeps it.
+    /// Keeps the place of the first node of this origin and sequence.
     pub(crate) fn keep(
         &mut self,
         origin: Origin,
@@ -64,7 +65,7 @@ impl FirstCopies {
         Some(*place as usize)
     }
 
-    /// Keeps it.
+    /// Keeps the place of the first of these leafs below one of these lists.
     pub(crate) fn keep_leaf(
         &mut self,
         leaf: Original,

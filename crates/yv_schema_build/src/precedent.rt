@@ -1,4 +1,4 @@
-//! What earlier nodes show of one that is a copy like them.
+//! What an earlier copy shows of a node.
 ghost use Rattle.std.specs.Prelude.{◌≡◌, ◌<◌, ◌≤◌, ℕ, List, true, length, IfOk, IfSome, slice_index_or};
 ghost use Rattle.yv_schema_build.specs.{InnerBasis.{NumberedBasis}, InnerContext.{Tells}, InnerRows.{AreOfItems, is_key_above, is_key_at, no_node, said_at}};
 
@@ -9,7 +9,7 @@ use yv_expand::RemainingNode as LeftNode;
 use yv_node_definition::NodeKind;
 use yv_nodes::{NodeId, Nodes};
 
-// Names up to this length are read again rather than looked up by their nodes.
+// For names up to this length, reading the list's key again is faster than a look-up.
 const SHORT: usize = 256;
 
 /// The first node of which the same is said, and whether the node is a key of the list just above,
@@ -21,8 +21,8 @@ pub(crate) struct Precedent {
 }
 
 impl Builder<'_, '_, '_> {
-    /// What earlier nodes show of that of the item at a place. The copies are those of the items
-    /// before it.
+    /// What an earlier copy shows of the node of the item at this place. `copies` is made from the
+    /// items before this one.
     pub(crate) fn precedent(
         &self,
         items: &[LeftNode],
@@ -81,8 +81,9 @@ impl Builder<'_, '_, '_> {
         }
     }
 
-    // Whether the node of an item is a key of the list just above, where a leaf shows that which is
-    // a copy like it below such a list. The name of an earlier copy is its own.
+    // Whether the node of an item is a key of the list just above, if an earlier leaf shows it: a
+    // copy of this node below a copy of that list. `earlier` has the same name, so its length is
+    // read.
     fn known_key(
         &self,
         items: &[LeftNode],
@@ -118,7 +119,8 @@ impl Builder<'_, '_, '_> {
         }
     }
 
-    // Whether the node of an item is a key, where that at the place that was found shows it.
+    // Whether the node of an item is a key, if the node at the place that was found is alike and so
+    // shows it.
     fn key_by(&self, items: &[LeftNode], place: usize, nodes: &Nodes, found: usize) -> Option<bool>
         requires within { place < length items.now }
         requires few { length items.now ≤ 4294967296 }
@@ -180,7 +182,7 @@ fn long_leaf_below(nodes: &Nodes, leaf: NodeId, above: Option<usize>) -> Option<
     }
 }
 
-// A node by the first of which the same is said, and by its module.
+// The first node of which the same is said, and the file of this node's module.
 fn original(nodes: &Nodes, number: NodeId) -> Original
     requires { number.0 < length nodes.now.rows }
 {

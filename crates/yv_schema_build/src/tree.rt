@@ -57,7 +57,7 @@ impl Builder<'_, '_, '_> {
         Ok(NumberedNodes { nodes, top })
     }
 
-    // Adds the nodes of items, below which stand those in these places, to none.
+    // Adds the nodes of items to an empty list. `below` says which items are below each.
     fn add_nodes(
         &self,
         items: &[LeftNode],
@@ -92,8 +92,8 @@ impl Builder<'_, '_, '_> {
         Ok(())
     }
 
-    // The node of an item below these, with this parent and these children. It may be known whether
-    // it is a key.
+    // The node of an item below these, with this parent and these children. `is_key` says whether
+    // it is a key, if that is known.
     fn node(
         &self,
         item: &LeftNode,
@@ -146,8 +146,8 @@ fn above_at<'k>(top: &'k Above, aboves: &'k [Above], parent: Option<usize>) -> &
     }
 }
 
-// The place in the tree of the node that a statement defines, below these nodes. It may be known
-// whether it is a key.
+// The place in the tree of the node that a statement defines, below these nodes. `is_key` says
+// whether it is a key, if that is known.
 fn node_place(
     above: &Above,
     definition: &Definition,
@@ -167,7 +167,7 @@ fn node_place(
     }
 }
 
-// Adds a node. The same may be said of it as of an earlier one.
+// Adds a node, with the number of an earlier one of which the same is said, if there is one.
 fn add_node(nodes: &mut Nodes, node: Node, earlier: Option<usize>) -> Result<(), AllocError>
     requires room { length nodes.old.rows < nodes.old.limit }
     requires parent { rank node.parent ≤ length nodes.old.rows }

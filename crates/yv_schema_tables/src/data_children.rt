@@ -12,7 +12,7 @@ use yv_nodes::{Node, NodeId, Nodes};
 pub(crate) struct DataChildren {
     /// Those that are data nodes: the members of an object name them.
     pub(crate) inside: Vec<NodeId>,
-    /// Those that are no case: their names have to differ.
+    /// Those that are not cases: their names have to differ.
     pub(crate) told: Vec<NodeId>,
 }
 
@@ -68,8 +68,8 @@ impl DataChildren {
     }
 }
 
-/// Whether all nodes of these numbers are data nodes: then these are those inside, and their names
-/// have to differ.
+/// Whether all of these are data nodes. Then there is no choice or case to open: they are the nodes
+/// of the object, and their names have to differ.
 pub(crate) fn are_data(nodes: &Nodes, numbers: &[NodeId]) -> bool
     requires { HaveTrees nodes.now.rows numbers.now }
     ensures inside { result ≡ true → inside_of nodes.now.rows numbers.now ≡ numbers.now }

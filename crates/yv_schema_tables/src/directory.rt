@@ -20,14 +20,14 @@ pub(crate) struct HeldNode {
 
 /// Nodes by what a JSON member calls them (RFC 7951, section 4): by the file of the module whose
 /// name comes first, where one does, and by the numbers of their names. Most nodes have few
-/// children: these are searched one by one, in one piece of memory.
+/// children, so a few are a list: it takes one piece of memory, a table several.
 #[derive(Drop)]
 pub(crate) enum Directory {
     Few(Vec<HeldNode>),
     Many(Box<Table>),
 }
 
-/// Up to so many nodes are searched one by one.
+/// How many nodes are a list at most.
 const FEW: usize = 8;
 
 // The first of these nodes that has this member.
@@ -42,7 +42,7 @@ fn first_held(nodes: &[HeldNode], member: Member) -> Option<NodeId>
     None
 }
 
-// Adds a node to a table, where none is found by its member, and gives whether one is.
+// Adds a node to a table if there is none of its member, and returns whether there was one.
 fn keep_in_table(table: &mut Table, member: Member, child: NodeId) -> Result<bool, AllocError>
     ensures repeats { IfOk result
         (λ repeated. repeated ≡ is_some (get same_member table.old member)) }
@@ -93,7 +93,7 @@ impl Directory {
         Ok(Directory::Many(Box::new(alloc, table)?))
     }
 
-    /// Adds a node, where none is found by its member, and gives whether one is.
+    /// Adds a node if there is none of its member, and returns whether there was one.
     pub(crate) fn keep_first(&mut self, member: Member, child: NodeId) -> Result<bool, AllocError>
         ensures repeats { IfOk result
             (λ repeated. repeated ≡ is_some (held_at self.old member)) }

@@ -23,7 +23,7 @@ paged_output contents writer page =
     output_of (contents (stream_inner writer)) (has_failed writer) (stream_failures writer) page
 
 -- Of this text the first bytes were appended to what the writer held at the start, and the page
--- holds those behind. A writer that has failed gets no more.
+-- holds those after them. A writer that has failed gets no more.
 pub record IsPaged (start : Option (List ℕ)) (text : List ℕ) (h : Output) : Type 0 where
   pub written : List ℕ
   pub others : List ℕ
@@ -32,7 +32,7 @@ pub record IsPaged (start : Option (List ℕ)) (text : List ℕ) (h : Output) : 
   pub once : h.failures ≤ 1
   pub in_page : h.has_failed ≡ false → h.page ≡ others
 
--- these bytes were put behind whatever text there was
+-- these bytes were put after whatever text there was
 abbrev pub Adds : (bytes : List ℕ) → (old new : Output) → Type 0
 Adds bytes old new = (start : Option (List ℕ)) (text : List ℕ) → IsPaged start text old → IsPaged start (text ++ bytes) new
 

@@ -53,7 +53,7 @@ impl Page {
         self.used >= ROOM
     }
 
-    // Puts a byte behind the others, where there is room.
+    // Puts a byte after the others, where there is room.
     fn push_byte(&mut self, byte: u8)
         ensures { length self.old < 8192 → self.new ≡ self.old ++ byte ∷ [] }
     {
@@ -63,7 +63,7 @@ impl Page {
         }
     }
 
-    // Puts the first of some bytes behind the others, as many as there is room for, and answers how
+    // Puts the first of some bytes after the others, as many as there is room for, and answers how
     // many those are.
     fn push(&mut self, bytes: &[u8]) -> usize
         ensures bound { result ≤ length bytes.now }
@@ -99,7 +99,7 @@ impl Page {
         }
     }
 
-    /// Puts a byte behind the others, as `put` does.
+    /// Puts a byte after the others, as `put` does.
     pub fn put_byte<W: Write>(&mut self, writer: &mut Counted<W>, byte: u8)
         ensures { Adds (byte ∷ []) (paged_output W.contents writer.old self.old)
             (paged_output W.contents writer.new self.new) }
@@ -119,7 +119,7 @@ impl Page {
         }
     }
 
-    // Puts the first of some bytes behind the others, and answers how many: all of them if the
+    // Puts the first of some bytes after the others, and answers how many: all of them if the
     // writer has failed, since then they are lost.
     fn put_first<W: Write>(&mut self, writer: &mut Counted<W>, bytes: &[u8]) -> usize
         requires { 0 < length bytes.now }

@@ -57,7 +57,7 @@ fn none_twice_longest(text: &[u8]) -> bool
     none_twice_in(&mut table, text)
 }
 
-// The same, by a table: words that fill it are sorted, those behind them are sought among them, and
+// The same, by a table: words that fill it are sorted, those after them are sought among them, and
 // so on.
 fn none_twice_in<'a>(table: &mut [&'a [u8]], text: &'a [u8]) -> bool
     requires { 0 < length table.old }
@@ -80,7 +80,7 @@ fn none_twice_in<'a>(table: &mut [&'a [u8]], text: &'a [u8]) -> bool
     }
 }
 
-// Puts the next words into a table, and tells how many.
+// Puts the next words into a table, and returns how many.
 fn fill<'a>(table: &mut [&'a [u8]], words: &mut Words<'a>) -> usize
     ensures bound { result ≤ length table.new }
     ensures takes { words_left words.old ≡ map text_of (take result table.new)

@@ -187,7 +187,7 @@ fn put_others<P: Paper>(keys: &[Option<PathStep>], paper: &mut P, page: &mut P::
     }
 }
 
-// A further key behind its blank.
+// A further key after its blank.
 fn put_other<P: Paper>(key: &Option<PathStep>, paper: &mut P, page: &mut P::Page)
     ensures { Adds (codes " " ++ key_name key.now)
         (P.output page.old paper.old) (P.output page.new paper.new) }
@@ -230,7 +230,7 @@ fn put_type<P: Paper>(node: &Node, paper: &mut P, page: &mut P::Page)
     }
 }
 
-// Pieces of the path of a leafref of the module of this number, each behind a slash.
+// Pieces of the path of a leafref of the module of this number, each after a slash.
 fn put_pieces<P: Paper>(module_file: u32, pieces: &[PathPiece], paper: &mut P, page: &mut P::Page)
     ensures { Adds (behind_each (codes "/") (map (shown_piece module_file) pieces.now))
         (P.output page.old paper.old) (P.output page.new paper.new) }
@@ -240,7 +240,7 @@ fn put_pieces<P: Paper>(module_file: u32, pieces: &[PathPiece], paper: &mut P, p
     }
 }
 
-// A further piece behind its slash.
+// A further piece after its slash.
 fn put_other_piece<P: Paper>(module_file: u32, piece: &PathPiece, paper: &mut P, page: &mut P::Page)
     ensures { Adds (codes "/" ++ shown_piece module_file piece.now)
         (P.output page.old paper.old) (P.output page.new paper.new) }

@@ -5,7 +5,7 @@ ghost use Rattle.yv_streams.specs.Pages.{Adds, Output};
 use std::io::Write;
 use yv_streams::{Counted, Page};
 
-/// What takes a text piece by piece: a stream behind its page, or a text in memory. Once it has
+/// What takes a text piece by piece: a stream, by way of its page, or a text in memory. Once it has
 /// failed it takes no more.
 pub(crate) trait Paper {
     /// What holds the last pieces.
@@ -13,7 +13,7 @@ pub(crate) trait Paper {
 
     ghost output: { Self.Page → Self → Output };
 
-    /// Puts a piece behind the others.
+    /// Puts a piece after the others.
     fn put(&mut self, page: &mut Self::Page, piece: &str)
         ensures { Adds piece.now (output page.old self.old) (output page.new self.new) };
 

@@ -110,7 +110,7 @@ work_in w ms = work w.kind w.schema.now (object ms)
 abbrev pub most_work : Rows → Data → ℕ
 most_work s d = (size d + 1) * ((measures_of (whole s)).m + (measures_of (whole s)).u + (measures_of (whole s)).w + 1)
 
--- these faults are reported, behind the others
+-- these faults are reported, after the others
 abbrev pub Reports : Flaws → Flaws → List Flaw → Type 0
 Reports old new more = new.items ≡ old.items ++ more
 
@@ -135,7 +135,7 @@ abbrev pub GrowsAt : Walk → Visit → Progress → Progress → (Spot → ℕ 
 GrowsAt w v old new met_at = (outer : List ℕ) (entry : ℕ)
     → GrowsBy w old new (met_at (spot_at w.schema.now v.path.now v.position outer entry) (next_at old))
 
--- by that, and by faults of the node's own behind it
+-- by that, and by faults of the node's own after it
 abbrev pub GrowsWithAt : Walk → Visit → Progress → Progress → (Spot → ℕ → List Meeting) → List Flaw → Type 0
 GrowsWithAt w v old new met_at own = (outer : List ℕ) (entry : ℕ)
     → GrowsWith w.kind w.schema.now (progress_view old) (progress_view new) (met_at (spot_at w.schema.now v.path.now v.position outer entry) (next_at old)) own
@@ -197,7 +197,7 @@ met_in_list w v value = list_at w.kind w.schema.now v.id (data_of value)
 abbrev pub met_in_entries : Walk → Visit → Items → Spot → ℕ → List Meeting
 met_in_entries w v ds = entries_at w.kind w.schema.now v.id [] ds
 
--- at an item behind these
+-- at an item after these
 abbrev pub met_at_item : Walk → Visit → List Data → Data → Spot → ℕ → List Meeting
 met_at_item w v before d spot next = at_value (written_at w.schema.now v.id (Some before) d spot) ∷ []
 

@@ -89,14 +89,14 @@ object_at k s n item here outer entry next d =
 abbrev pub container_at : Kind → Rows → RuleScope → NodeId → Option Data → Spot → ℕ → List Meeting
 container_at k s scope n found spot next = container_met n (row_at s n).label (below s n) spot scope next found (inside_at k s n)
 
--- at entries of a list, behind these
+-- at entries of a list, after these
 abbrev pub entries_at : Kind → Rows → NodeId → List Data → Items → Spot → ℕ → List Meeting
 entries_at k s n before ds spot next = entries_met n (row_at s n).label (below s n) spot next before ds (inside_at k s n)
 
 abbrev pub list_at : Kind → Rows → NodeId → Option Data → Spot → ℕ → List Meeting
 list_at k s n found spot next = array_met found (λ ds. entries_at k s n [] ds spot next)
 
--- at items of a leaf-list, behind these
+-- at items of a leaf-list, after these
 abbrev pub items_at : Rows → NodeId → List Data → Items → Spot → ℕ → List Meeting
 items_at s n before ds spot next = items_met n (row_at s n).label spot before ds
 
@@ -117,7 +117,7 @@ data_met k s scope n found spot next =
 abbrev pub node_at : Rows → RuleScope → NodeId → Members → Spot → Node
 node_at s scope n ms spot = record { node = n; label = (row_at s n).label; spot = spot; scope = scope; members = ms; kids = below s n }
 
--- with the node behind
+-- what is met, and after it the node
 abbrev pub with_node : (Spot → ℕ → List Meeting) → (Spot → Node) → Spot → ℕ → List Meeting
 with_node met_at node_of spot next = met_at spot next ++ at_node (node_of spot) ∷ []
 
@@ -142,7 +142,7 @@ pub record Grows (k : Kind) (s : Rows) (old new : ProgressView) (ms : List Meeti
   pub found : Finds old.found new.found (met_in s ms)
   pub steps : count_up new.steps ≡ count_up (old.steps + sum_by (work_at k s) ms)
 
--- by these meetings, and faults of the node's own behind them
+-- by these meetings, and faults of the node's own after them
 pub record GrowsWith (k : Kind) (s : Rows) (old new : ProgressView) (ms : List Meeting) (own : List Flaw) : Type 0 where
   pub faults : new.faults ≡ old.faults ++ (flat_map (faults_at k s) ms ++ own)
   pub found : Finds old.found new.found (met_in s ms)
@@ -189,6 +189,6 @@ defaults_found s n position vs = only_used (used_if (is_target s.links n.0) n.0 
 abbrev pub empty_found : Rows → RuleScope → NodeId → ℕ → FindingsView
 empty_found s scope n position = defaults_found s n position (if uses_defaults scope then defaults_of (row_at s n).label else [])
 
--- a value that is written for a leaf, or for an item behind these
+-- a value that is written for a leaf, or for an item after these
 abbrev pub written_at : Rows → NodeId → Option (List Data) → Data → Spot → WrittenValue
 written_at s n before d spot = record { node = n; label = (row_at s n).label; spot = spot; before = before; found = d }

@@ -340,7 +340,7 @@ impl<'a> Walk<'a> {
         Ok(())
     }
 
-    // An item of a leaf-list, behind these.
+    // An item of a leaf-list, after these.
     fn item(
         &self,
         at: Visit<'_>,

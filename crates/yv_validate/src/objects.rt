@@ -66,8 +66,8 @@ pub fn validate(
     }
 }
 
-// The law of the bound for this schema and document: each reading of a schema tells what the law
-// asks of it.
+// The law of the bound for this schema and document: what the law requires of the schema is known
+// from reading it.
 fn is_bounded(schema: &Schema, document: &Value, kind: Kind)
     ensures { work kind schema.now (view document.now) ≤ most_work schema.now (view document.now) }
 {
@@ -78,7 +78,7 @@ fn is_bounded(schema: &Schema, document: &Value, kind: Kind)
 }
 
 impl<'a> Walk<'a> {
-    // The faults of a document that is an object: what is wrong with its data, and behind it its
+    // The faults of a document that is an object: what is wrong with its data, and after that its
     // references that reach nothing.
     fn document(&self, members: &Map<String, Value>) -> Result<Report, AllocError>
         ensures faults { IfOk result
@@ -110,7 +110,7 @@ impl<'a> Walk<'a> {
         })
     }
 
-    // The fault of a document that is no object.
+    // The fault of a document that is not an object.
     fn no_object(&self) -> Result<Report, AllocError>
         ensures faults { IfOk result (λ r. r.faults.items ≡ flaw FaultKind.Shape [] ∷ []) }
         ensures steps { IfOk result (λ r. r.steps ≡ 0) }
@@ -123,7 +123,7 @@ impl<'a> Walk<'a> {
         })
     }
 
-    // Looks up the members of an object, and tells those that name no node.
+    // Looks up the members of an object, and reports those that name no node.
     fn enter<'v>(
         &self,
         at: Visit<'_>,
@@ -595,8 +595,8 @@ impl<'a> Walk<'a> {
     }
 }
 
-// The scope of a choice's child, of which these nodes exist, where the default case counts if there
-// is one.
+// The scope of a choice's child: that of the default case, if this is the one in use, else that of
+// a case of which these nodes exist.
 fn case_scope(fallback: Option<NodeId>, child: NodeId, those: Existence) -> RuleScope
     ensures { result
         ≡ (if is_number fallback child.0 then RuleScope.InDefault else RuleScope.InCase those) }

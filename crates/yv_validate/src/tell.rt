@@ -20,7 +20,7 @@ pub(crate) fn tell_references(paths: Vec<ValuePath>, faults: &mut Faults) -> Res
     Ok(())
 }
 
-// A fault that is about no statement, and repeats nothing.
+// A fault that is not about a `unique` statement, and does not repeat an earlier entry.
 fn plain(kind: FaultKind, path: Path) -> Fault
     ensures { result ≡ flaw kind path }
 {
@@ -48,8 +48,8 @@ impl Walk<'_> {
         faults.push(plain(kind, path))
     }
 
-    /// Reports that an entry or an item repeats an earlier one, of this place, where there is one;
-    /// by a `unique` statement with its number.
+    /// Reports that an entry or an item repeats an earlier one, if there is one, which has this
+    /// place. A `unique` statement is given by its number.
     pub(crate) fn tell_repeat(
         &self,
         first: Option<u64>,

@@ -42,7 +42,7 @@ pub fn read_text_with<'t>(
         PlainType::Whole(whole) => Ok(whole_among(whole, based_integer_of(text.as_bytes()))),
         PlainType::Boolean => Ok(truth_of(text)),
         PlainType::Identity(members) => identity_in_scope(alloc, members, scope, text.as_bytes()),
-        // The others read it as they read a text of JSON, whose module none of them asks for.
+        // The other types read it like a string of JSON. None of them uses the module's name.
         _ => string_in(alloc, matchers, plain, "", text),
     }
 }

@@ -82,8 +82,8 @@ impl Ord for Key {
 
     ghost matches_eq = { λ x y. lists_ties cmp-value.it matches_eq-law (atoms_of x) (atoms_of y) };
 
-    // Numbers and texts, of which most keys are, are compared at once: a search of an index
-    // compares many.
+    // Most keys are one number or one text. These are compared first, since a search of an index
+    // compares many keys.
     fn cmp(&self, other: &Key) -> Ordering {
         match (self, other) {
             (
