@@ -115,6 +115,12 @@ def keys_copied(keys, copied):
     return grouping(f'list e{{key "{key}";{leafs(keys)}}}') + copies(copied)
 
 
+def long_keys_copied(keys, size, copied):
+    """A list, copied, whose key has long names that differ only at their ends."""
+    names = [f"{'a' * size}{n}" for n in range(keys)]
+    return grouping(f'list e{{key "{" ".join(names)}";{"".join(f"leaf {name}{{type int32;}}" for name in names)}}}') + copies(copied)
+
+
 def leafref_up(depth, count):
     path = "../" * (depth + 1) + "t"
     leafrefs = numbered(count, 'leaf r{n}{{type leafref{{path "' + path + '";}}}}')
@@ -143,6 +149,7 @@ def schema_inputs():
     yield compiled("refines-long-conditions-at-many-levels", lambda: refined_conditions(480, 1_400))
     list_of_long_key = f"list e{{key {MEGABYTE};leaf {MEGABYTE}{{type int32;}}}}"
     yield compiled("lists-of-a-long-key-copied", lambda: grouping(list_of_long_key) + copies(20_000))
+    yield compiled("lists-of-five-long-keys-copied", lambda: long_keys_copied(5, 200_000, 20_000))
     long_case = f"choice h{{default {MEGABYTE};leaf {MEGABYTE}{{type int32;}}}}"
     yield compiled("choices-with-a-long-default-copied", lambda: grouping(long_case) + copies(20_000))
     yield compiled("unique-of-many-paths-copied", lambda: unique_of_paths(10_000, 90))
@@ -176,6 +183,11 @@ def tree_inputs():
 def identityref_chain(count):
     unit = "identity i{n}{{base i{before};}}leaf l{n}{{type identityref{{base i{n};}}}}"
     return "identity i0;" + numbered(count, unit, 1)
+
+
+def identityref_chain_beside(count):
+    """The same, and an identity below the last that has another base first: then values are not consecutive."""
+    return "identity o;" + identityref_chain(count) + f"identity x{{base o;base i{count - 1};}}"
 
 
 def long_module_values(count, size):
@@ -224,6 +236,7 @@ def class_patterns(count):
 def types_inputs():
     yield compiled("identityrefs-down-a-chain", lambda: identityref_chain(15_000))
     yield compiled("identityrefs-down-a-chain-small", lambda: identityref_chain(8_000))
+    yield compiled("identityrefs-down-a-chain-beside-another", lambda: identityref_chain_beside(4_000))
     words = ["validate", "--data", "data.json", "ex.yang"]
     yield Hostile("identityref-values-in-a-long-module", lambda: long_module_values(20_000, 1_000_000), words)
     yield Hostile("identityref-values-in-a-long-module-small", lambda: long_module_values(4_000, 1_000_000), words)

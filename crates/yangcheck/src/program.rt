@@ -9,6 +9,7 @@ use std::alloc::{AllocError, Global};
 use std::fmt::Display;
 use std::fs::File;
 use std::io::{ErrorKind, Read};
+use std::mem::ManuallyDrop;
 use std::rt::{Env, Files};
 use std::{env, io};
 use yv_job::{Command, Job, JobFault, read_job};
@@ -28,7 +29,10 @@ pub fn program<R: Env + Files + io::Input + Print + Eprint + AllocGlobal>(rt: &R
     match read_job(rt.alloc(), words.as_slice()) {
         Ok(job) => {
             let ended = do_job(rt, &job);
-            print_reason(rt, &ended)
+            let exit = print_reason(rt, &ended);
+            // The process ends now, so what the run holds need not be dropped piece by piece.
+            let _ended = ManuallyDrop::new(ended);
+            exit
         }
         Err(JobFault::Help(text)) => print_help(rt, text.as_str()),
         Err(JobFault::Usage(text)) => print_refusal(rt, text.as_str()),
@@ -111,19 +115,14 @@ fn do_job<R: Files + io::Input + Print + AllocGlobal>(rt: &R, job: &Job) -> RunE
 
 // A run that found no memory.
 fn without_memory() -> RunEnd {
-    RunEnd {
-        status: Status::NoMemory,
-        note: Ok(None),
-    }
+    RunEnd::stop_with_note(Status::NoMemory, Ok(None))
 }
 
 // A run that is stopped by a file that can't be opened or read, with the file's name and the
 // system's reason.
 fn read_failure<R: AllocGlobal, D: Display + Drop>(rt: &R, name: &str, reason: D) -> RunEnd {
-    RunEnd {
-        status: Status::ReadFault,
-        note: unread_note(rt.alloc(), name, reason).map(Some),
-    }
+    let note = unread_note(rt.alloc(), name, reason).map(Some);
+    RunEnd::stop_with_note(Status::ReadFault, note)
 }
 
 // The name of a file as a terminal may show it, and why it can't be read.

@@ -3,3 +3,4 @@ pub mod Chaining
 pub mod Listing
 pub mod Rows
 pub mod Growing
+pub mod Tabling

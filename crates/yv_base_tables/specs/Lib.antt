@@ -4,3 +4,4 @@ pub mod InnerChains
 pub mod Fronts
 pub mod InnerTree
 pub mod Sparse
+pub mod Table

@@ -7,7 +7,9 @@ pub mod laws;
 mod path_tree;
 pub mod path_tree_laws;
 mod sparse;
+mod table;
 
 pub use families::Families;
 pub use path_tree::PathTree;
 pub use sparse::Sparse;
+pub use table::Table;

@@ -1,8 +1,8 @@
 -- The refusals of the augments of each uses.
-use Rattle.std.proofs.Common.{◌≡◌, ℕ, ◌+◌, ◌<◌, ◌≤◌, inl, inr, List, length, drop, set, get_or, sym, ◌∙◌, ap, subst, arith, Option, Some, None}
+use Rattle.std.proofs.Common.{◌≡◌, ℕ, ◌+◌, ◌<◌, ◌≤◌, ◌==◌, Bool, true, if◌then◌else◌, inl, inr, List, length, drop, get_or, refl, sym, ◌∙◌, ap, subst, arith, eq-eqb, Option, Some, None}
+use Rattle.std.specs.Option.{option_or}
 use Rattle.std.specs.List.{slice_get}
-use Rattle.std.proofs.lemmas.Bool.{cases_eq}
-use Rattle.std.proofs.lemmas.List.{get_or-set_other, get_or-set_same}
+use Rattle.std.proofs.lemmas.Bool.{cases_eq, ne_eqb}
 use Rattle.std.proofs.lemmas.Option.{same_Some, slice_get_within}
 use Rattle.yv_statement.specs.Order.{IsLeast}
 use Rattle.yv_statement.specs.declared.refusal.Refusal.{Refusal}
@@ -12,6 +12,13 @@ use Rattle.yv_expand_augments.specs.Augmentation.{placed_from}
 use Rattle.yv_expand_uses.specs.Spots.{LayoutView, Whole, labels_of}
 use Rattle.yv_expand_augments.specs.MissingTargets.{MissesAt, MissesOf}
 use Rattle.yv_expand_uses.specs.declared.spot.Spot.{Spot}
+
+here_told : (k i : ℕ) (o was : Option Refusal) → was ≡ None → (k == i) ≡ true → (if k == i then option_or o was else was) ≡ o
+here_told k i o was none same =
+    ap (λ (b : Bool). if b then option_or o was else was) same ∙ ap (option_or o) none ∙ or_none o where
+      or_none : (x : Option Refusal) → option_or x None ≡ x
+      or_none None = refl
+      or_none (Some r) = refl
 
 module _ (w : Whole) (l : LayoutView) where
   -- past the last item nothing is refused
@@ -32,17 +39,24 @@ module _ (w : Whole) (l : LayoutView) where
       here
 
   -- one item more is told
-  pub missing_more : (ends : List ℕ) (i left : ℕ) (o : Option Refusal) (old new : List (Option Refusal)) → left ≡ i + 1 → i < length old → new ≡ set old i o
-      → IsLeast (MissesAt w l (get_or ends i 0) i) o → ((k : ℕ) → left ≤ k → IsLeast (MissesAt w l (get_or ends k 0) k) (get_or old k None))
-      → (k : ℕ) → i ≤ k → IsLeast (MissesAt w l (get_or ends k 0) k) (get_or new k None)
-  missing_more ends i left o old new next inside is here before k le = elim (cases_eq k i) [
+  pub missing_more : (ends : List ℕ) (i left : ℕ) (o : Option Refusal) (old new : ℕ → Option Refusal) → left ≡ i + 1 → old i ≡ None
+      → ((k : ℕ) → new k ≡ (if k == i then option_or o (old k) else old k))
+      → IsLeast (MissesAt w l (get_or ends i 0) i) o → ((k : ℕ) → left ≤ k → IsLeast (MissesAt w l (get_or ends k 0) k) (old k))
+      → (k : ℕ) → i ≤ k → IsLeast (MissesAt w l (get_or ends k 0) k) (new k)
+  missing_more ends i left o old new next fresh is here before k le = elim (cases_eq k i) [
     | inl e ↦
-        let same : get_or new k None ≡ o = ap (λ (xs : List (Option Refusal)). get_or xs k None) is ∙ ap (λ (n : ℕ). get_or (set old i o) n None) e ∙ get_or-set_same old i o None inside in
+        let same : new k ≡ o = is k ∙ here_told k i o (old k) (ap old e ∙ fresh) (eq-eqb k i e) in
         subst (IsLeast (MissesAt w l (get_or ends k 0) k)) (sym same) (subst (λ (n : ℕ). IsLeast (MissesAt w l (get_or ends n 0) n) o) (sym e) here)
     | inr ne ↦
-        let same : get_or new k None ≡ get_or old k None = ap (λ (xs : List (Option Refusal)). get_or xs k None) is ∙ get_or-set_other old i k o None ne in
+        let same : new k ≡ old k = is k ∙ ap (λ (b : Bool). if b then option_or o (old k) else old k) (ne_eqb k i ne) in
         subst (IsLeast (MissesAt w l (get_or ends k 0) k)) (sym same) (before k (omega (arith, le, ne, next)))
   ]
+
+  -- nothing is told of those before
+  pub missing_before : (i left : ℕ) (o : Option Refusal) (old new : ℕ → Option Refusal) → left ≡ i + 1
+      → ((k : ℕ) → new k ≡ (if k == i then option_or o (old k) else old k)) → ((k : ℕ) → k < left → old k ≡ None) → (k : ℕ) → k < i → new k ≡ None
+  missing_before i left o old new next is before k lt =
+      is k ∙ ap (λ (b : Bool). if b then option_or o (old k) else old k) (ne_eqb k i (λ e. omega (arith, e, lt))) ∙ before k (omega (arith, lt, next))
 
   -- the ends that are told are those of the items
   pub missing_same : (first second i : ℕ) (o : Option Refusal) → (i < length l.spots → first ≡ second) → IsLeast (MissesAt w l first i) o → IsLeast (MissesAt w l second i) o

@@ -1,5 +1,7 @@
 -- What is known of items when augments were applied; how, only the readers ask.
-use Rattle.std.specs.Prelude.{◌≡◌, ℕ, List, length, None, slice_index_or}
+use Rattle.std.specs.Prelude.{◌≡◌, ℕ, List, length}
+use Rattle.std.specs.BTreeMap.{get}
+use Rattle.std.specs.Ordering.{nat_cmp}
 use Rattle.yv_statement.specs.Order.{IsLeast}
 use Rattle.yv_expand.specs.Tree.{Item}
 use Rattle.yv_expand_rounds.specs.Turns.{State}
@@ -21,7 +23,7 @@ pub record AreAugmentedItems (w : Whole) (items : List Item) (st : State) (graft
   pub each : length (layout_of w items).spots ≡ length items
   pub once : StandOnce (length items) st.groups
   pub spots : grafts.spots.items ≡ (layout_of w items).spots
-  pub missing : (i : ℕ) → IsLeast (MissesAt w (layout_of w items) (end_at items i) i) (slice_index_or grafts.missing.items i None)
+  pub missing : (i : ℕ) → IsLeast (MissesAt w (layout_of w items) (end_at items i) i) (get nat_cmp grafts.missing i)
   pub refined : all_meant grafts.refined ≡ refined_all w items
   pub grafting : IsAugmentation (labels_of (layout_of w items).spots) st grafts.grafting
 
@@ -31,4 +33,4 @@ pub record AreAugmentedTree (w : Whole) (items : List Item) (st : State) (grown 
   pub tree : AreRows (labels_of (layout_of w items).spots) st.groups grown.tree.items
   pub spots : grown.spots.items ≡ (layout_of w items).spots
   pub refined : all_meant grown.refined ≡ refined_all w items
-  pub missing : (i : ℕ) → IsLeast (MissesAt w (layout_of w items) (end_at items i) i) (slice_index_or grown.missing.items i None)
+  pub missing : (i : ℕ) → IsLeast (MissesAt w (layout_of w items) (end_at items i) i) (get nat_cmp grown.missing i)

@@ -1,5 +1,5 @@
 //! Where items are once all augments are applied.
-ghost use Rattle.std.specs.Prelude.{◌≡◌, ◌≤◌, ◌<◌, ◌==◌, ◌+◌, ◌^◌, ◌&&◌, not, ℕ, List, [], length, map, None, replicate, set, slice_index_or, IfOk, OnOk};
+ghost use Rattle.std.specs.{Prelude.{◌≡◌, ◌≤◌, ◌<◌, ◌==◌, ◌+◌, ◌^◌, ◌&&◌, not, ℕ, List, [], length, map, None, if◌then◌else◌, slice_index_or, IfOk, OnOk}, BTreeMap.{get}, Option.{option_or}, Ordering.{nat_cmp}};
 ghost use Rattle.yv_statement.specs.{Order.{IsLeast}, declared.refusal.Code.TheVariants.{AugmentTarget}};
 ghost use Rattle.yv_link_scopes.specs.{Files.{Briefs}, Rows.{Row}, Views.{files_in, rows_in}};
 ghost use Rattle.yv_expand.specs.Tree.{Item};
@@ -12,6 +12,7 @@ use crate::final_tree::AugmentedTree;
 use crate::refusals::{is_absent, refused_at};
 use crate::schedule::{AddressedAugment, Schedules, Stretch, prepare};
 use std::alloc::{AllocError, Global};
+use std::collections::BTreeMap;
 use yv_expand::Item;
 use yv_expand_refines::Refinements;
 use yv_expand_rounds::{Augmentation, Label};
@@ -33,30 +34,27 @@ fn end_of(ends: &[usize], number: usize) -> usize
     ends.get(number).copied().unwrap_or(0)
 }
 
-// So many items without a refusal.
-fn none_missing(alloc: Global, count: usize) -> Result<Vec<Option<Refusal>>, AllocError>
-    ensures { IfOk result (λ missing. missing.items ≡ replicate count None) }
+// Keeps the least refusal of an item, if there is one.
+fn note(
+    missing: &mut BTreeMap<usize, Refusal>,
+    number: usize,
+    refusal: Option<Refusal>,
+) -> Result<(), AllocError>
+    ensures { OnOk result ((i : ℕ) → get nat_cmp missing.new i
+        ≡ (if i == number then option_or refusal (get nat_cmp missing.old i)
+        else get nat_cmp missing.old i)) }
 {
-    let mut missing = Vec::new(alloc);
-    for _ in 0..count {
-        missing.push(None)?;
+    if let Some(refusal) = refusal {
+        missing.insert(number, refusal)?;
     }
-    Ok(missing)
-}
-
-// Keeps the least refusal of an item.
-fn note(missing: &mut Vec<Option<Refusal>>, number: usize, refusal: Option<Refusal>)
-    requires { number < length missing.old.items }
-    ensures { missing.new.items ≡ set missing.old.items number refusal }
-{
-    missing[number] = refusal;
+    Ok(())
 }
 
 // What is known of these items.
 fn labels(alloc: Global, spots: &[Spot]) -> Result<Vec<Label>, AllocError>
     ensures { IfOk result (λ labels. labels.items ≡ labels_of spots.now) }
 {
-    let mut labels = Vec::new(alloc);
+    let mut labels = Vec::with_capacity(alloc, spots.len())?;
     for spot in spots {
         labels.push(spot.label)?;
     }
@@ -67,7 +65,7 @@ fn labels(alloc: Global, spots: &[Spot]) -> Result<Vec<Label>, AllocError>
 #[derive(Drop)]
 struct Placer {
     grafting: Augmentation,
-    missing: Vec<Option<Refusal>>,
+    missing: BTreeMap<usize, Refusal>,
     refined: Refinements,
 }
 
@@ -283,7 +281,7 @@ fn place(
     ensures lacks { IfOk result (λ told. (i : ℕ)
         → IsLeast
         (MissesAt (whole_in plan.now) (laid_in layout.now) (slice_index_or ends.now i 0) i)
-        (slice_index_or told.missing.items i None)) }
+        (get nat_cmp told.missing i)) }
     ensures refines { IfOk result (λ told.
         all_meant told.refined
         ≡ refine_meanings (whole_in plan.now) (laid_in layout.now)
@@ -292,7 +290,7 @@ fn place(
     yv_expand_rounds::laws::turns_keep_augments();
     let labels = labels(alloc, &layout.spots)?;
     let mut grafting = Augmentation::new(alloc, labels, layout.copies)?;
-    let mut missing = none_missing(alloc, layout.spots.len())?;
+    let mut missing = BTreeMap::new(alloc);
     let mut aims = RefineTargets::new(alloc);
     let mut schedules = Schedules::new(alloc);
     let mut left = layout.spots.len();
@@ -302,7 +300,7 @@ fn place(
         let end = end_of(ends, left);
         plan.refine_all(alloc, &grafting, spot, left, end, &mut aims)?;
         let turned = turns(alloc, plan, grafting, spot, end, &mut schedules)?;
-        note(&mut missing, left, turned.missing);
+        note(&mut missing, left, turned.missing)?;
         grafting = turned.grafting;
         grafting.enter(left, spot.group)?;
     }
@@ -317,8 +315,8 @@ fn place(
 #[derive(Drop)]
 pub struct AugmentedItems {
     spots: Vec<Spot>,
-    // Of each item the least refusal of its augments, if it is a uses.
-    missing: Vec<Option<Refusal>>,
+    // The least refusal of the augments of an item, where there is one.
+    missing: BTreeMap<usize, Refusal>,
     refined: Refinements,
     grafting: Augmentation,
 }
@@ -366,7 +364,7 @@ fn nothing_augmented(alloc: Global) -> Result<AugmentedItems, AllocError>
     let grafting = Augmentation::new(alloc, Vec::new(alloc), 0)?;
     Ok(AugmentedItems {
         spots: Vec::new(alloc),
-        missing: Vec::new(alloc),
+        missing: BTreeMap::new(alloc),
         refined: Refinements {
             aims: Vec::new(alloc),
             uses: Vec::new(alloc),

@@ -1,11 +1,12 @@
 //! The final tree.
-ghost use Rattle.std.specs.Prelude.{◌≡◌, List, None, slice_index_or};
+ghost use Rattle.std.specs.{Prelude.{◌≡◌, List}, BTreeMap.{get}, Ordering.{nat_cmp}};
 ghost use Rattle.yv_statement.specs.Order.{IsLeast};
 ghost use Rattle.yv_expand.specs.Tree.{Item};
 ghost use Rattle.yv_expand_rounds.specs.Turns.{State};
 ghost use Rattle.yv_expand_augments.specs.{FinalItems.{AreAugmentedTree}, MissingTargets.{MissesTarget}};
 ghost use Rattle.yv_expand_uses.specs.Spots.{Whole};
 
+use std::collections::BTreeMap;
 use yv_expand_refines::Refinements;
 use yv_expand_rounds::ItemRow;
 use yv_expand_uses::Spot;
@@ -25,19 +26,23 @@ pub struct AugmentedTree {
     /// with nothing below it: what it gives follows it as its siblings. What an augment without a
     /// target gives isn't among them.
     pub tree: Vec<ItemRow>,
-    // Of each item the least refusal of its augments, if it is a uses.
-    pub(crate) missing: Vec<Option<Refusal>>,
+    // The least refusal of the augments of an item, where there is one.
+    pub(crate) missing: BTreeMap<usize, Refusal>,
 }
 
 impl AugmentedTree {
     /// The least `AugmentTarget` of an augment of a `uses` that is an item of the final tree: in
-    /// its turn the augment added to no node. Takes time linear in items.
+    /// its turn the augment added to no node. Takes time n log n in items, and none where there is
+    /// no such augment.
     pub fn first_untargeted(&self) -> Option<Refusal>
         ensures { (w : Whole) (items : List Item) (st : State)
             → AreAugmentedTree w items st self.now
             → IsLeast (MissesTarget w items self.now.tree.items) result }
     {
         let mut least = None;
+        if self.missing.is_empty() {
+            return least;
+        }
         for row in &self.tree {
             least = lesser(least, self.missing_of(row.number));
         }
@@ -46,8 +51,8 @@ impl AugmentedTree {
 
     // The least refusal of the augments of an item.
     fn missing_of(&self, number: usize) -> Option<Refusal>
-        ensures { result ≡ slice_index_or self.now.missing.items number None }
+        ensures { result ≡ get nat_cmp self.now.missing number }
     {
-        self.missing.get(number).copied().unwrap_or(None)
+        self.missing.get(&number).copied()
     }
 }

@@ -263,7 +263,7 @@ fn mark_configuration(
         (λ places. places.items
         ≡ configuration_marks spots.now (told_in marks.now) (λ d. nothing_around) tree.now) }
 {
-    let mut places = Vec::new(alloc);
+    let mut places = Vec::with_capacity(alloc, tree.len())?;
     let mut states = Vec::new(alloc);
     let mut operations = Vec::new(alloc);
     for row in tree {

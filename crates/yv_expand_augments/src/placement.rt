@@ -1,5 +1,5 @@
 //! What augments put where it is not allowed.
-ghost use Rattle.std.specs.Prelude.{◌≡◌, slice_get};
+ghost use Rattle.std.specs.Prelude.{◌≡◌, Some, slice_get};
 ghost use Rattle.yv_statement.specs.Order.{IsLeast};
 ghost use Rattle.yv_link_scopes.specs.Views.{rows_in};
 ghost use Rattle.yv_expand_augments.specs.{InnerPlacement.{placement_refusal, refusal_of_augment}, Placement.{PutsMisplaced, augment_around, augment_at}};
@@ -109,16 +109,23 @@ pub(crate) fn refusal_of_augment(
     }
 }
 
-// The refusal of the augment that gives an item to a node that doesn't take it.
+// The refusal of the augment that gives an item to a node, if the node doesn't take it.
+fn misplaced(rows: &Rows<'_, '_>, item: Spot, node: Spot) -> Option<Refusal>
+    ensures { result ≡ placement_refusal (rows_in rows.now) (Some item) (Some node) }
+{
+    // Of most items the block isn't looked at.
+    if takes(node.label.kind, item.label.kind) {
+        return None;
+    }
+    refusal_of_augment(rows, true, augment_around(rows, item.statement))
+}
+
+// The same, where there is an item and a node.
 fn placement_refusal(rows: &Rows<'_, '_>, item: Option<Spot>, node: Option<Spot>) -> Option<Refusal>
     ensures { result ≡ placement_refusal (rows_in rows.now) item node }
 {
     match (item, node) {
-        (Some(item), Some(node)) => refusal_of_augment(
-            rows,
-            !takes(node.label.kind, item.label.kind),
-            augment_around(rows, item.statement),
-        ),
+        (Some(item), Some(node)) => misplaced(rows, item, node),
         _ => None,
     }
 }

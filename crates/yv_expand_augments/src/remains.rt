@@ -68,7 +68,7 @@ fn scan(
 ) -> Result<Vec<ItemRow>, AllocError>
     ensures { IfOk result (λ rows. rows.items ≡ scan (is_left spots.now marks.now) None tree.now) }
 {
-    let mut rows = Vec::new(alloc);
+    let mut rows = Vec::with_capacity(alloc, tree.len())?;
     let mut cut = None;
     for row in tree {
         let (next, is_left) = step(cut, is_left(spots, marks, row.number), row.depth);

@@ -120,7 +120,7 @@ pub fn item_marks(
         (λ marks. marks.items ≡ item_marks statements.now spots.now (each changes.now)) }
 {
     let known = sequence_marks(alloc, statements, changes)?;
-    let mut marks = Vec::new(alloc);
+    let mut marks = Vec::with_capacity(alloc, spots.len())?;
     for (number, spot) in spots.iter().enumerate() {
         marks.push(is_on_with(statements, &known, spot, changes.sequence(number)))?;
     }

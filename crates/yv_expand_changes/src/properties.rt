@@ -114,7 +114,7 @@ pub fn said_of_all(
     yv_node_properties::laws::the_last_statement_stands();
     let each = all_said(alloc, rows)?;
     let known = sequences_said(alloc, rows, &each, changes)?;
-    let mut said = Vec::new(alloc);
+    let mut said = Vec::with_capacity(alloc, items.len())?;
     for (number, item) in items.iter().enumerate() {
         let later = known_of(
             &known,
@@ -144,9 +144,9 @@ impl ItemProperties {
             (λ told. told.config.items ≡ map (λ (s : StatedProperties). s.config) said.now) }
     {
         let mut told = ItemProperties {
-            mandatory: Vec::new(alloc),
-            presence: Vec::new(alloc),
-            config: Vec::new(alloc),
+            mandatory: Vec::with_capacity(alloc, said.len())?,
+            presence: Vec::with_capacity(alloc, said.len())?,
+            config: Vec::with_capacity(alloc, said.len())?,
         };
         for stated in said {
             told.mandatory.push(stated.is_mandatory())?;

@@ -1,3 +1,4 @@
 pub mod Targets
 pub mod Changes
 pub mod InnerJoints
+pub mod InnerPlaces

@@ -3,6 +3,7 @@ ghost use Rattle.std.specs.Prelude.{◌≡◌, ◌++◌, ◌∷◌, ◌<◌, ℕ
 ghost use Rattle.yv_expand_refines.specs.Changes.{each, sequence_at};
 
 use crate::joints::{Joint, Joints};
+use crate::places::Places;
 use std::alloc::{AllocError, Global};
 use std::marker::Model;
 
@@ -13,22 +14,22 @@ use std::marker::Model;
 pub struct Changes {
     runs: Vec<Vec<usize>>,
     joints: Joints,
-    of: Vec<Option<usize>>,
+    of: Places,
 }
 
 impl Model for Changes {
     ghost use Rattle.std.specs.{Prelude.{ℕ, map, length}, declared.alloc.Global.{Global}, declared.vec.Vec.{Vec}};
-    ghost use Rattle.yv_expand_refines.specs.{Changes.{ChangesView}, InnerJoints.{AreJoined, sequences_of}};
+    ghost use Rattle.yv_expand_refines.specs.{Changes.{ChangesView}, InnerJoints.{AreJoined, sequences_of}, InnerPlaces.{places_in}};
 
     ghost Value = { ChangesView };
 
     ghost view = { λ c. record {
       runs = map (λ (v : Vec ℕ Global). v.items) c.runs.items;
       sequences = sequences_of (map (λ (v : Vec ℕ Global). v.items) c.runs.items) c.joints.made.items;
-      of = c.of.items;
+      of = places_in c.of;
     } };
 
-    ghost invariant = { λ c. AreJoined (length c.runs.items) c.joints.made.items c.of.items };
+    ghost invariant = { λ c. AreJoined (length c.runs.items) c.joints.made.items (places_in c.of) };
 }
 
 /// How a sequence is made from an earlier one.
@@ -50,7 +51,7 @@ impl Changes {
         Ok(Changes {
             runs: Vec::new(alloc),
             joints: Joints::new(alloc),
-            of: vec![in alloc; None; count]?,
+            of: Places::none(alloc, count),
         })
     }
 
@@ -78,9 +79,10 @@ impl Changes {
         ensures runs { self.new.runs ≡ self.old.runs }
         ensures err { OnErr result (self.new ≡ self.old) }
     {
-        let front = self.of[item];
+        self.of.open()?;
+        let front = self.of.get(item);
         let place = self.joints.of(Joint { front, run })?;
-        self.of[item] = Some(place);
+        self.of.put(item, place);
         Ok(())
     }
 
@@ -114,7 +116,7 @@ impl Changes {
             ≡ sequence_at self.now.sequences result }
         ensures within { IfSome result (λ place. place < length self.now.sequences) }
     {
-        self.of.get(item).copied().unwrap_or(None)
+        self.of.get(item)
     }
 
     // The refines of a run.

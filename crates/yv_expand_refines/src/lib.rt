@@ -4,6 +4,7 @@
 
 mod changes;
 mod joints;
+mod places;
 mod targets;
 
 pub use changes::{Changes, Continuation};

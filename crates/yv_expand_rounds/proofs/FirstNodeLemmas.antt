@@ -1,56 +1,81 @@
--- The last pair of a name.
-use Rattle.std.proofs.Common.{◌≡◌, ◌==◌, ℕ, suc, List, [], ◌∷◌, ◌++◌, ◌<◌, ◌+◌, length, take, get_or, arith, refl, sym, ◌∙◌, ap, if◌then◌else◌, Bool, true, false, Option, None, Some}
-use Rattle.std.proofs.lemmas.Bool.{eq-eqb, eqb-true, ne_eqb}
-use Rattle.std.proofs.Math.Seq.{take-suc}
-use Rattle.std.specs.Option.{option_or}
-use Rattle.yv_expand_rounds.specs.InnerFirstNodes.{last_of}
+-- The first node of a name among items, one by one.
+use Rattle.std.proofs.Common.{◌≡◌, ◌⊎◌, ℕ, ◌==◌, Bool, true, false, if◌then◌else◌, List, [], ◌∷◌, ◌++◌, ◌<◌, ◌+◌, length, take, get_or, inl, inr, refl, sym, ◌∙◌, ap, Option, Some, None}
+use Rattle.std.specs.Ordering.{is_lt}
+use Rattle.std.proofs.lemmas.Bool.{eqb-true}
+use Rattle.std.proofs.lemmas.List.{take_more}
+use Rattle.yv_expand_rounds.specs.declared.label.Label.{Label}
+use Rattle.yv_expand_rounds.specs.Kinds.{is_node}
+use Rattle.yv_expand_rounds.specs.Labels.{is_named, is_some_named}
+use Rattle.yv_expand_rounds.specs.Order.{sibling_cmp}
+use Rattle.yv_expand_rounds.specs.Paths.{first_named}
+use Rattle.yv_expand_rounds.specs.declared.first_nodes.FirstNodes.{FirstNodes}
+use Rattle.yv_expand_rounds.specs.InnerFirstNodes.{AreFirst, node_of}
+use Rattle.yv_expand_rounds.specs.InnerGroups.{displaced_item, earlier, firsts, node_name, note_item}
+use Rattle.yv_expand_rounds.proofs.Least.{first_more, first_part, second_part}
 
-or_if : (b : Bool) (node : ℕ) (o p : Option ℕ) → option_or (if b then Some node else o) p ≡ (if b then Some node else option_or o p)
-or_if true node o p = refl
-or_if false node o p = refl
+-- one item more
+pub first_taken : (labels : List Label) (items : List ℕ) (i name : ℕ) → i < length items
+    → note_item labels (firsts labels (take i items)) (get_or items i 0) name ≡ first_named labels name (take (i + 1) items)
+first_taken labels items i name within =
+    first_more labels (take i items) (get_or items i 0) name (firsts labels (take i items)) refl
+    ∙ ap (first_named labels name) (sym (take_more items i 0 within))
 
--- a pair behind the others counts
-pub last_more : (pairs : List (ℕ × ℕ)) (n node name : ℕ) → last_of (pairs ++ (n, node) ∷ []) name ≡ (if name == n then Some node else last_of pairs name)
-last_more [] n node name = refl
-last_more ((m, first) ∷ pairs) n node name =
-    ap (λ o. option_or o (if name == m then Some first else None)) (last_more pairs n node name)
-    ∙ or_if (name == n) node (last_of pairs name) (if name == m then Some first else None)
+pub named_taken : (labels : List Label) (items : List ℕ) (i name : ℕ) (first : Option ℕ) → i < length items → first ≡ first_named labels name (take i items)
+    → is_named labels name (get_or items i 0) ≡ true → Some (earlier labels first (get_or items i 0)) ≡ first_named labels name (take (i + 1) items)
+named_taken labels items i name first within so_far named =
+    let item : ℕ = get_or items i 0 in
+    ap (λ o. Some (earlier labels o item)) so_far
+    ∙ sym (ap (λ (b : Bool). if b then Some (earlier labels (first_named labels name (take i items)) item) else first_named labels name (take i items)) named)
+    ∙ first_taken labels items i name within
 
--- one pair more
-pub last_taken : (pairs : List (ℕ × ℕ)) (i name : ℕ) → i < length pairs
-    → last_of (take (i + 1) pairs) name ≡ (if name == (get_or pairs i (0, 0)).0 then Some (get_or pairs i (0, 0)).1 else last_of (take i pairs) name)
-last_taken pairs i name within =
-    let last : ℕ × ℕ = get_or pairs i (0, 0) in
-    let next : i + 1 ≡ suc i = omega arith in
-    ap (λ (l : List (ℕ × ℕ)). last_of l name) (ap (λ k. take k pairs) next ∙ take-suc pairs i (0, 0) within)
-    ∙ last_more (take i pairs) last.0 last.1 name
+pub other_taken : (labels : List Label) (items : List ℕ) (i name : ℕ) (first : Option ℕ) → i < length items → first ≡ first_named labels name (take i items)
+    → is_named labels name (get_or items i 0) ≡ false → first ≡ first_named labels name (take (i + 1) items)
+other_taken labels items i name first within so_far named =
+    let item : ℕ = get_or items i 0 in
+    so_far
+    ∙ sym (ap (λ (b : Bool). if b then Some (earlier labels (first_named labels name (take i items)) item) else first_named labels name (take i items)) named)
+    ∙ first_taken labels items i name within
 
-if_is : (b : Bool) (node : ℕ) (o : Option ℕ) → b ≡ true → (if b then Some node else o) ≡ Some node
-if_is b node o is = ap (λ (x : Bool). if x then Some node else o) is
+-- the first nodes of items and of one more
+pub are_first_more : (labels : List Label) (items : List ℕ) (item : ℕ) (old new : FirstNodes) → AreFirst labels items old
+    → ((n : ℕ) → node_of new n ≡ note_item labels (node_of old) item n) → AreFirst labels (items ++ item ∷ []) new
+are_first_more labels items item old new are noted = record {
+  named = λ n. noted n ∙ first_more labels items item n (node_of old) (are.named n);
+}
 
-if_not : (b : Bool) (node : ℕ) (o : Option ℕ) → b ≡ false → (if b then Some node else o) ≡ o
-if_not b node o is = ap (λ (x : Bool). if x then Some node else o) is
+pub are_first_still : (labels : List Label) (items : List ℕ) (old new : FirstNodes) → AreFirst labels items old
+    → ((n : ℕ) → node_of new n ≡ node_of old n) → AreFirst labels items new
+are_first_still labels items old new are same = record { named = λ n. same n ∙ are.named n }
 
-pub last_alike : (pairs : List (ℕ × ℕ)) (i name : ℕ) → i < length pairs → name ≡ (get_or pairs i (0, 0)).0
-    → last_of (take (i + 1) pairs) name ≡ Some (get_or pairs i (0, 0)).1
-last_alike pairs i name within alike =
-    let last : ℕ × ℕ = get_or pairs i (0, 0) in
-    last_taken pairs i name within ∙ if_is (name == last.0) last.1 (last_of (take i pairs) name) (eq-eqb name last.0 alike)
+-- the name of a node
+pub node_named : (l : Option Label) (n : ℕ) → is_some_named n l ≡ true → node_name l ≡ Some n
+node_named None n h = absurd (let bad : false ≡ true = h in cc)
+node_named (Some l) n h =
+    ap (λ (b : Bool). if b then Some l.name else None) (first_part (is_node l.kind) (l.name == n) h)
+    ∙ ap Some (eqb-true l.name n (second_part (is_node l.kind) (l.name == n) h))
 
-pub last_other : (pairs : List (ℕ × ℕ)) (i name : ℕ) → i < length pairs → (name ≡ (get_or pairs i (0, 0)).0 → ⊥)
-    → last_of (take (i + 1) pairs) name ≡ last_of (take i pairs) name
-last_other pairs i name within other =
-    let last : ℕ × ℕ = get_or pairs i (0, 0) in
-    last_taken pairs i name within ∙ if_not (name == last.0) last.1 (last_of (take i pairs) name) (ne_eqb name last.0 other)
+chosen : (labels : List Label) (i item : ℕ) (b : Bool) → is_lt (sibling_cmp labels item i) ≡ b
+    → (Some (earlier labels (Some i) item) ≡ Some i) ⊎ (displaced_item labels (Some i) item ≡ Some i)
+chosen labels i item true e = inr (ap (λ (x : Bool). if x then Some i else None) e)
+chosen labels i item false e = inl (ap (λ (x : Bool). Some (if x then item else i)) e)
 
--- a table that has nothing of a name, before another in which the name is set
-pub set_behind : (first : ℕ → Option ℕ) (name node : ℕ) (old new : ℕ → Option ℕ) (n : ℕ) → first name ≡ None
-    → new n ≡ (if n == name then Some node else old n) → option_or (first n) (new n) ≡ (if n == name then Some node else option_or (first n) (old n))
-set_behind first name node old new n none set = go (n == name) refl where
-  go : (b : Bool) → (n == name) ≡ b → option_or (first n) (new n) ≡ (if n == name then Some node else option_or (first n) (old n))
-  go true is =
-      ap (λ (o : Option ℕ). option_or o (new n)) (ap first (eqb-true n name is) ∙ none) ∙ set ∙ if_is (n == name) node (old n) is
-      ∙ sym (if_is (n == name) node (option_or (first n) (old n)) is)
-  go false is =
-      ap (λ (o : Option ℕ). option_or (first n) o) (set ∙ if_not (n == name) node (old n) is)
-      ∙ sym (if_not (n == name) node (option_or (first n) (old n)) is)
+-- the first node of each name is the first still when an item enters, but for the one that this
+-- item displaces
+pub keeps_but : (labels : List Label) (members : List ℕ) (item n i : ℕ) (gone : Option ℕ)
+    → (is_named labels n item ≡ true → gone ≡ displaced_item labels (first_named labels n members) item) → first_named labels n members ≡ Some i
+    → (first_named labels n (members ++ item ∷ []) ≡ Some i) ⊎ (gone ≡ Some i)
+keeps_but labels members item n i gone is was = go (is_named labels n item) refl where
+  more : note_item labels (firsts labels members) item n ≡ first_named labels n (members ++ item ∷ [])
+  more = first_more labels members item n (firsts labels members) refl
+
+  by_name : (b : Bool) → is_named labels n item ≡ b
+      → (if b then Some (earlier labels (first_named labels n members) item) else first_named labels n members) ≡ first_named labels n (members ++ item ∷ [])
+  by_name b e =
+      sym (ap (λ (x : Bool). if x then Some (earlier labels (first_named labels n members) item) else first_named labels n members) e) ∙ more
+
+  go : (b : Bool) → is_named labels n item ≡ b → (first_named labels n (members ++ item ∷ []) ≡ Some i) ⊎ (gone ≡ Some i)
+  go false e = inl (sym (by_name false e) ∙ was)
+  go true e = elim (chosen labels i item (is_lt (sibling_cmp labels item i)) refl) [
+    | inl still ↦ inl (sym (by_name true e) ∙ ap (λ o. Some (earlier labels o item)) was ∙ still)
+    | inr displaced ↦ inr (is e ∙ ap (λ o. displaced_item labels o item) was ∙ displaced)
+  ]

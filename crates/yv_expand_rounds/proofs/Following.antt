@@ -12,7 +12,7 @@ use Rattle.yv_expand_rounds.specs.declared.end.End.TheVariants as end
 use Rattle.yv_expand_rounds.specs.Groups.{Groups, members_of, move_items}
 use Rattle.yv_expand_rounds.specs.Labels.{is_named}
 use Rattle.yv_expand_rounds.specs.Paths.{first_named, before, is_shorthand, end_at, step_end, path_end}
-use Rattle.yv_expand_rounds.specs.InnerGroups.{AreGroups, IsGroup, Keep, first_in}
+use Rattle.yv_expand_rounds.specs.InnerGroups.{AreGroups, IsGroup, Keep, firsts}
 use Rattle.yv_expand_rounds.specs.InnerHiddenNodes.{Grow, IsClosed, is_hidden, is_hidden_at}
 use Rattle.yv_expand_rounds.specs.InnerPendingPaths.{first, KeepFirst, Lead, IsTrail, IsFollowed, end_reached, last_end}
 use Rattle.yv_expand_rounds.proofs.Descending.{last_place, pushed_place}
@@ -287,28 +287,28 @@ trail_kept labels but old new marks marks' names ends keeps grow are place e at 
 ]
 
 -- where no item that moved comes before one of its name, what was the first is the first still
-pub moved_keeps_first : (labels sp : List Label) (groups : Groups) (all : List Group) (from to : ℕ) (taken emptied second joined : Group) (moving : List ℕ)
+pub moved_keeps_first : (labels sp : List Label) (groups : Groups) (all : List Group) (from to : ℕ) (taken emptied second : Group) (moving : List ℕ)
     → sp ≡ labels → AreGroups labels groups all → from < length all → to < length all → from ≢ to → taken ≡ get_or all from taken
     → second ≡ get_or (set all from emptied) to second → moving ≡ taken.members.items
-    → ((members : List ℕ) → IsGroup sp members second → IsGroup sp (members ++ moving) joined) → (gone : List ℕ) → Keep (first_in second) (first_in joined) gone
+    → (gone : List ℕ) → ((members : List ℕ) → IsGroup sp members second → Keep (firsts sp members) (firsts sp (members ++ moving)) gone)
     → KeepFirst labels from groups (move_items from to groups) gone
-moved_keeps_first labels sp groups all from to taken emptied second joined moving same are lf lt other at_first at_second moves joins gone keeps =
+moved_keeps_first labels sp groups all from to taken emptied second moving same are lf lt other at_first at_second moves gone keeps =
     let A : List ℕ = members_of groups to ++ members_of groups from in
     let was : IsGroup labels (members_of groups from) taken = are.group from taken (slice_get_read all _ from taken refl lf at_first) in
     let to_is : second ≡ get_or all to second = at_second ∙ get_or-set_other all from to emptied second (λ e. other (sym e)) in
     let had : IsGroup labels (members_of groups to) second = are.group to second (slice_get_read all _ to second refl lt to_is) in
     let move_is : moving ≡ members_of groups from = moves ∙ was.members_are in
-    let both : IsGroup sp (members_of groups to ++ moving) joined =
-    joins (members_of groups to) (subst (λ (x : List Label). IsGroup x (members_of groups to) second) (sym same) had) in
-    let now : IsGroup labels A joined =
-    subst (λ (x : List Label). IsGroup x A joined) same (subst (λ (ms : List ℕ). IsGroup sp (members_of groups to ++ ms) joined) move_is both) in
+    let kept : Keep (firsts labels (members_of groups to)) (firsts labels A) gone =
+    subst (λ (x : List Label). Keep (firsts x (members_of groups to)) (firsts x A) gone) same
+    (subst (λ (ms : List ℕ). Keep (firsts sp (members_of groups to)) (firsts sp (members_of groups to ++ ms)) gone) move_is
+    (keeps (members_of groups to) (subst (λ (x : List Label). IsGroup x (members_of groups to) second) (sym same) had))) in
     let there : members_of (move_items from to groups) to ≡ A =
     get_or-set_other (set groups to A) from to [] [] (λ e. other (sym e)) ∙ get_or-set_same groups to A [] (omega (arith, lt, are.each)) in
     λ g name i ne before_. elim (cases_order g to) [
       | inl e ↦
           let at : first labels groups to name ≡ Some i = ap (λ x. first labels groups x name) (sym e) ∙ before_ in
-          elim (keeps name i (had.named name ∙ at)) [
-            | inl still ↦ inl (ap (λ x. first labels (move_items from to groups) x name) e ∙ ap (first_named labels name) there ∙ sym (now.named name) ∙ still)
+          elim (kept name i at) [
+            | inl still ↦ inl (ap (λ x. first labels (move_items from to groups) x name) e ∙ ap (first_named labels name) there ∙ still)
             | inr displaced ↦ inr displaced
           ]
       | inr apart ↦

@@ -9,7 +9,7 @@ use Rattle.yv_expand_rounds.specs.declared.label.Label.{Label}
 use Rattle.yv_expand_rounds.specs.declared.group.Group.{Group}
 use Rattle.yv_expand_rounds.specs.Groups.{Groups, members_of, move_items}
 use Rattle.yv_expand_rounds.specs.Paths.{first_named}
-use Rattle.yv_expand_rounds.specs.InnerGroups.{AreGroups, IsGroup, first_in}
+use Rattle.yv_expand_rounds.specs.InnerGroups.{AreGroups, IsGroup}
 
 -- past the last group there is none
 pub first_past : (labels : List Label) (groups : Groups) (all : List Group) (g name : ℕ) → AreGroups labels groups all → slice_get all g ≡ None → None ≡ first_named labels name (members_of groups g)
@@ -17,9 +17,6 @@ first_past labels groups all g name are past = elim (slice_get_cases all g).1 [
   | inl (x, l, at, e) ↦ absurd (none-some x (sym past ∙ at))
   | inr (l, at) ↦ let e : members_of groups g ≡ [] = get_or_past groups g [] (omega (arith, l, are.each)) in ap (first_named labels name) (sym e)
 ]
-
-pub first_at : (labels : List Label) (groups : Groups) (all : List Group) (g name : ℕ) (x : Group) → AreGroups labels groups all → slice_get all g ≡ Some x → first_in x name ≡ first_named labels name (members_of groups g)
-first_at labels groups all g name x are at = (are.group g x at).named name
 
 pub joined_more : (members items : List ℕ) (i d : ℕ) → i < length items → (members ++ take i items) ++ get_or items i d ∷ [] ≡ members ++ take (i + 1) items
 joined_more members items i d l = append_assoc members (take i items) (get_or items i d ∷ []) ∙ ap (λ ys. members ++ ys) (sym (take_more items i d l))

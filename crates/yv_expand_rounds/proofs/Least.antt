@@ -62,7 +62,7 @@ pub first_part : (a b : Bool) → (a && b) ≡ true → a ≡ true
 first_part true b h = refl
 first_part false b h = absurd (let bad : false ≡ true = h in cc)
 
-second_part : (a b : Bool) → (a && b) ≡ true → b ≡ true
+pub second_part : (a b : Bool) → (a && b) ≡ true → b ≡ true
 second_part true b h = h
 second_part false b h = absurd (let bad : false ≡ true = h in cc)
 

@@ -1,18 +1,24 @@
 -- Inner definitions, which only private clauses cite: groups with the first node of each name.
-use Rattle.std.specs.Prelude.{◌≡◌, ◌⊎◌, ℕ, ◌<◌, ◌==◌, ◌+◌, true, List, length, if◌then◌else◌, Option, Some, None, slice_get}
+use Rattle.std.specs.Prelude.{◌≡◌, ◌⊎◌, ℕ, ◌<◌, ◌==◌, ◌+◌, true, List, length, if◌then◌else◌, IfSome, Option, Some, None, slice_get}
 use Rattle.std.specs.Ordering.{is_lt}
 use Rattle.yv_expand_rounds.specs.declared.label.Label.{Label}
 use Rattle.yv_expand_rounds.specs.declared.group.Group.{Group}
 use Rattle.yv_expand_rounds.specs.declared.places.ItemPlaces.{ItemPlaces}
-use Rattle.yv_expand_rounds.specs.InnerFirstNodes.{node_of}
+use Rattle.yv_expand_rounds.specs.InnerFirstNodes.{AreFirst}
+use Rattle.yv_expand_rounds.specs.Kinds.{is_node}
 use Rattle.yv_expand_rounds.specs.Labels.{is_named}
 use Rattle.yv_expand_rounds.specs.Groups.{Groups, members_of}
 use Rattle.yv_expand_rounds.specs.Order.{sibling_cmp}
 use Rattle.yv_expand_rounds.specs.Paths.{first_named}
 
--- the first node of a name
-abbrev pub first_in : Group → ℕ → Option ℕ
-first_in group name = node_of group.names name
+-- the first node of each name among items
+abbrev pub firsts : List Label → (items : List ℕ) → (name : ℕ) → Option ℕ
+firsts labels items name = first_named labels name items
+
+-- the name of an item, if it is a node
+abbrev pub node_name : Option Label → Option ℕ
+node_name None = None
+node_name (Some l) = if is_node l.kind then Some l.name else None
 
 -- the one that is kept, if an item comes before it
 abbrev pub displaced_item : List Label → Option ℕ → ℕ → Option ℕ
@@ -58,7 +64,7 @@ HaveBefore members limit few = (place item : ℕ) → slice_get members place �
 -- this group has these items
 pub record IsGroup (labels : List Label) (members : List ℕ) (group : Group) : Type 0 where
   pub members_are : group.members.items ≡ members
-  pub named : (name : ℕ) → first_in group name ≡ first_named labels name members
+  pub named : IfSome group.names (λ names. AreFirst labels members names.value)
   pub descend : group.descending ≡ true → Descend members
 
 pub record AreGroups (labels : List Label) (groups : Groups) (kept : List Group) : Type 0 where

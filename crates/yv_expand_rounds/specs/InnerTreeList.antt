@@ -1,15 +1,14 @@
 -- Inner definitions, which only private clauses cite: what a stack of items gives.
 use Rattle.std.specs.Prelude.{ℕ, ◌+◌, ◌≤◌, List, [], ◌∷◌, ◌++◌, map, Option, Some}
-use Rattle.std.specs.declared.vec.Vec.{Vec}
-use Rattle.std.specs.declared.alloc.Global.{Global}
+use Rattle.yv_expand_rounds.specs.declared.group.Group.{Group}
 use Rattle.yv_expand_rounds.specs.declared.label.Label.{Label}
 use Rattle.yv_expand_rounds.specs.declared.row.ItemRow.{ItemRow}
 use Rattle.yv_expand_rounds.specs.Groups.{Groups, times}
 use Rattle.yv_expand_rounds.specs.Tree.{Tree, AreInOrder, Make, tree_list}
 
--- the groups that lists hold
-abbrev pub groups_in : List (Vec ℕ Global) → Groups
-groups_in lists = map (λ v. v.items) lists
+-- the items of groups
+abbrev pub groups_in : List Group → Groups
+groups_in groups = map (λ g. g.members.items) groups
 
 abbrev pub row : (parent : Option ℕ) → (depth number : ℕ) → ItemRow
 row parent depth i = record { number = i; parent = parent; depth = depth }

@@ -1,72 +1,106 @@
-//! For each name a node: the first ones are in a list, the others in a map.
-ghost use Rattle.std.specs.Prelude.{◌≡◌, ◌==◌, ℕ, None, Some, if◌then◌else◌, OnErr, OnOk};
-ghost use Rattle.yv_expand_rounds.specs.InnerFirstNodes.{last_of, node_of};
+//! The first node of each name among items.
+ghost use Rattle.std.specs.{Prelude.{◌≡◌, ℕ, ◌++◌, ◌∷◌, [], List, None, IfOk, OnErr, OnOk, slice_get}, Option.{option_map}};
+ghost use Rattle.yv_expand_rounds.specs.{declared.label.Label.{Label}, Paths.{first_named}, InnerFirstNodes.{AreFirst, node_of}, InnerGroups.{earlier, keep_first, note_item}};
 
+use crate::label::{Label, is_named};
+use crate::order::comes_before;
 use std::alloc::{AllocError, Global};
 use std::collections::BTreeMap;
 
-/// How many pairs the list holds at most. A name that is set twice takes two. Most nodes have fewer
-/// children, and a map takes a quarter of a kilobyte even for one name.
-const FEW: usize = 8;
-
-/// For each name a node.
+/// The first node of each name among items.
 #[derive(Drop)]
 pub(crate) struct FirstNodes {
-    // The last pair of a name counts.
-    few: Vec<(usize, usize)>,
-    // What is here counts before what is in the list.
-    many: BTreeMap<usize, usize>,
+    map: BTreeMap<usize, usize>,
 }
 
-// The node of the last pair with this name.
-fn last_of(pairs: &[(usize, usize)], name: usize) -> Option<usize>
-    ensures { result ≡ last_of pairs.now name }
+// The first so far, or an item that comes before it.
+fn earlier(labels: &[Label], first: Option<usize>, item: usize) -> usize
+    ensures { result ≡ earlier labels.now first item }
 {
-    let mut node = None;
-    for pair in pairs {
-        if name == pair.0 {
-            node = Some(pair.1);
+    match first {
+        Some(first) => {
+            if comes_before(labels, item, first) {
+                item
+            } else {
+                first
+            }
+        }
+        None => item,
+    }
+}
+
+/// The first node of a name among these items.
+pub(crate) fn first_among(labels: &[Label], items: &[usize], name: usize) -> Option<usize>
+    ensures { result ≡ first_named labels.now name items.now }
+{
+    let mut first = None;
+    for item in items {
+        if is_named(labels, name, *item) {
+            first = Some(earlier(labels, first, *item));
         }
     }
-    node
+    first
 }
 
 impl FirstNodes {
-    /// No names.
-    #[tactic(auto, unfolding(crate::specs::InnerFirstNodes::node_of))]
-    pub(crate) fn new(alloc: Global) -> FirstNodes
-        ensures { (n : ℕ) → node_of result n ≡ None }
+    /// The first nodes of these items. Takes time n log n.
+    pub(crate) fn of(
+        alloc: Global,
+        labels: &[Label],
+        items: &[usize],
+    ) -> Result<FirstNodes, AllocError>
+        ensures { IfOk result (AreFirst labels.now items.now) }
     {
-        FirstNodes {
-            few: Vec::new(alloc),
-            many: BTreeMap::new(alloc),
+        let mut nodes = FirstNodes {
+            map: BTreeMap::new(alloc),
+        };
+        for item in items {
+            nodes.note(labels, *item)?;
         }
+        Ok(nodes)
     }
 
-    /// The node of a name.
-    #[tactic(auto, unfolding(crate::specs::InnerFirstNodes::node_of))]
+    /// The first node of a name.
     pub(crate) fn get(&self, name: usize) -> Option<usize>
         ensures { result ≡ node_of self.now name }
     {
-        match self.many.get(&name) {
-            Some(node) => Some(*node),
-            None => last_of(&self.few, name),
-        }
+        self.map.get(&name).copied()
     }
 
-    /// Puts a node in the place of that of a name.
-    #[tactic(auto, unfolding(crate::specs::InnerFirstNodes::node_of))]
-    pub(crate) fn set(&mut self, name: usize, node: usize) -> Result<(), AllocError>
-        ensures sets { OnOk result
-            ((n : ℕ) → node_of self.new n
-            ≡ (if n == name then Some node else node_of self.old n)) }
-        ensures keeps { OnErr result ((n : ℕ) → node_of self.new n ≡ node_of self.old n) }
+    // Keeps an item for its name where none is yet, or one that comes later.
+    fn keep(&mut self, labels: &[Label], name: usize, item: usize) -> Result<(), AllocError>
+        ensures names { OnOk result
+            ((n : ℕ) → node_of self.new n ≡ keep_first labels.now (node_of self.old) name item n) }
+        ensures stay { OnErr result ((n : ℕ) → node_of self.new n ≡ node_of self.old n) }
     {
-        if self.few.len() < FEW && self.many.get(&name).is_none() {
-            self.few.push((name, node))?;
-        } else {
-            self.many.insert(name, node)?;
+        let first = self.get(name);
+        self.map.insert(name, earlier(labels, first, item))?;
+        Ok(())
+    }
+
+    // Keeps an item for its name, if it is a node.
+    fn note_item(&mut self, labels: &[Label], item: usize) -> Result<(), AllocError>
+        ensures names { OnOk result
+            ((n : ℕ) → node_of self.new n ≡ note_item labels.now (node_of self.old) item n) }
+        ensures stay { OnErr result ((n : ℕ) → node_of self.new n ≡ node_of self.old n) }
+    {
+        if let Some(label) = labels.get(item).copied() {
+            if label.kind.is_node() {
+                return self.keep(labels, label.name, item);
+            }
         }
+        Ok(())
+    }
+
+    /// The first nodes when an item is added after the others. All is as before where memory runs
+    /// out.
+    pub(crate) fn note(&mut self, labels: &[Label], item: usize) -> Result<(), AllocError>
+        ensures notes { (items : List ℕ) → AreFirst labels.now items self.old
+            → OnOk result (AreFirst labels.now (items ++ item ∷ []) self.new) }
+        ensures keeps { (items : List ℕ) → AreFirst labels.now items self.old
+            → OnErr result (AreFirst labels.now items self.new) }
+    {
+        self.note_item(labels, item)?;
         Ok(())
     }
 }

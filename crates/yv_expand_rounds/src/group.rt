@@ -1,17 +1,23 @@
 //! The items of one place, and the first node of each name.
 ghost use Rattle.std.specs.Prelude.{◌≡◌, ◌<◌, ◌≤◌, ℕ, ◌++◌, ◌∷◌, [], List, Some, true, OnErr, OnOk, IfOk, IfSome, length, slice_get};
-ghost use Rattle.yv_expand_rounds.specs.{declared.label.Label.{Label}, InnerGroups.{HaveBefore, IsBelowLast, IsGroup, Keep, KeepBut, displaced_item, earlier, first_in, keep_first, note_item}};
+ghost use Rattle.yv_expand_rounds.specs.{declared.label.Label.{Label}, Paths.{first_named}, InnerFirstNodes.{AreFirst}, InnerGroups.{HaveBefore, IsBelowLast, IsGroup, Keep, KeepBut, displaced_item, firsts, node_name}};
 
-use crate::first_nodes::FirstNodes;
+use crate::first_nodes::{FirstNodes, first_among};
 use crate::label::Label;
 use crate::order::comes_before;
 use std::alloc::{AllocError, Global};
+
+/// How many items a group has at most before the first node of each name is kept. Among so few it
+/// is looked for: most nodes have fewer children, and a map takes a quarter of a kilobyte even for
+/// one name.
+const FEW: usize = 8;
 
 /// The numbers of the items in one place, and for each name the first node in order.
 #[derive(Drop)]
 pub(crate) struct Group {
     pub members: Vec<usize>,
-    pub names: FirstNodes,
+    // The first nodes, where there are many members.
+    pub names: Option<Box<FirstNodes>>,
     // Whether each member is less than those before it: so it is where no augment gave one.
     pub descending: bool,
 }
@@ -26,20 +32,38 @@ fn displaced_item(labels: &[Label], first: Option<usize>, item: usize) -> Option
     }
 }
 
-// The first so far, or an item that comes before it.
-fn earlier(labels: &[Label], first: Option<usize>, item: usize) -> usize
-    ensures { result ≡ earlier labels.now first item }
+// The name of an item, if it is a node.
+fn node_name(labels: &[Label], item: usize) -> Option<usize>
+    ensures { result ≡ node_name (slice_get labels.now item) }
 {
-    match first {
-        Some(first) => {
-            if comes_before(labels, item, first) {
-                item
+    match labels.get(item) {
+        Some(label) => {
+            if label.kind.is_node() {
+                Some(label.name)
             } else {
-                first
+                None
             }
         }
-        None => item,
+        None => None,
     }
+}
+
+// The first nodes of these items and one more, where they are many.
+fn many_names(
+    alloc: Global,
+    labels: &[Label],
+    members: &[usize],
+    item: usize,
+) -> Result<Option<Box<FirstNodes>>, AllocError>
+    ensures { IfOk result (λ made. IfSome made
+        (λ names. AreFirst labels.now (members.now ++ item ∷ []) names.value)) }
+{
+    if members.len() < FEW {
+        return Ok(None);
+    }
+    let mut names = FirstNodes::of(alloc, labels, members)?;
+    names.note(labels, item)?;
+    Ok(Some(Box::new(alloc, names)?))
 }
 
 impl Group {
@@ -49,56 +73,54 @@ impl Group {
     {
         Group {
             members: Vec::new(alloc),
-            names: FirstNodes::new(alloc),
+            names: None,
             descending: true,
         }
     }
 
     /// The first node of a name.
-    pub(crate) fn first(&self, name: usize) -> Option<usize>
-        ensures { result ≡ first_in self.now name }
+    pub(crate) fn first(&self, labels: &[Label], name: usize) -> Option<usize>
+        ensures { (members : List ℕ) → IsGroup labels.now members self.now → result
+            ≡ first_named labels.now name members }
     {
-        self.names.get(name)
+        match &self.names {
+            Some(names) => names.get(name),
+            None => first_among(labels, &self.members, name),
+        }
     }
 
-    // Keeps an item for its name where none is yet, or one that comes later. Answers that one,
-    // whose place it took.
-    fn keep(
-        &mut self,
-        labels: &[Label],
-        name: usize,
-        item: usize,
-    ) -> Result<Option<usize>, AllocError>
-        ensures names { OnOk result
-            ((n : ℕ) → first_in self.new n
-            ≡ keep_first labels.now (first_in self.old) name item n) }
-        ensures stay { OnErr result ((n : ℕ) → first_in self.new n ≡ first_in self.old n) }
-        ensures displaces { IfOk result
-            (λ gone. gone ≡ displaced_item labels.now (first_in self.old name) item) }
+    // The node that is the first of the name of an item, if the item comes before it.
+    fn displaced(&self, labels: &[Label], item: usize) -> Option<usize>
+        ensures { (members : List ℕ) → IsGroup labels.now members self.now
+            → KeepBut (firsts labels.now members) (firsts labels.now (members ++ item ∷ []))
+            result }
+    {
+        match node_name(labels, item) {
+            Some(name) => displaced_item(labels, self.first(labels, name), item),
+            None => None,
+        }
+    }
+
+    // Keeps the first nodes when an item enters after the others, if these are many. All is as
+    // before where memory runs out.
+    fn note(&mut self, alloc: Global, labels: &[Label], item: usize) -> Result<(), AllocError>
+        ensures notes { (members : List ℕ) → IsGroup labels.now members self.old
+            → OnOk result
+            (IfSome self.new.names
+            (λ names. AreFirst labels.now (members ++ item ∷ []) names.value)) }
+        ensures keeps { (members : List ℕ) → IsGroup labels.now members self.old
+            → OnErr result
+            (IfSome self.new.names (λ names. AreFirst labels.now members names.value)) }
         ensures members { self.new.members ≡ self.old.members }
         ensures descends { self.new.descending ≡ self.old.descending }
     {
-        let first = self.first(name);
-        self.names.set(name, earlier(labels, first, item))?;
-        Ok(displaced_item(labels, first, item))
-    }
-
-    // Keeps the number of an item for its name, if it is a node. Answers the one whose place it
-    // took.
-    fn note(&mut self, labels: &[Label], item: usize) -> Result<Option<usize>, AllocError>
-        ensures names { OnOk result
-            ((n : ℕ) → first_in self.new n ≡ note_item labels.now (first_in self.old) item n) }
-        ensures stay { OnErr result ((n : ℕ) → first_in self.new n ≡ first_in self.old n) }
-        ensures displaces { IfOk result (KeepBut (first_in self.old) (first_in self.new)) }
-        ensures members { self.new.members ≡ self.old.members }
-        ensures descends { self.new.descending ≡ self.old.descending }
-    {
-        if let Some(label) = labels.get(item).copied() {
-            if label.kind.is_node() {
-                return self.keep(labels, label.name, item);
+        match &mut self.names {
+            Some(names) => names.note(labels, item),
+            None => {
+                self.names = many_names(alloc, labels, &self.members, item)?;
+                Ok(())
             }
         }
-        Ok(None)
     }
 
     // Whether members descend still when an item enters behind them.
@@ -115,19 +137,41 @@ impl Group {
         }
     }
 
-    /// Adds an item after the others. Returns the node that was the first of its name before, if
-    /// this one is now. Room is made first, so that the items are as before where memory runs out.
-    pub(crate) fn add(&mut self, labels: &[Label], item: usize) -> Result<Option<usize>, AllocError>
+    /// Adds an item after the others. Room is made first, so that the items are as before where
+    /// memory runs out.
+    pub(crate) fn push(
+        &mut self,
+        alloc: Global,
+        labels: &[Label],
+        item: usize,
+    ) -> Result<(), AllocError>
         ensures state { (members : List ℕ) → IsGroup labels.now members self.old
             → OnOk result (IsGroup labels.now (members ++ item ∷ []) self.new) }
         ensures keeps { (members : List ℕ) → IsGroup labels.now members self.old
             → OnErr result (IsGroup labels.now members self.new) }
-        ensures displaces { IfOk result (KeepBut (first_in self.old) (first_in self.new)) }
     {
         self.members.reserve(1)?;
-        let displaced = self.note(labels, item)?;
+        self.note(alloc, labels, item)?;
         self.descending = self.descends_to(item);
         self.members.push(item)?;
+        Ok(())
+    }
+
+    // The same. Returns the node that was the first of its name before, if this one is now.
+    fn add(
+        &mut self,
+        alloc: Global,
+        labels: &[Label],
+        item: usize,
+    ) -> Result<Option<usize>, AllocError>
+        ensures state { (members : List ℕ) → IsGroup labels.now members self.old
+            → OnOk result (IsGroup labels.now (members ++ item ∷ []) self.new) }
+        ensures displaces { (members : List ℕ) → IsGroup labels.now members self.old
+            → IfOk result
+            (KeepBut (firsts labels.now members) (firsts labels.now (members ++ item ∷ []))) }
+    {
+        let displaced = self.displaced(labels, item);
+        self.push(alloc, labels, item)?;
         Ok(displaced)
     }
 
@@ -141,12 +185,14 @@ impl Group {
     ) -> Result<Vec<usize>, AllocError>
         ensures state { (members : List ℕ) → IsGroup labels.now members self.old
             → OnOk result (IsGroup labels.now (members ++ items.now) self.new) }
-        ensures displaces { IfOk result
-            (λ displaced. Keep (first_in self.old) (first_in self.new) displaced.items) }
+        ensures displaces { (members : List ℕ) → IsGroup labels.now members self.old
+            → IfOk result
+            (λ displaced. Keep (firsts labels.now members)
+            (firsts labels.now (members ++ items.now)) displaced.items) }
     {
         let mut displaced = Vec::new(alloc);
         for item in items {
-            if let Some(node) = self.add(labels, *item)? {
+            if let Some(node) = self.add(alloc, labels, *item)? {
                 displaced.push(node)?;
             }
         }

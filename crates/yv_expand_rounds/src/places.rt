@@ -4,7 +4,7 @@ ghost use Rattle.yv_expand_rounds.specs.{declared.label.Label.{Label}, declared.
 
 use crate::end::End;
 use crate::group::Group;
-use crate::label::Label;
+use crate::label::{Label, is_named};
 use crate::trail::Trail;
 use std::alloc::{AllocError, Global};
 use std::mem;
@@ -50,7 +50,8 @@ impl ItemPlaces {
         ensures count { IfOk result
             (λ places. length places.groups.items ≡ length labels.items + 1 + others) }
     {
-        let mut groups = Vec::new(alloc);
+        let count = labels.len().saturating_add(others).saturating_add(1);
+        let mut groups = Vec::with_capacity(alloc, count)?;
         for _ in 0..labels.len() {
             groups.push(Group::new(alloc))?;
         }
@@ -71,7 +72,7 @@ impl ItemPlaces {
             → result ≡ first_named labels name (members_of groups group) }
     {
         match self.groups.get(group) {
-            Some(group) => group.first(name),
+            Some(group) => group.first(&self.labels, name),
             None => None,
         }
     }
@@ -88,10 +89,7 @@ impl ItemPlaces {
     fn is_named(&self, name: usize, item: usize) -> bool
         ensures { result ≡ is_named self.now.labels.items name item }
     {
-        match self.labels.get(item) {
-            Some(label) => label.kind.is_node() && label.name == name,
-            None => false,
-        }
+        is_named(&self.labels, name, item)
     }
 
     // Where a step comes that one node answers below another.
@@ -274,7 +272,7 @@ impl ItemPlaces {
         ensures count { length self.new.groups.items ≡ length self.old.groups.items }
     {
         if group < self.groups.len() {
-            self.groups[group].add(&self.labels, item)?;
+            self.groups[group].push(self.alloc, &self.labels, item)?;
         }
         Ok(())
     }

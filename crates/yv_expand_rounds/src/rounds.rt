@@ -168,6 +168,9 @@ impl Augmentation {
             × AreApplied labels first (map (λ p. p.items) paths.now) st new
             × IsAugmentation labels new grafting) }
     {
+        if paths.is_empty() {
+            return Ok(self);
+        }
         let count = self.ends.len();
         if first > count || paths.len() > count - first {
             return Ok(self);

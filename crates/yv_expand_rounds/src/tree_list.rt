@@ -1,5 +1,5 @@
 //! The final tree as a list.
-ghost use Rattle.std.specs.Prelude.{◌≡◌, ◌+◌, ◌++◌, [], ℕ, List, length, map, reverse, set, IfOk, OnOk};
+ghost use Rattle.std.specs.Prelude.{◌≡◌, ◌+◌, ◌++◌, [], ℕ, List, length, reverse, set, IfOk, OnOk};
 ghost use Rattle.yv_expand_rounds.specs.{declared.label.Label.{Label}, Turns.{State}, Placements.{StandOnce}, Tree.{AreInOrder, AreRows}, InnerState.{IsAugmentation}, InnerTreeList.{StandAtMostOnce, groups_in, under}};
 
 use crate::augmentation::Augmentation;
@@ -12,30 +12,22 @@ use std::alloc::{AllocError, Global};
 use std::mem;
 
 // Takes the items of a group out, in order.
-fn take_group(
-    alloc: Global,
-    labels: &[Label],
-    groups: &mut Vec<Vec<usize>>,
-    group: usize,
-) -> Vec<usize>
+fn take_group(alloc: Global, labels: &[Label], groups: &mut Vec<Group>, group: usize) -> Vec<usize>
     ensures takes { AreInOrder labels.now (groups_in groups.old.items) group result.items }
     ensures others { groups_in groups.new.items ≡ set (groups_in groups.old.items) group [] }
 {
     if group >= groups.len() {
         return Vec::new(alloc);
     }
-    let mut items = mem::replace(&mut groups[group], Vec::new(alloc));
+    let taken = mem::replace(&mut groups[group], Group::new(alloc));
+    let Group { members, .. } = taken;
+    let mut items = members;
     sort(labels, &mut items);
     items
 }
 
 // Takes the items below another out, in order.
-fn take_below(
-    alloc: Global,
-    labels: &[Label],
-    groups: &mut Vec<Vec<usize>>,
-    number: usize,
-) -> Vec<usize>
+fn take_below(alloc: Global, labels: &[Label], groups: &mut Vec<Group>, number: usize) -> Vec<usize>
     ensures takes { AreInOrder labels.now (groups_in groups.old.items) (number + 1) result.items }
     ensures others { groups_in groups.new.items ≡ set (groups_in groups.old.items) (number + 1) [] }
 {
@@ -71,12 +63,12 @@ fn put(
 fn list(
     alloc: Global,
     labels: &[Label],
-    groups: &mut Vec<Vec<usize>>,
+    groups: &mut Vec<Group>,
 ) -> Result<Vec<ItemRow>, AllocError>
     ensures { StandAtMostOnce (groups_in groups.old.items)
         → IfOk result (λ rows. AreRows labels.now (groups_in groups.old.items) rows.items) }
 {
-    let mut rows = Vec::new(alloc);
+    let mut rows = Vec::with_capacity(alloc, labels.len())?;
     let mut stack = Vec::new(alloc);
     let top = take_group(alloc, labels, groups, 0);
     put(&mut stack, &top, None, 1)?;
@@ -86,19 +78,6 @@ fn list(
         put(&mut stack, &below, Some(row.number), row.depth + 1)?;
     }
     Ok(rows)
-}
-
-// The items of each group.
-fn members(alloc: Global, groups: Vec<Group>) -> Result<Vec<Vec<usize>>, AllocError>
-    ensures { IfOk result
-        (λ lists. groups_in lists.items ≡ map (λ g. g.members.items) groups.items) }
-{
-    let mut lists = Vec::new(alloc);
-    for group in groups {
-        let Group { members, .. } = group;
-        lists.push(members)?;
-    }
-    Ok(lists)
 }
 
 impl Augmentation {
@@ -115,10 +94,9 @@ impl Augmentation {
         let ItemPlaces {
             alloc,
             labels,
-            groups,
+            mut groups,
         } = places;
-        let mut lists = members(alloc, groups)?;
-        let rows = list(alloc, &labels, &mut lists)?;
+        let rows = list(alloc, &labels, &mut groups)?;
         Ok(rows)
     }
 }

@@ -1,18 +1,21 @@
 -- What is judged of a final tree, by what was read of it.
-use Rattle.std.proofs.Common.{◌≡◌, ◌⊎◌, ℕ, List, Option, None, subst}
+use Rattle.std.proofs.Common.{◌≡◌, ◌⊎◌, ℕ, ◌-◌, nat_lt, Bool, true, false, if◌then◌else◌, List, [], length, Option, Some, None, inl, inr, refl, sym, ◌∙◌, subst}
+use Rattle.std.specs.List.{slice_get}
+use Rattle.std.proofs.lemmas.Option.{none-some}
 use Rattle.yv_statement.specs.Order.{IsLeast, IsLesser}
 use Rattle.yv_statement.specs.declared.refusal.Refusal.{Refusal}
 use Rattle.yv_statement.proofs.Least.{least_lesser}
 use Rattle.yv_link_scopes.specs.Files.{Files}
 use Rattle.yv_link_scopes.specs.RowList.{rows_of}
 use Rattle.yv_link_scopes.specs.Rows.{Row}
-use Rattle.yv_expand_rounds.specs.Tree.{Tree}
+use Rattle.yv_expand_rounds.specs.Tree.{Tree, none, item}
 use Rattle.yv_expand_rounds.specs.declared.row.ItemRow.{ItemRow}
 use Rattle.yv_expand_refines.specs.Targets.{RefineMeaning}
 use Rattle.yv_expand_augments.specs.Refusals.{BadTarget, TooDeep}
-use Rattle.yv_expand_augments.specs.MandatoryNodes.{ImposesMandatory, MarksView, nothing_around}
+use Rattle.yv_expand_augments.specs.MandatoryNodes.{Around, ImposesMandatory, MarksView, inside, nothing_around}
 use Rattle.yv_expand_augments.specs.Placement.{PutsMisplaced}
 use Rattle.yv_expand_augments.specs.MissingTargets.{MissesTarget}
+use Rattle.yv_expand_uses.specs.Spots.{source_in}
 use Rattle.yv_expand_uses.specs.declared.spot.Spot.{Spot}
 use Rattle.yv_expand_changes.specs.Refusals.{BadRefines}
 use Rattle.yv_expand_changes.specs.Properties.{told_of}
@@ -26,6 +29,25 @@ imposed_same rows spots spots' augments augments' told told' t o p q r h =
     subst (λ (x : MarksView). IsLeast (ImposesMandatory rows spots' augments' x None nothing_around t) o) r
     (subst (λ (ks : List ℕ). IsLeast (ImposesMandatory rows spots' ks told None nothing_around t) o) q
     (subst (λ (ss : List Spot). IsLeast (ImposesMandatory rows ss augments told None nothing_around t) o) p h))
+
+abbrev nothing_listed : List ℕ
+nothing_listed = []
+
+no_source : (items g : ℕ) → source_in items [] g ≡ None
+no_source items g = by_place (nat_lt items g) where
+  by_place : (b : Bool) → (if b then slice_get nothing_listed (g - items - 1) else None) ≡ None
+  by_place true = refl
+  by_place false = refl
+
+-- without augments of modules nothing is imposed
+pub none_imposed : (rows : List Row) (spots : List Spot) (told : MarksView) (parent : Option ℕ) (around : Around) (t : Tree) (r : Refusal)
+    → ImposesMandatory rows spots [] told parent around t r → ⊥
+none_imposed rows spots told parent around none r h = h
+none_imposed rows spots told parent around (item i below behind) r (inl (s, node, augment, at, above, source, refuses)) =
+    none-some augment (sym (no_source (length spots) s.group) ∙ source)
+none_imposed rows spots told parent around (item i below behind) r (inr (inl h)) =
+    none_imposed rows spots told (Some i) (inside spots told i around) below r h
+none_imposed rows spots told parent around (item i below behind) r (inr (inr h)) = none_imposed rows spots told parent around behind r h
 
 module _ (files : Files) (f : Final) (spots : List Spot) (tree : List ItemRow) (is_spots : spots ≡ spots_of files f) (is_tree : tree ≡ final_items f) where
   pub deep_same : (o : Option Refusal) → IsLeast (TooDeep (rows_of files) spots tree) o → IsLeast (TooDeep (rows_of files) (spots_of files f) (final_items f)) o

@@ -39,7 +39,7 @@ pub(crate) fn nodes(alloc: Global, tree: &[ItemRow]) -> Result<Vec<RemainingNode
 {
     // The place of the last node at each depth.
     let mut places = Vec::new(alloc);
-    let mut nodes = Vec::new(alloc);
+    let mut nodes = Vec::with_capacity(alloc, tree.len())?;
     for (place, row) in tree.iter().enumerate() {
         nodes.push(RemainingNode {
             origin: row.number,

@@ -41,6 +41,10 @@ impl Judgement<'_, '_, '_> {
             (spots_of (lent_in self.now.rows.now) final) final.augments
             (told_of (said_of (lent_in self.now.rows.now) final)) None nothing_around final.tree)) }
     {
+        // Most files have no augments of modules, and then nothing need be known of items.
+        if self.augments.is_empty() {
+            return Ok(None);
+        }
         let said = said_of_all(alloc, self.rows, self.items, self.changes)?;
         let told = ItemProperties::of(alloc, &said)?;
         let marks = told.marks();

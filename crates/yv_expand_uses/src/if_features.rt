@@ -106,7 +106,7 @@ pub fn items_on(
         (is_marked own.now)
         marks.items) }
 {
-    let mut marks = Vec::new(alloc);
+    let mut marks = Vec::with_capacity(alloc, items.len())?;
     for (number, item) in items.iter().enumerate() {
         let mark = item_on(
             rows,

@@ -87,8 +87,8 @@ pub(crate) fn label_of(
     ensures { result ≡ label_of (rows_in rows.now) module_file origin given }
 {
     Label {
-        kind: kind_of(rows, origin),
         name: qualified_name(module_file, name_number(names, origin).unwrap_or(0)),
+        kind: kind_of(rows, origin),
         given,
     }
 }

@@ -178,7 +178,7 @@ impl Plan<'_, '_, '_> {
             (λ layout. laid_in layout ≡ layout_of (whole_in self.now) items.now) }
         ensures few { IfOk result (λ layout. layout.copies < 2 ^ 63) }
     {
-        let mut spots = Vec::new(alloc);
+        let mut spots = Vec::with_capacity(alloc, items.len())?;
         let mut copies = Vec::new(alloc);
         copies.extend_from_slice(self.augments)?;
         for item in items {

@@ -7,14 +7,14 @@ use yv_expand_rounds::Label;
 pub struct Spot {
     /// The number of the statement that gives it.
     pub statement: usize,
-    /// The file of the module to which it belongs (RFC 7950, sections 7.13 and 7.17).
-    pub module_file: u32,
-    /// Its kind, the number of its module and name, and whether an augment of a module gives it.
-    pub label: Label,
     /// The group that it is in: 0 at the top, and one more than the number of the node above it. A
     /// uses is where the nodes that it copies are. What an augment gives is in a group after the
     /// groups of items, until it is applied.
     pub group: usize,
     /// Of a uses the number of the first copy of its augments that give something.
     pub first: usize,
+    /// The number of its module and name, its kind, and whether an augment of a module gives it.
+    pub label: Label,
+    /// The file of the module to which it belongs (RFC 7950, sections 7.13 and 7.17).
+    pub module_file: u32,
 }

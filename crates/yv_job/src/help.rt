@@ -1,6 +1,6 @@
 //! The texts of `--help`.
 
-pub const VERSION: &str = "0.2.0 (rattle-kit-13b logic dac8208d650f15bf)";
+pub const VERSION: &str = "0.2.0 (rattle-kit-13f logic dac8208d650f15bf)";
 
 /// What `--help` says of the program or of one of its commands: in a line, before the options, and
 /// after them.

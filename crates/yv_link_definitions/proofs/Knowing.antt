@@ -1,18 +1,21 @@
 -- What readers are told.
 use Rattle.std.proofs.Common.{◌≡◌, ℕ, ◌+◌, ◌<◌, ◌≤◌, ◌↔◌, inl, inr, zero, suc, List, [], ◌∷◌, ◌++◌, length, map, Option, Some, None, refl, sym, ◌∙◌, ap, subst, arith}
 use Rattle.std.specs.List.{slice_get}
-use Rattle.std.specs.Option.{option_and_then, option_map}
+use Rattle.std.specs.Option.{option_and_then}
+use Rattle.std.specs.Prelude.{IfSome}
 use Rattle.std.proofs.lemmas.Bool.{cases_lt}
-use Rattle.std.proofs.lemmas.Option.{same_Some, slice_get-map, slice_get_within}
+use Rattle.std.proofs.lemmas.Option.{same_Some, slice_get_within}
 use Rattle.yv_link_scopes.specs.Files.{Briefs, Files, brief_of}
 use Rattle.yv_link_scopes.specs.Rows.{Row}
 use Rattle.yv_link_scopes.specs.RowList.{rows_of}
 use Rattle.yv_link_definitions.specs.Refers.{RefersTo}
 use Rattle.yv_link_definitions.specs.References.{RefersAt, number_at, ref_of}
+use Rattle.yv_link_definitions.specs.InnerPlaces.{ref_in}
 use Rattle.yv_link_definitions.specs.Meanings.{AreNames, definition_in, meant_in}
 use Rattle.yv_link_definitions.specs.declared.references.DefRef.{DefRef}
 use Rattle.yv_link_definitions.specs.declared.meaning_table.Names.{Names}
 use Rattle.yv_link_definitions.proofs.Joining.{pushed_at}
+use Rattle.yv_link_definitions.proofs.Naming.{meant_definition, meant_within}
 
 -- one more meaning
 inner_some : (o : Option (Option ℕ)) (d : ℕ) → option_and_then (λ m. m) o ≡ Some d → o ≡ Some (Some d)
@@ -57,43 +60,47 @@ meant_all files rows n xs past h k d = (
   λ r. (h k d).1 ((let w = slice_get_within rows k r.1.statement r.1.at in omega (arith, w, past)), r),
 )
 
--- a reference among those to statements
-from_map : (o : Option Row) (ref : DefRef) → option_map ref_of o ≡ Some ref → (r : Row) × (o ≡ Some r) × (ref ≡ ref_of r)
-from_map None ref e = absurd (let bad : None ≡ Some ref = e in cc)
-from_map (Some r) ref e = (r, refl, sym (same_Some (ref_of r) ref e))
+-- what is meant has a number of 32 bits
+pub meant_fits : (files : Briefs) (rows : List Row) (n : ℕ) (o : Option ℕ) → length rows ≤ 4294967293 → ((d : ℕ) → (o ≡ Some d) ↔ RefersTo files rows n d) → IfSome o (λ d. d < 4294967296)
+meant_fits files rows n None few gives = tt
+meant_fits files rows n (Some d) few gives = let w = meant_within files rows _ n d ((gives d).0 refl).1 in omega (arith, w, few)
 
 from_both : (o : Option ℕ) (f : ℕ → Option DefRef) (ref : DefRef) → option_and_then f o ≡ Some ref → (d : ℕ) × (o ≡ Some d) × (f d ≡ Some ref)
 from_both None f ref e = absurd (let bad : None ≡ Some ref = e in cc)
 from_both (Some d) f ref e = (d, refl, e)
 
 module _ (files : Files) (names : Names) (t : AreNames files names) where
-  at_row : (d : ℕ) → slice_get names.refs.items d ≡ option_map ref_of (slice_get (rows_of files) d)
-  at_row d = ap (λ l. slice_get l d) (sym t.refs) ∙ slice_get-map ref_of (rows_of files) d
-
   -- what is told of the statement of a number
   pub told : (word : List ℕ) (file offset number : ℕ) (o : Option DefRef) → number_at (rows_of files) word file offset ≡ Some number → o ≡ definition_in names number → (ref : DefRef) → (o ≡ Some ref) ↔ RefersAt files word file offset ref
   told word file offset number o stands is ref = (to, from)
     where
+      at_definition : (d : ℕ) → RefersTo (map brief_of files) (rows_of files) number d → (r : Row) × (slice_get (rows_of files) d ≡ Some r) × (ref_in names.definitions d ≡ Some (ref_of r))
+      at_definition d h =
+          let p = meant_definition (map brief_of files) (rows_of files) number d h in
+          (p.0, p.1, t.refs d p.0 p.1 p.2)
+
       to : o ≡ Some ref → RefersAt files word file offset ref
       to e =
-          let p = from_both (meant_in names number) (λ d. slice_get names.refs.items d) ref (sym is ∙ e) in
-          let q = from_map (slice_get (rows_of files) p.0) ref (sym (at_row p.0) ∙ p.2) in
+          let p = from_both (meant_in names number) (ref_in names.definitions) ref (sym is ∙ e) in
+          let refers = (t.meant number p.0).0 p.1 in
+          let q = at_definition p.0 refers in
           record {
             number = number;
             stands = stands;
             meant = p.0;
-            refers = (t.meant number p.0).0 p.1;
+            refers = refers;
             definition = q.0;
             at = q.1;
-            is = q.2;
+            is = same_Some ref (ref_of q.0) (sym p.2 ∙ q.2);
           }
 
       from : RefersAt files word file offset ref → o ≡ Some ref
       from h =
           let same : h.number ≡ number = same_Some h.number number (sym h.stands ∙ stands) in
-          let meant : meant_in names number ≡ Some h.meant = (t.meant number h.meant).1 (subst (λ k. RefersTo (map brief_of files) (rows_of files) k h.meant) same h.refers) in
+          let refers : RefersTo (map brief_of files) (rows_of files) number h.meant = subst (λ k. RefersTo (map brief_of files) (rows_of files) k h.meant) same h.refers in
+          let q = at_definition h.meant refers in
+          let one : q.0 ≡ h.definition = same_Some q.0 h.definition (sym q.1 ∙ h.at) in
           is
-          ∙ ap (option_and_then (λ d. slice_get names.refs.items d)) meant
-          ∙ at_row h.meant
-          ∙ ap (option_map ref_of) h.at
-          ∙ ap Some (sym h.is)
+          ∙ ap (option_and_then (ref_in names.definitions)) ((t.meant number h.meant).1 refers)
+          ∙ q.2
+          ∙ ap Some (ap ref_of one ∙ sym h.is)

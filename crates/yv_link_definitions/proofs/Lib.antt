@@ -8,3 +8,6 @@ pub mod Faulty
 pub mod Knowing
 pub mod Unknown
 pub mod Told
+pub mod BuiltIns
+pub mod Defining
+pub mod Rising

@@ -1,10 +1,13 @@
 -- What is told of all statements.
-use Rattle.std.proofs.Common.{◌≡◌, ℕ, List, length, map, codes, Option, sym, ◌∙◌, ap, subst, arith}
+use Rattle.std.proofs.Common.{◌≡◌, ℕ, List, length, true, Some, codes, Option, sym, ◌∙◌, ap, subst, arith}
+use Rattle.std.specs.List.{slice_get}
 use Rattle.std.proofs.lemmas.List.{take_all}
+use Rattle.std.proofs.lemmas.Option.{slice_get_within}
 use Rattle.yv_link_scopes.specs.Files.{Briefs}
 use Rattle.yv_link_scopes.specs.Rows.{Row}
 use Rattle.yv_link_definitions.specs.References.{number_at, ref_of}
-use Rattle.yv_link_definitions.specs.InnerPlaces.{placed_in}
+use Rattle.yv_link_definitions.specs.Places.{placed_in}
+use Rattle.yv_link_definitions.specs.InnerPlaces.{is_definition, ref_in}
 use Rattle.yv_link_definitions.specs.InnerAnswers.{AreMeant, TellFirst}
 use Rattle.yv_link_definitions.specs.declared.answers.Answers.{Answers}
 use Rattle.yv_link_definitions.proofs.Knowing.{meant_all}
@@ -13,8 +16,8 @@ module _ (files : Briefs) (rows : List Row) (answers : Answers) (told : TellFirs
   pub meanings_told : AreMeant files rows answers.meanings.items
   meanings_told = record { exact = meant_all files rows (length rows) answers.meanings.items (omega arith) told.meant }
 
-  pub refs_told : map ref_of rows ≡ answers.refs.items
-  refs_told = ap (map ref_of) (sym (take_all (length rows) rows (omega arith))) ∙ told.refs
+  pub refs_told : (d : ℕ) (r : Row) → slice_get rows d ≡ Some r → is_definition r ≡ true → ref_in answers.definitions d ≡ Some (ref_of r)
+  refs_told d r at is = told.refs d r (slice_get_within rows d r at) at is
 
   pub types_told : (file offset : ℕ) → placed_in answers.types file offset ≡ number_at rows (codes "type") file offset
   types_told file offset = told.types file offset ∙ ap (λ xs. number_at xs (codes "type") file offset) (take_all (length rows) rows (omega arith))

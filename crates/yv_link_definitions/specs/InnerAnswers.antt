@@ -1,12 +1,13 @@
 -- Inner definitions, which only private clauses cite: what is told of the first statements.
-use Rattle.std.specs.Prelude.{◌≡◌, ◌↔◌, ℕ, ◌<◌, List, length, map, take, Option, Some, codes}
+use Rattle.std.specs.Prelude.{◌≡◌, ◌↔◌, ℕ, ◌<◌, List, length, take, Option, Some, codes}
 use Rattle.std.specs.List.{slice_get}
 use Rattle.std.specs.Option.{option_and_then}
 use Rattle.yv_link_scopes.specs.Files.{Briefs}
 use Rattle.yv_link_scopes.specs.Rows.{Row}
 use Rattle.yv_link_definitions.specs.Refers.{RefersTo}
-use Rattle.yv_link_definitions.specs.References.{number_at, ref_of}
-use Rattle.yv_link_definitions.specs.InnerPlaces.{placed_in}
+use Rattle.yv_link_definitions.specs.References.{number_at}
+use Rattle.yv_link_definitions.specs.Places.{placed_in}
+use Rattle.yv_link_definitions.specs.InnerPlaces.{ReferToFirst}
 use Rattle.yv_link_definitions.specs.declared.answers.Answers.{Answers}
 
 abbrev pub meant_at : List (Option ℕ) → ℕ → Option ℕ
@@ -21,7 +22,7 @@ pub record TellFirst (files : Briefs) (rows : List Row) (n : ℕ) (answers : Ans
   pub each : length answers.meanings.items ≡ n
   pub meant : (k d : ℕ) → (meant_at answers.meanings.items k ≡ Some d)
       ↔ ((k < n) × RefersTo files rows k d)
-  pub refs : map ref_of (take n rows) ≡ answers.refs.items
+  pub refs : ReferToFirst rows n answers.definitions
   pub types : (file offset : ℕ) → placed_in answers.types file offset
       ≡ number_at (take n rows) (codes "type") file offset
   pub uses : (file offset : ℕ) → placed_in answers.uses file offset

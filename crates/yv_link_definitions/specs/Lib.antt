@@ -6,6 +6,9 @@ pub mod Refusals
 pub mod References
 pub mod Meanings
 pub mod InnerGraph
+pub mod Lookups
+pub mod Places
+pub mod InnerRising
 pub mod InnerPlaces
 pub mod InnerAnswers
 pub mod InnerDuplicates

@@ -18,7 +18,7 @@ impl Draft<'_, '_, '_> {
     fn cycle_refusal(
         &self,
         alloc: Global,
-        meanings: &[Option<usize>],
+        meanings: &[Option<u32>],
         steps: &[Vec<usize>],
     ) -> Result<Refusal, AllocError>
         requires meant { let rows = self.now.rows.now
@@ -38,7 +38,7 @@ impl Draft<'_, '_, '_> {
 
     // The numbers of all statements, each definition behind all to which it leads; or the least
     // refusal.
-    fn order(&self, alloc: Global, meanings: &[Option<usize>]) -> Result<Vec<usize>, Stop>
+    fn order(&self, alloc: Global, meanings: &[Option<u32>]) -> Result<Vec<usize>, Stop>
         requires { let rows = self.now.rows.now
             in AreMeant (files_in rows) (rows_in rows) meanings.now }
         ensures makes { let rows = self.now.rows.now
@@ -79,7 +79,7 @@ pub fn names<'a, 'b>(alloc: Global, rows: &Rows<'a, 'b>) -> Result<Names, Stop>
     };
     Ok(Names {
         meanings: answers.meanings,
-        refs: answers.refs,
+        definitions: answers.definitions,
         types: answers.types,
         uses: answers.uses,
         order,

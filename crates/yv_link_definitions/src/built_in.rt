@@ -1,5 +1,6 @@
 //! The types that need no typedef.
-ghost use Rattle.std.specs.Prelude.{◌≡◌};
+ghost use Rattle.std.specs.Prelude.{◌≡◌, ◌∷◌, ℕ, List, map};
+ghost use Rattle.yv_statement.specs.Words.{is_among};
 ghost use Rattle.yv_link_definitions.specs.BuiltIn.{is_built_in};
 
 use yv_statement::is_among;
@@ -27,10 +28,29 @@ pub static BUILT_INS: [&str; 19] = [
     "union",
 ];
 
-/// Whether a name is that of a built-in type.
-#[tactic(auto, unfolding(crate::specs::BuiltIn::is_built_in))]
+// The built-in types of which the names begin with a byte.
+fn beginning_with(byte: u8) -> &'static [&'static str]
+    ensures { (rest : List ℕ) → is_among (map (λ w. w.now) result.now) (byte ∷ rest)
+        ≡ is_built_in (byte ∷ rest) }
+{
+    match byte {
+        b'b' => &BUILT_INS[..3],
+        b'd' => &BUILT_INS[3..4],
+        b'e' => &BUILT_INS[4..6],
+        b'i' => &BUILT_INS[6..12],
+        b'l' => &BUILT_INS[12..13],
+        b's' => &BUILT_INS[13..14],
+        b'u' => &BUILT_INS[14..],
+        _ => &[],
+    }
+}
+
+/// Whether a name is that of a built-in type. It is compared only with those of its first byte.
 pub fn is_built_in(name: &str) -> bool
     ensures { result ≡ is_built_in name.now }
 {
-    is_among(&BUILT_INS, name)
+    match name.as_bytes().first() {
+        Some(byte) => is_among(beginning_with(*byte), name),
+        None => false,
+    }
 }

@@ -13,10 +13,15 @@ mod leads;
 mod meaning_table;
 mod meanings;
 mod pairs;
+mod place;
+mod place_list;
 mod references;
 mod refusals;
+mod type_places;
 
 pub use build::names;
 pub use built_in::{BUILT_INS, is_built_in};
 pub use meaning_table::Names;
+pub use place_list::PlaceList;
 pub use references::DefRef;
+pub use type_places::places_of_types;

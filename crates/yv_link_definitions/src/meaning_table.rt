@@ -2,15 +2,18 @@
 ghost use Rattle.std.specs.Prelude.{◌≡◌, ◌↔◌, ℕ, Some, map, codes};
 ghost use Rattle.yv_link_scopes.specs.{Files.{Files, brief_of}, RowList.{rows_of}};
 
-use crate::references::{DefRef, References};
+use crate::meanings::meant_at;
+use crate::place_list::PlaceList;
+use crate::references::DefRef;
+use std::collections::BTreeMap;
 
 /// What types and uses mean in files in which nothing is wrong with the names of definitions.
 #[derive(Drop)]
 pub struct Names {
-    pub(crate) meanings: Vec<Option<usize>>,
-    pub(crate) refs: Vec<DefRef>,
-    pub(crate) types: References,
-    pub(crate) uses: References,
+    pub(crate) meanings: Vec<Option<u32>>,
+    pub(crate) definitions: BTreeMap<usize, DefRef>,
+    pub(crate) types: PlaceList,
+    pub(crate) uses: PlaceList,
     pub(crate) order: Vec<usize>,
 }
 
@@ -21,7 +24,7 @@ impl Names {
     fn definition_at(&self, number: usize) -> Option<usize>
         ensures { result ≡ meant_in self.now number }
     {
-        *self.meanings.get(number)?
+        meant_at(&self.meanings, number)
     }
 
     // The reference to the definition that the statement of a number means.
@@ -29,7 +32,7 @@ impl Names {
         ensures { result ≡ definition_in self.now number }
     {
         let meant = self.definition_at(number)?;
-        self.refs.get(meant).copied()
+        self.definitions.get(&meant).copied()
     }
 
     /// The number of the typedef that the type of this number means, or of the grouping that the
@@ -41,8 +44,8 @@ impl Names {
         self.definition_at(number)
     }
 
-    /// The typedef that the type statement at an offset of a file means. None where there is no
-    /// such statement, and for built-in types.
+    /// The typedef that the type statement at an offset of a file means, in time log n. None where
+    /// there is no such statement, and for built-in types.
     pub fn typedef(&self, file: u32, offset: u64) -> Option<DefRef>
         ensures { (files : Files) → AreNames files self.now
             → (ref : DefRef) → (result ≡ Some ref) ↔ RefersAt files (codes "type") file offset ref }
@@ -51,8 +54,8 @@ impl Names {
         self.definition(number)
     }
 
-    /// The grouping that the uses statement at an offset of a file means. None where there is no
-    /// such statement.
+    /// The grouping that the uses statement at an offset of a file means, in time log n. None where
+    /// there is no such statement.
     pub fn grouping(&self, file: u32, offset: u64) -> Option<DefRef>
         ensures { (files : Files) → AreNames files self.now
             → (ref : DefRef) → (result ≡ Some ref) ↔ RefersAt files (codes "uses") file offset ref }

@@ -58,10 +58,11 @@ pub(crate) fn meant_kind(entry: &Entry<'_, '_>) -> NameKind
 }
 
 /// The number of the definition that a numbered statement means.
-pub(crate) fn meant_at(meanings: &[Option<usize>], number: usize) -> Option<usize>
+pub(crate) fn meant_at(meanings: &[Option<u32>], number: usize) -> Option<usize>
     ensures { result ≡ meant_at meanings.now number }
 {
-    *meanings.get(number)?
+    let meant = (*meanings.get(number)?)?;
+    Some(meant as usize)
 }
 
 impl<'a, 'b> Draft<'_, 'a, 'b> {
@@ -83,7 +84,7 @@ impl<'a, 'b> Draft<'_, 'a, 'b> {
     pub(crate) fn is_unknown(
         &self,
         kind: NameKind,
-        meanings: &[Option<usize>],
+        meanings: &[Option<u32>],
         number: usize,
         entry: &Entry<'a, 'b>,
     ) -> bool

@@ -23,7 +23,7 @@ impl<'a, 'b> Draft<'_, 'a, 'b> {
     // The definition for which a statement counts, and that which it means.
     fn pair(
         &self,
-        meanings: &[Option<usize>],
+        meanings: &[Option<u32>],
         number: usize,
         entry: &Entry<'a, 'b>,
     ) -> Option<(usize, usize)>
@@ -43,7 +43,7 @@ impl<'a, 'b> Draft<'_, 'a, 'b> {
     pub(crate) fn steps(
         &self,
         alloc: Global,
-        meanings: &[Option<usize>],
+        meanings: &[Option<u32>],
     ) -> Result<Vec<Vec<usize>>, AllocError>
         requires { let rows = self.now.rows.now
             in AreMeant (files_in rows) (rows_in rows) meanings.now }

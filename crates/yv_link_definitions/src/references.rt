@@ -1,11 +1,14 @@
 //! References to definitions, and where statements are.
-ghost use Rattle.std.specs.Prelude.{◌≡◌, ◌+◌, ℕ, List, take, Some, None, OnOk, slice_get};
+ghost use Rattle.std.specs.Prelude.{◌≡◌, ◌+◌, ◌<◌, ℕ, List, take, Some, OnOk, slice_get};
 ghost use Rattle.yv_link_scopes.specs.{Rows.{Row, row}, Files.{has_word}};
-ghost use Rattle.yv_link_definitions.specs.{References.{number_at, ref_of}, InnerPlaces.{placed_in, keep_first}};
+ghost use Rattle.yv_link_definitions.specs.{References.{number_at, ref_of}, Places.{placed_in}, InnerPlaces.{ReferToFirst, is_definition}};
 
-use std::alloc::{AllocError, Global};
+use crate::draft::is_of;
+use crate::place::Place;
+use crate::place_list::PlaceList;
+use std::alloc::AllocError;
 use std::collections::BTreeMap;
-use yv_link_scopes::Entry;
+use yv_link_scopes::{Entry, NameKind};
 
 /// A typedef or a grouping, by its statement's file and offset.
 #[derive(Clone, Copy, Debug, PartialEq, Eq)]
@@ -14,12 +17,25 @@ pub struct DefRef {
     pub offset: u64,
 }
 
-/// The reference to a statement.
-pub(crate) fn reference(entry: &Entry<'_, '_>) -> DefRef
+// The reference to a statement.
+fn reference(entry: &Entry<'_, '_>) -> DefRef
     ensures { result ≡ ref_of (row entry.now) }
 {
     DefRef {
         file: entry.file,
+        offset: entry.statement.offset(),
+    }
+}
+
+// Where a statement of a number is.
+fn place_of(number: usize, entry: &Entry<'_, '_>) -> Place
+    requires { number < 4294967296 }
+    ensures { let r = row entry.now
+        in result ≡ record { file = r.file; number = number; offset = r.head.offset } }
+{
+    Place {
+        file: entry.file,
+        number: number as u32,
         offset: entry.statement.offset(),
     }
 }
@@ -31,54 +47,44 @@ fn has_word(entry: &Entry<'_, '_>, word: &str) -> bool
     entry.statement.keyword() == word
 }
 
-/// For each place in a file the number of the first statement of a keyword there.
-#[derive(Drop)]
-pub(crate) struct References {
-    map: BTreeMap<(u32, u64), usize>,
+/// Keeps the place of the next statement, where it has the keyword.
+pub(crate) fn add_place(
+    list: &mut PlaceList,
+    word: &str,
+    number: usize,
+    entry: &Entry<'_, '_>,
+) -> Result<(), AllocError>
+    requires { number < 4294967296 }
+    ensures { (rows : List Row) → slice_get rows number ≡ Some (row entry.now)
+        → ((f o : ℕ) → placed_in list.old f o ≡ number_at (take number rows) word.now f o)
+        → OnOk result ((f o : ℕ)
+        → placed_in list.new f o ≡ number_at (take (number + 1) rows) word.now f o) }
+{
+    if has_word(entry, word) {
+        list.add(place_of(number, entry))?;
+    }
+    Ok(())
 }
 
-impl References {
-    /// No places.
-    pub(crate) fn new(alloc: Global) -> References
-        ensures { (f o : ℕ) → placed_in result f o ≡ None }
-    {
-        References {
-            map: BTreeMap::new(alloc),
-        }
-    }
+// Whether a statement is a typedef or a grouping.
+fn is_definition(entry: &Entry<'_, '_>) -> bool
+    ensures { result ≡ is_definition (row entry.now) }
+{
+    is_of(NameKind::Typedef, entry) || is_of(NameKind::Grouping, entry)
+}
 
-    /// Keeps the place of the next statement, where it has the keyword.
-    pub(crate) fn add(
-        &mut self,
-        word: &str,
-        number: usize,
-        entry: &Entry<'_, '_>,
-    ) -> Result<(), AllocError>
-        ensures { (rows : List Row) → slice_get rows number ≡ Some (row entry.now)
-            → ((f o : ℕ) → placed_in self.old f o ≡ number_at (take number rows) word.now f o)
-            → OnOk result ((f o : ℕ)
-            → placed_in self.new f o ≡ number_at (take (number + 1) rows) word.now f o) }
-    {
-        if has_word(entry, word) {
-            self.keep(entry.file, entry.statement.offset(), number)?;
-        }
-        Ok(())
+/// Keeps the reference to the next statement, where it is a definition.
+pub(crate) fn add_definition(
+    definitions: &mut BTreeMap<usize, DefRef>,
+    number: usize,
+    entry: &Entry<'_, '_>,
+) -> Result<(), AllocError>
+    ensures { (rows : List Row) → slice_get rows number ≡ Some (row entry.now)
+        → ReferToFirst rows number definitions.old
+        → OnOk result (ReferToFirst rows (number + 1) definitions.new) }
+{
+    if is_definition(entry) {
+        definitions.insert(number, reference(entry))?;
     }
-
-    /// The number of the first statement at an offset of a file.
-    pub(crate) fn get(&self, file: u32, offset: u64) -> Option<usize>
-        ensures { result ≡ placed_in self.now file offset }
-    {
-        self.map.get(&(file, offset)).copied()
-    }
-
-    // Puts a number at a place, where there is none yet.
-    fn keep(&mut self, file: u32, offset: u64, number: usize) -> Result<(), AllocError>
-        ensures { OnOk result ((f o : ℕ)
-            → placed_in self.new f o ≡ keep_first (placed_in self.old) file offset number f o) }
-    {
-        // One search finds the place or makes room for it; the first number stays.
-        self.map.entry((file, offset))?.or_insert(number);
-        Ok(())
-    }
+    Ok(())
 }

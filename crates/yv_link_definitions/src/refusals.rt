@@ -51,7 +51,7 @@ impl<'a, 'b> Draft<'_, 'a, 'b> {
     // What is wrong with a statement.
     fn row_refusal(
         &self,
-        meanings: &[Option<usize>],
+        meanings: &[Option<u32>],
         cycles: &[bool],
         number: usize,
         entry: &Entry<'a, 'b>,
@@ -91,11 +91,7 @@ impl<'a, 'b> Draft<'_, 'a, 'b> {
 
     /// The least that is wrong, the meanings being known, and those definitions being marked that
     /// lead to themselves.
-    pub(crate) fn first_refusal(
-        &self,
-        meanings: &[Option<usize>],
-        cycles: &[bool],
-    ) -> Option<Refusal>
+    pub(crate) fn first_refusal(&self, meanings: &[Option<u32>], cycles: &[bool]) -> Option<Refusal>
         requires meant { let rows = self.now.rows.now
             in AreMeant (files_in rows) (rows_in rows) meanings.now }
         requires cycles { let rows = self.now.rows.now

@@ -7,3 +7,5 @@ pub mod Mixing
 pub mod Keeping
 pub mod Refusing
 mod Namesakes
+mod Pairing
+mod Shifting

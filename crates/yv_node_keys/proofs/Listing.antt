@@ -85,3 +85,13 @@ module _ {A B : Type 0} (g : A → B) (xs : List A) (i : ℕ) (x : A) (at : slic
       ∙ ap (λ z. map k (map g (take i xs)) ++ z ∷ []) here
       ∙ sym (map_push k (map g (take i xs)) (g x))
       ∙ sym (ap (map k) one_more)
+
+-- one more of what two lists say alike
+pub lists_more : {A B C : Type 0} (h : C → B) (g : A → B) (xs : List A) (i : ℕ) (x : A) (y : C) (old new : List C) → slice_get xs i ≡ Some x → h y ≡ g x → new ≡ old ++ y ∷ [] → map h old ≡ map g (take i xs)
+    → map h new ≡ map g (take (i + 1) xs)
+lists_more h g xs i x y old new at here now before =
+    ap (map h) now
+    ∙ map_push h old y
+    ∙ ap (λ l. l ++ h y ∷ []) before
+    ∙ ap (λ z. map g (take i xs) ++ z ∷ []) here
+    ∙ sym (one_more g xs i x at)

@@ -16,7 +16,7 @@ use Rattle.yv_node_definition.specs.Steps.{Step}
 use Rattle.yv_node_definition.specs.Definition.{TextInFile, own_default}
 use Rattle.yv_node_keys.specs.Targets.{Waypoint, at_node, at_shorthand_case, arrive, default_case, module_file_of, is_called, key_leaf, leaf_among, leaf_at_end, leaf_in, leaf_at, follow_step, child_named, child_of_text, step_to, unique_leaf}
 use Rattle.yv_node_keys.specs.Numbers.{arrived_at, case_of, child_at, children_of, default_of, default_case_at, is_called_at, is_some_called, is_kind_at, is_some_kind, key_leaf_at, leaf_at_end_of, leaf_below, leaf_of, led_at, led_by_at, module_file_at, module_file_of_row, stepped_at, tree_at, tree_in, unique_leaf_at}
-use Rattle.yv_node_keys.specs.Refusals.{is_bad_statement, is_config_leaf, is_state_leaf}
+use Rattle.yv_node_keys.specs.Refusals.{is_bad_key, is_bad_statement, is_config_leaf, is_state_leaf}
 use Rattle.yv_node_keys.specs.InnerMixedConfig.{is_bad_statement_at, is_some_config, is_config_of}
 use Rattle.yv_node_keys.specs.InnerSpots.{Sits, Spot, node_id, place_of, row_of, spots}
 use Rattle.yv_node_keys.specs.declared.place.Way.{Way}
@@ -275,3 +275,13 @@ module _ (all : Forest) where
       ap (λ (b : Bool). b || (list_any (λ path. is_config_of rows true (unique_leaf_at rows list path)) paths && list_any (λ path. is_config_of rows false (unique_leaf_at rows list path)) paths)) missing
       ∙ ap (λ (b : Bool). list_any (λ path. not (is_some (unique_leaf t path))) paths || (b && list_any (λ path. is_config_of rows false (unique_leaf_at rows list path)) paths)) config
       ∙ ap (λ (b : Bool). list_any (λ path. not (is_some (unique_leaf t path))) paths || (list_any (λ path. is_config_leaf (unique_leaf t path)) paths && b)) state
+
+-- names lead to no leaf by numbers where they lead to none in the tree
+pub missing_by : (ts : Forest) (rows : List Row) (list : NodeId) (p : Place) (keys : List (Option Step)) → rows ≡ rows_from 0 ts → slice_get (places ts) list.0 ≡ Some p
+    → list_any (λ s. not (is_some (key_leaf_at rows list s))) keys ≡ is_bad_key (tree_in p) keys
+missing_by ts rows list p keys are at = any_same (λ s. not (is_some (key_leaf_at rows list s))) (λ s. not (is_some (key_leaf (tree_in p) s))) same keys
+  where
+    same : (s : Option Step) → not (is_some (key_leaf_at rows list s)) ≡ not (is_some (key_leaf (tree_in p) s))
+    same s =
+        ap (λ (rs : List Row). not (is_some (key_leaf_at rs list s))) are
+        ∙ ap not (both_there (tree_at ts) _ _ (key_is ts list (tree_in p) s (ap (option_map tree_in) at)))

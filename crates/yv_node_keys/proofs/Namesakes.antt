@@ -1,5 +1,5 @@
 -- Nodes that are known to have a name, by what earlier nodes name.
-use Rattle.std.proofs.Common.{◌≡◌, ◌==◌, ℕ, ◌<◌, Bool, true, false, ◌&&◌, cond, List, [], ◌∷◌, length, map, Option, Some, None, get_or, refl, sym, ap, ◌∙◌, subst, Vec, Global, IfSome, arith}
+use Rattle.std.proofs.Common.{◌≡◌, ◌==◌, ℕ, ◌<◌, Bool, true, false, ◌&&◌, cond, List, [], ◌∷◌, length, map, Option, Some, None, get_or, refl, sym, ap, ◌∙◌, subst, Vec, Global, arith}
 use Rattle.std.specs.List.{find, slice_get}
 use Rattle.std.specs.Option.{option_and_then, option_map}
 use Rattle.std.specs.Str.{bytes_eq}
@@ -9,17 +9,17 @@ use Rattle.yv_node_definition.specs.Definition.{Definition, TextInFile, own_defa
 use Rattle.yv_node_definition.specs.Kinds.{is_choice, is_leaf}
 use Rattle.yv_node_definition.specs.Steps.{Step}
 use Rattle.yv_nodes.specs.declared.node.NodeId.{NodeId}
-use Rattle.yv_nodes.specs.Alike.{untyped, untyped_at}
+use Rattle.yv_nodes.specs.Alike.{untyped_at}
 use Rattle.yv_nodes.specs.Rows.{Row, blank_row}
-use Rattle.yv_node_keys.specs.Targets.{is_called, module_file_of}
-use Rattle.yv_node_keys.specs.Numbers.{case_of, child_at, children_at, default_case_at, default_of, is_called_at, is_kind_at, is_some_called, key_leaf_at, leaf_of, module_file_at}
-use Rattle.yv_node_keys.specs.InnerNamesakes.{HasName, HaveName, HaveNames, NamesDefault}
+use Rattle.yv_node_keys.specs.Targets.{module_file_of}
+use Rattle.yv_node_keys.specs.Numbers.{case_of, child_at, children_at, default_of, is_called_at, is_kind_at, is_some_called, key_leaf_at, leaf_of, module_file_at, unique_leaf_at}
+use Rattle.yv_node_keys.specs.InnerNamesakes.{HasName, HaveNames, NamesDefault}
 use Rattle.yv_node_keys.specs.InnerSpots.{node_id}
-use Rattle.yv_node_keys.specs.InnerTargets.{AreLeafsOf, HasCase, HasLeafs, keys_in}
+use Rattle.yv_node_keys.specs.InnerTargets.{AreLeafsOf, HasCase, HasLeafs, keys_in, uniques_in}
 use Rattle.yv_node_keys.specs.declared.targets.ListLeafs.{ListLeafs}
 
 -- what is found passes
-found_passes : {A : Type 0} (p : A → Bool) (xs : List A) (x : A) → find p xs ≡ Some x → p x ≡ true
+pub found_passes : {A : Type 0} (p : A → Bool) (xs : List A) (x : A) → find p xs ≡ Some x → p x ≡ true
 found_passes p [] x e = absurd (let bad : None ≡ Some x = e in cc)
 found_passes {A} p (y ∷ ys) x e = by (found_passes p ys x) (p y) refl e
   where
@@ -73,6 +73,28 @@ leafs_called rows f (Some leafs) keys lt right same = λ i s n at there.
     let right : slice_get (map g keys) i ≡ Some (g (Some s)) = slice_get-map g keys i ∙ ap (option_map g) at in
     let both : Some (g (Some s)) ≡ Some (Some n) = sym right ∙ ap (λ (ks : List (Option Step)). slice_get (map g ks) i) same ∙ ap (λ (xs : List (Option NodeId)). slice_get xs i) (sym are.keys) ∙ left in
     leaf_called rows (node_id f) s n (same_Some (g (Some s)) (Some n) both)
+
+-- the leafs that are kept of a list are those that its key names
+pub leafs_known : (rows : List Row) (f : NodeId) (kept : Option ListLeafs) (keys : List (Option Step)) → f.0 < length rows
+    → ((leafs : ListLeafs) → kept ≡ Some leafs → HasLeafs rows f.0 (Some leafs)) → keys ≡ (untyped_at rows f.0).keys
+    → length (keys_in kept) ≡ length keys → map (λ n. Some n) (keys_in kept) ≡ map (key_leaf_at rows f) keys
+leafs_known rows f None [] lt right same long = refl
+leafs_known rows f None (key ∷ keys) lt right same long = absurd (omega (arith, long))
+leafs_known rows f (Some leafs) keys lt right same long =
+    let r : Row = get_or rows f.0 blank_row in
+    let are : AreLeafsOf rows f.0 r (Some leafs) = right leafs refl r (slice_get-get_or rows f.0 blank_row lt) in
+    are.keys ∙ ap (map (key_leaf_at rows f)) (sym same)
+
+-- the leafs that are kept of a list are those that its `unique` statements name
+pub uniques_known : (rows : List Row) (f : NodeId) (kept : Option ListLeafs) (uniques : List (List (List (Option Step)))) → f.0 < length rows
+    → ((leafs : ListLeafs) → kept ≡ Some leafs → HasLeafs rows f.0 (Some leafs)) → uniques ≡ (untyped_at rows f.0).uniques
+    → length (uniques_in kept) ≡ length uniques → map (λ (v : Vec NodeId Global). map (λ n. Some n) v.items) (uniques_in kept) ≡ map (map (unique_leaf_at rows f)) uniques
+uniques_known rows f None [] lt right same long = refl
+uniques_known rows f None (paths ∷ uniques) lt right same long = absurd (omega (arith, long))
+uniques_known rows f (Some leafs) uniques lt right same long =
+    let r : Row = get_or rows f.0 blank_row in
+    let are : AreLeafsOf rows f.0 r (Some leafs) = right leafs refl r (slice_get-get_or rows f.0 blank_row lt) in
+    are.uniques ∙ ap (map (map (unique_leaf_at rows f))) (sym same)
 
 -- what the default of a choice says, by what is said of it
 default_in : Definition → Option TextInFile

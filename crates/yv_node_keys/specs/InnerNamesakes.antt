@@ -1,5 +1,5 @@
 -- Only private clauses cite this: nodes that are known to have a name.
-use Rattle.std.specs.Prelude.{◌≡◌, ◌<◌, ℕ, List, length, Option, Some, None, IfSome, slice_get}
+use Rattle.std.specs.Prelude.{◌≡◌, ◌<◌, ℕ, List, length, Option, Some, None, slice_get}
 use Rattle.yv_node_definition.specs.Steps.{Step}
 use Rattle.yv_nodes.specs.declared.node.NodeId.{NodeId}
 use Rattle.yv_nodes.specs.Alike.{untyped_at}

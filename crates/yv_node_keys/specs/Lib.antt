@@ -10,3 +10,5 @@ pub mod LeafTargets
 pub mod LeafNames
 pub mod InnerNamesakes
 pub mod InnerTargets
+pub mod InnerCounterparts
+pub mod InnerShifts

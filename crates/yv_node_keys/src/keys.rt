@@ -1,18 +1,19 @@
 //! The leafs that a key names.
-ghost use Rattle.std.specs.{Prelude.{◌≡◌, ℕ, Some, not, map, slice_get, is_some, IfOk, IfSome}, List.{list_any}};
+ghost use Rattle.std.specs.{Prelude.{◌≡◌, ℕ, Some, length, not, map, slice_get, is_some, IfOk, IfSome}, List.{list_any}};
 ghost use Rattle.yv_node_definition.specs.Steps.{Step};
 ghost use Rattle.yv_nodes.specs.{Tree.{Forest}, Places.{Place, places}, Numbers.{rows_from}};
 ghost use Rattle.yv_node_keys.specs.{Numbers.{child_at, children_at, key_leaf_at, tree_in}, Refusals.{is_bad_key}, InnerNames.{AreNamesIfKept}, InnerNamesakes.{HaveName, HaveNames}};
 
 use crate::cases::first_called;
+use crate::counterparts::counterpart_leafs;
 use crate::names::ChildNames;
 use crate::node_numbers::{children_at, leaf_of, module_file_at};
 use std::alloc::{AllocError, Global};
 use yv_node_definition::PathStep;
 use yv_nodes::{Node, NodeId, Nodes};
 
-// Up to how many names of a key are sought among the nodes one by one.
-const FEW: usize = 4;
+/// Up to how many names of a key are sought among the nodes one by one.
+pub(crate) const FEW: usize = 4;
 
 // The names of the nodes directly below a list. None are kept for a key of few names: to put them
 // in order would take longer.
@@ -107,22 +108,50 @@ fn leafs_by<'n>(
     Ok(Some(leafs))
 }
 
-/// The same as `key_leafs`, where nodes are known that have the first of the names: they need not
-/// be read where it is known that the same is said of such a node as of one below the list.
+// The leafs that many names name, by those that they name in another list, if these are known.
+fn known_leafs<'n>(
+    alloc: Global,
+    nodes: &Nodes,
+    list: NodeId,
+    keys: &'n [Option<PathStep>],
+    other: NodeId,
+    namesakes: &[NodeId],
+) -> Result<Option<Vec<NodeId>>, AllocError>
+    requires { length namesakes.now ≡ length keys.now
+        → map (λ n. Some n) namesakes.now ≡ map (key_leaf_at nodes.now.rows other) keys.now }
+    ensures { IfOk result (λ leafs. IfSome leafs (λ numbers.
+        map (λ n. Some n) numbers.items ≡ map (key_leaf_at nodes.now.rows list) keys.now)) }
+{
+    if keys.len() <= FEW || namesakes.len() != keys.len() {
+        return Ok(None);
+    }
+    let leafs = counterpart_leafs(alloc, nodes, list, other, namesakes)?;
+    Ok(leafs)
+}
+
+/// The same as `key_leafs`, where nodes are known that have the first of the names, and, if of all,
+/// those that these name in another list: they need not be read where it is known that the same is
+/// said of such a node as of one below the list.
 pub(crate) fn key_leafs_like<'n>(
     alloc: Global,
     nodes: &'n Nodes,
     list: NodeId,
     keys: &'n [Option<PathStep>],
+    other: NodeId,
     namesakes: &[NodeId],
 ) -> Result<Option<Vec<NodeId>>, AllocError>
-    requires { HaveNames nodes.now.rows keys.now namesakes.now }
+    requires names { HaveNames nodes.now.rows keys.now namesakes.now }
+    requires known { length namesakes.now ≡ length keys.now
+        → map (λ n. Some n) namesakes.now ≡ map (key_leaf_at nodes.now.rows other) keys.now }
     ensures refuses { (ts : Forest) → nodes.now.rows ≡ rows_from 0 ts → (p : Place)
         → slice_get (places ts) list.0 ≡ Some p
         → IfOk result (λ leafs. is_some leafs ≡ not (is_bad_key (tree_in p) keys.now)) }
     ensures numbers { IfOk result (λ leafs. IfSome leafs (λ numbers.
         map (λ n. Some n) numbers.items ≡ map (key_leaf_at nodes.now.rows list) keys.now)) }
 {
+    if let Some(known) = known_leafs(alloc, nodes, list, keys, other, namesakes)? {
+        return Ok(Some(known));
+    }
     let names = names_for(alloc, nodes.all(), list, keys)?;
     let leafs = leafs_by(alloc, nodes, &names, list, keys, namesakes)?;
     Ok(leafs)
@@ -145,5 +174,5 @@ pub fn key_leafs<'n>(
     ensures numbers { IfOk result (λ leafs. IfSome leafs (λ numbers.
         map (λ n. Some n) numbers.items ≡ map (key_leaf_at nodes.now.rows list) keys.now)) }
 {
-    key_leafs_like(alloc, nodes, list, keys, &[])
+    key_leafs_like(alloc, nodes, list, keys, list, &[])
 }

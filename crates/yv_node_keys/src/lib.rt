@@ -3,12 +3,16 @@
 #![tactic(auto)]
 
 mod cases;
+mod counterparts;
 mod index;
 mod keys;
 pub mod laws;
+mod models;
+mod moved_leafs;
 mod names;
 mod node_numbers;
 mod place;
+mod shift;
 mod targets;
 mod unique;
 mod walk;

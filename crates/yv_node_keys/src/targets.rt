@@ -2,11 +2,12 @@
 ghost use Rattle.std.specs.{Prelude.{◌≡◌, ◌<◌, ◌+◌, ℕ, List, Some, None, map, slice_get, length, IfOk, OnOk}, declared.vec.Vec.{Vec}, declared.alloc.Global.{Global}};
 ghost use Rattle.yv_statement.specs.Order.{IsLeast};
 ghost use Rattle.yv_nodes.specs.{Tree.{Forest}, Places.{Place, places}, Rows.{Row}, Numbers.{rows_from}};
-ghost use Rattle.yv_node_keys.specs.{Numbers.{default_case_at, key_leaf_at, unique_leaf_at}, Bad.{BadLeafs, BadOfLeafs}, LeafTargets.{AreLeafTargets}, InnerTargets.{AreRight, AreUpTo, HasCase, HasLeafs, IsKeptUpTo, IsRight, cases_at, keys_in, lists_at}};
+ghost use Rattle.yv_node_keys.specs.{Numbers.{default_case_at, key_leaf_at, unique_leaf_at}, Bad.{BadLeafs, BadOfLeafs}, LeafTargets.{AreLeafTargets}, InnerTargets.{AreRight, AreUpTo, HasCase, HasLeafs, IsKeptUpTo, IsRight, cases_at, keys_in, lists_at, uniques_in}};
 
 use crate::cases::default_case;
 use crate::keys::key_leafs_like;
-use crate::unique::unique_leafs;
+use crate::models::ListModels;
+use crate::unique::unique_leafs_like;
 use std::alloc::{AllocError, Global};
 use std::collections::BTreeMap;
 use yv_nodes::{NodeId, Nodes};
@@ -66,10 +67,7 @@ impl LeafTargets {
             → map (λ leafs. map (λ n. Some n) leafs.items) result.now
             ≡ map (map (unique_leaf_at rows list)) r.label.defined.uniques }
     {
-        match self.lists.get(&list.number()) {
-            Some(leafs) => leafs.uniques.as_slice(),
-            None => &[],
-        }
+        self.kept_uniques(list)
     }
 
     /// The number of the default case of a choice (RFC 7950, section 7.9.3): none of another node.
@@ -90,6 +88,16 @@ impl LeafTargets {
         }
     }
 
+    // The leafs that are kept of the paths of a list's `unique` statements.
+    fn kept_uniques(&self, list: NodeId) -> &[Vec<NodeId>]
+        ensures { result.now ≡ uniques_in (lists_at self.now.lists list.0) }
+    {
+        match self.lists.get(&list.number()) {
+            Some(leafs) => leafs.uniques.as_slice(),
+            None => &[],
+        }
+    }
+
     // The default case that is kept of a choice.
     fn kept_case(&self, choice: NodeId) -> Option<NodeId>
         ensures { result ≡ cases_at self.now.cases choice.0 }
@@ -101,6 +109,7 @@ impl LeafTargets {
     // which the same is said shows which names this one means.
     fn meet(
         &mut self,
+        models: &mut ListModels,
         alloc: Global,
         nodes: &Nodes,
         number: NodeId,
@@ -117,8 +126,11 @@ impl LeafTargets {
     {
         let node = nodes.get(number);
         let first = nodes.first_alike(number);
-        let keys = key_leafs_like(alloc, nodes, number, node.keys(), self.kept_keys(first))?;
-        let uniques = unique_leafs(alloc, nodes, number, node.uniques())?;
+        let model = models.model(nodes, number)?;
+        let known = self.kept_keys(model);
+        let keys = key_leafs_like(alloc, nodes, number, node.keys(), model, known)?;
+        let known = self.kept_uniques(model);
+        let uniques = unique_leafs_like(alloc, nodes, number, node.uniques(), model, known)?;
         let bad_key = node.refusal_if(keys.is_none(), Code::BadKey);
         let bad_unique = node.refusal_if(uniques.is_none(), Code::BadUnique);
         keep_both(&mut self.lists, number, keys, uniques)?;
@@ -204,9 +216,10 @@ pub fn leaf_targets(alloc: Global, nodes: &Nodes) -> Result<FoundTargets, AllocE
         → IfOk result (λ found. IsLeast (BadLeafs ts) found.fault) }
 {
     let mut targets = LeafTargets::new(alloc);
+    let mut models = ListModels::new(alloc);
     let mut fault = None;
     for number in 0..nodes.len() {
-        let here = targets.meet(alloc, nodes, NodeId(number))?;
+        let here = targets.meet(&mut models, alloc, nodes, NodeId(number))?;
         fault = lesser(fault, here);
     }
     Ok(FoundTargets { targets, fault })

@@ -1,10 +1,11 @@
 //! The leafs that `unique` statements name.
-ghost use Rattle.std.specs.{Prelude.{◌≡◌, ◌&&◌, ℕ, Some, not, map, slice_get, is_some, IfOk, IfSome}, List.{list_any}};
+ghost use Rattle.std.specs.{Prelude.{◌≡◌, ◌&&◌, ℕ, Some, false, length, not, map, slice_get, is_some, IfOk, IfSome}, List.{list_any}};
 ghost use Rattle.yv_nodes.specs.{Tree.{Forest}, Places.{Place, places}, Numbers.{rows_from}};
 ghost use Rattle.yv_node_keys.specs.{Numbers.{tree_in, unique_leaf_at}, Refusals.{is_bad_unique}, InnerMixedConfig.{is_bad_statement_at, is_config_at, is_mixed_at}};
 ghost use Rattle.yv_node_definition.specs.Definition.{paths_in};
 
 use crate::index::Index;
+use crate::moved_leafs::counterpart_uniques;
 use crate::node_numbers::node_at;
 use crate::walk::unique_leaf;
 use std::alloc::{AllocError, Global};
@@ -59,8 +60,8 @@ fn any_config(nodes: &[Node], leafs: &[NodeId], wanted: bool) -> bool
     false
 }
 
-// Whether there are both among these nodes.
-fn is_mixed(nodes: &[Node], leafs: &[NodeId]) -> bool
+/// Whether there are both among these nodes.
+pub(crate) fn is_mixed(nodes: &[Node], leafs: &[NodeId]) -> bool
     ensures { result ≡ is_mixed_at nodes.now leafs.now }
 {
     any_config(nodes, leafs, true) && any_config(nodes, leafs, false)
@@ -115,6 +116,64 @@ fn all_leafs<'n>(
     Ok(Some(found))
 }
 
+// The leafs that statements name, by those that they name in an earlier list, if these are known.
+fn known_leafs(
+    alloc: Global,
+    nodes: &Nodes,
+    list: NodeId,
+    statements: &[Vec<Vec<Option<PathStep>>>],
+    earlier: NodeId,
+    known: &[Vec<NodeId>],
+) -> Result<Option<Vec<Vec<NodeId>>>, AllocError>
+    requires { length known.now ≡ length statements.now
+        → map (λ v. map (λ n. Some n) v.items) known.now
+        ≡ map (map (unique_leaf_at nodes.now.rows earlier)) (map paths_in statements.now) }
+    ensures numbers { IfOk result (λ leafs. IfSome leafs (λ found.
+        map (λ numbers. map (λ n. Some n) numbers.items) found.items
+        ≡ map (map (unique_leaf_at nodes.now.rows list)) (map paths_in statements.now))) }
+    ensures good { IfOk result (λ leafs. IfSome leafs (λ found.
+        list_any (is_bad_statement_at nodes.now.rows list) (map paths_in statements.now)
+        ≡ false)) }
+{
+    if statements.is_empty() || known.len() != statements.len() {
+        return Ok(None);
+    }
+    let leafs = counterpart_uniques(alloc, nodes, list, earlier, statements, known)?;
+    Ok(leafs)
+}
+
+/// The same as `unique_leafs`, where those are known that the statements name in an earlier list,
+/// if there are as many lists of them: then no path is followed where the nodes below both lists
+/// are the same.
+pub(crate) fn unique_leafs_like<'n>(
+    alloc: Global,
+    nodes: &'n Nodes,
+    list: NodeId,
+    statements: &'n [Vec<Vec<Option<PathStep>>>],
+    earlier: NodeId,
+    known: &[Vec<NodeId>],
+) -> Result<Option<Vec<Vec<NodeId>>>, AllocError>
+    requires { length known.now ≡ length statements.now
+        → map (λ v. map (λ n. Some n) v.items) known.now
+        ≡ map (map (unique_leaf_at nodes.now.rows earlier)) (map paths_in statements.now) }
+    ensures refuses { (ts : Forest) → nodes.now.rows ≡ rows_from 0 ts → (p : Place)
+        → slice_get (places ts) list.0 ≡ Some p
+        → IfOk result
+        (λ leafs. is_some leafs ≡ not (is_bad_unique (tree_in p) (map paths_in statements.now))) }
+    ensures numbers { IfOk result (λ leafs. IfSome leafs (λ found.
+        map (λ numbers. map (λ n. Some n) numbers.items) found.items
+        ≡ map (map (unique_leaf_at nodes.now.rows list)) (map paths_in statements.now))) }
+{
+    if statements.len() > 64 {
+        return Ok(None);
+    }
+    if let Some(known) = known_leafs(alloc, nodes, list, statements, earlier, known)? {
+        return Ok(Some(known));
+    }
+    let leafs = all_leafs(alloc, nodes.all(), list, statements)?;
+    Ok(leafs)
+}
+
 /// For each of a list's `unique` statements the numbers of the leafs that its paths name, in order
 /// (RFC 7950, section 7.8.3): none where there are more than 64 statements, or a path of one names
 /// no leaf, or leafs of one are and aren't configuration. Of nodes of one module and name below the
@@ -136,9 +195,5 @@ pub fn unique_leafs<'n>(
         map (λ numbers. map (λ n. Some n) numbers.items) found.items
         ≡ map (map (unique_leaf_at nodes.now.rows list)) (map paths_in statements.now))) }
 {
-    if statements.len() > 64 {
-        return Ok(None);
-    }
-    let leafs = all_leafs(alloc, nodes.all(), list, statements)?;
-    Ok(leafs)
+    unique_leafs_like(alloc, nodes, list, statements, list, &[])
 }

@@ -73,6 +73,17 @@ impl Links {
         }
     }
 
+    /// The links of so many nodes none of which is a leafref. It takes constant time and memory.
+    pub fn unlinked(alloc: Global, count: usize) -> Links
+        ensures { result ≡ replicate count None }
+    {
+        Links {
+            links: Vec::new(alloc),
+            rest: count,
+            targets: BTreeSet::new(alloc),
+        }
+    }
+
     /// The links of nodes, each at the number of its leafref, and None at other nodes. It takes
     /// time n log n.
     pub fn new(alloc: Global, links: Vec<Option<Link>>) -> Result<Links, AllocError>

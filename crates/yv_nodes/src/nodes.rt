@@ -90,6 +90,20 @@ impl Nodes {
         }
     }
 
+    /// No nodes, with room for so many: they are added without more memory being allocated for
+    /// their list.
+    pub fn with_room(alloc: Global, limit: u32, count: usize) -> Result<Nodes, AllocError>
+        ensures limit { IfOk result (λ made. made.limit ≡ limit) }
+        ensures rows { IfOk result (λ made. made.rows ≡ []) }
+        ensures room { IfOk result (λ made. count ≤ made.capacity) }
+    {
+        Ok(Nodes {
+            limit,
+            nodes: Vec::with_capacity(alloc, count)?,
+            firsts: Vec::with_capacity(alloc, count)?,
+        })
+    }
+
     /// The most nodes that there may be.
     pub fn limit(&self) -> u32
         ensures { result ≡ self.now.limit }

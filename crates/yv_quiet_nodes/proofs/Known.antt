@@ -1,14 +1,13 @@
 -- What is known of nodes, from the last to the first.
-use Rattle.std.proofs.Common.{◌≡◌, ℕ, zero, suc, ◌+◌, ◌-◌, ◌<◌, List, [], ◌∷◌, ◌++◌, length, drop, Bool, true, false, cond, not, ◌&&◌, ◌||◌, Option, Some, None, refl, sym, ap, ◌∙◌, arith, subst, ◌⊎◌, inl, inr}
+use Rattle.std.proofs.Common.{◌≡◌, ℕ, zero, suc, ◌+◌, ◌-◌, List, [], ◌∷◌, ◌++◌, length, Bool, true, false, cond, not, ◌&&◌, ◌||◌, Option, Some, None, refl, sym, ap, ◌∙◌, arith, subst, ◌⊎◌, inl, inr}
 use Rattle.std.specs.List.{slice_get}
 use Rattle.std.specs.Option.{IfSome, SomeIff}
-use Rattle.std.proofs.lemmas.Bool.{true≢false}
 use Rattle.yv_node_definition.specs.Kinds.{is_operation_or_notification}
 use Rattle.yv_nodes.specs.declared.node.NodeId.{NodeId}
 use Rattle.yv_nodes.specs.Defaults.{width}
 use Rattle.yv_nodes.specs.Numbers.{numbers_from}
 use Rattle.yv_nodes.specs.Rows.{AreTrees, below, children_of, forest, rank, Rows, tree_of}
-use Rattle.yv_nodes.specs.Tree.{count, Forest, Label, no_trees, Tree, node, tree}
+use Rattle.yv_nodes.specs.Tree.{count, Forest, Label, Tree, node, tree}
 use Rattle.yv_schema_tables.specs.Measures.{is_open, count_met}
 use Rattle.yv_quiet_nodes.specs.NamedLeafs.{is_read}
 use Rattle.yv_quiet_nodes.specs.Quiet.{are_quiet, AreKnown, is_mute, is_quiet, node_back, quiet_steps, steps_at, tree_met}

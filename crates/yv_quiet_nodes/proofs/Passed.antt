@@ -1,10 +1,10 @@
 -- Runs of quiet nodes.
-use Rattle.std.proofs.Common.{◌≡◌, ℕ, zero, suc, ◌+◌, ◌-◌, ◌<◌, ◌≤◌, ◌==◌, List, [], ◌∷◌, ◌++◌, length, get_or, drop, Bool, true, false, cond, ◌&&◌, ◌⊎◌, inl, inr, Option, Some, None, refl, sym, ap, ◌∙◌, subst, eqb-true, arith, Vec, Global}
+use Rattle.std.proofs.Common.{◌≡◌, ℕ, zero, suc, ◌+◌, ◌-◌, ◌<◌, ◌≤◌, ◌==◌, List, [], ◌∷◌, ◌++◌, length, get_or, drop, Bool, true, false, cond, ◌&&◌, inl, inr, Option, Some, None, refl, sym, ap, ◌∙◌, subst, eqb-true, arith, Vec, Global}
 use Rattle.std.specs.List.{slice_get}
 use Rattle.std.specs.BTreeMap.{BTreeMap, get_by, UpdatesBy}
 use Rattle.std.specs.Option.{IfSome, option_map, SomeIff, unwrap_or}
-use Rattle.std.specs.Ordering.{is_eq, nat_cmp}
-use Rattle.std.proofs.lemmas.Bool.{cases_Bool, true≢false}
+use Rattle.std.specs.Ordering.{nat_cmp}
+use Rattle.std.proofs.lemmas.Bool.{true≢false}
 use Rattle.serde_json.specs.Data.{Members}
 use Rattle.yv_nodes.specs.declared.node.NodeId.{NodeId}
 use Rattle.yv_nodes.specs.Rows.{children_of, Rows, tree_of}
@@ -12,8 +12,8 @@ use Rattle.yv_schema_tables.specs.Sound.{IsSound}
 use Rattle.yv_walk.specs.Existence.{any, tree_standing}
 use Rattle.yv_walk.specs.declared.existence.Existence.{Existence}
 use Rattle.yv_walk.specs.declared.existence.Existence.TheVariants.{Nothing, Only, Several}
-use Rattle.yv_quiet_nodes.specs.Quiet.{IsPassed, is_quiet, quiet_steps, steps_at, tree_met}
-use Rattle.yv_quiet_nodes.specs.Runs.{ArePassed, AreRuns, HaveRuns, IsRun, kept_runs, run_quiet, run_steps}
+use Rattle.yv_quiet_nodes.specs.Quiet.{is_quiet, steps_at, tree_met}
+use Rattle.yv_quiet_nodes.specs.Runs.{ArePassed, AreRuns, HaveRuns, IsRun, run_quiet, run_steps}
 use Rattle.yv_quiet_nodes.specs.declared.runs.Run.{Run}
 use Rattle.yv_quiet_nodes.proofs.Asked.{is_eq_nat, one_number}
 use Rattle.yv_quiet_nodes.proofs.Known.{among, quiet_parts}
@@ -39,6 +39,14 @@ run_more s n ns run new own h known many sum =
       quiet = ap (λ (m : ℕ). run_quiet s m (n ∷ ns)) next ∙ ap (λ (b : Bool). b && run_quiet s run.many ns) parts.0 ∙ h.quiet;
       steps = ap (λ (m : ℕ). run_steps s m (n ∷ ns)) next ∙ total;
     }
+
+-- it is no longer than the nodes
+pub run_within : (s : Rows) (many : ℕ) (ns : List NodeId) → run_quiet s many ns ≡ true → many ≤ length ns
+run_within s zero ns quiet = omega arith
+run_within s (suc m) [] quiet = absurd (true≢false (sym quiet))
+run_within s (suc m) (c ∷ cs) quiet =
+    let later : m ≤ length cs = run_within s m cs (and_parts (is_quiet s c.0 (tree_of s c)) (run_quiet s m cs) quiet).1 in
+    omega (arith, later)
 
 -- ---- the beginning of a run
 

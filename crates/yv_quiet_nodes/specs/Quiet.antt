@@ -1,6 +1,6 @@
 -- Nodes of which nothing comes but steps, where neither they nor nodes in them exist in an object,
 -- whatever is around them.
-use Rattle.std.specs.Prelude.{◌≡◌, ℕ, ◌+◌, ◌-◌, ◌==◌, ◌&&◌, ◌||◌, not, Bool, true, false, List, length, Option, Some, None, slice_get, if◌then◌else◌}
+use Rattle.std.specs.Prelude.{◌≡◌, ℕ, ◌+◌, ◌-◌, ◌==◌, ◌&&◌, ◌||◌, not, Bool, true, List, length, Option, Some, None, slice_get, if◌then◌else◌}
 use Rattle.serde_json.specs.Data.{Members, no_members}
 use Rattle.yv_node_definition.specs.declared.kind.NodeKind.{NodeKind}
 use Rattle.yv_node_definition.specs.declared.kind.NodeKind.TheVariants as kind

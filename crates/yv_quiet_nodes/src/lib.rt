@@ -4,9 +4,9 @@
 
 mod named_leafs;
 mod quiet;
-mod quiet_cases;
+mod quiet_children;
 mod runs;
 
 pub use quiet::{inner_steps, known_nodes, known_steps};
-pub use quiet_cases::pass_quiet;
+pub use quiet_children::{pass_quiet, pass_quiet_children};
 pub use runs::{Run, RunTable};

@@ -6,12 +6,11 @@ ghost use Rattle.yv_quiet_nodes.specs.{Quiet.{AreKnown, steps_at}, Runs.{AreRuns
 use crate::quiet::known_steps;
 use std::alloc::{AllocError, Global};
 use std::collections::BTreeMap;
-use yv_node_definition::NodeKind;
 use yv_nodes::NodeId;
 use yv_schema_tables::Schema;
 
-// Of so many cases each is asked, which takes the least time.
-const FEW_CASES: usize = 16;
+// Of so many children each is asked, which takes the least time.
+const FEW_CHILDREN: usize = 16;
 
 /// Quiet nodes one after the other: how many there are, and their steps with all that is met below
 /// them.
@@ -21,7 +20,7 @@ pub struct Run {
     pub(crate) steps: u64,
 }
 
-/// The runs among the cases of each choice that has many.
+/// The runs among the children of each node that has many, and of the root where it has many.
 #[derive(Drop)]
 pub struct RunTable {
     rows: BTreeMap<u32, Vec<Run>>,
@@ -38,50 +37,44 @@ impl RunTable {
         ensures { IfOk result (HasRuns schema.now) }
     {
         let mut rows = BTreeMap::new(alloc);
+        keep_runs(alloc, schema, known, Schema::ROOT, &mut rows)?;
         for index in 0..schema.len() {
             keep_runs(alloc, schema, known, NodeId(index), &mut rows)?;
         }
         Ok(RunTable { rows })
     }
 
-    /// The run that begins at each case of a choice, from the last to the first: none where there
-    /// are few cases.
-    pub fn runs_at(&self, choice: NodeId) -> &[Run]
-        ensures { result.now ≡ runs_in self.now choice }
+    /// The run that begins at each child of a node, or of the root, from the last to the first.
+    /// There are none where there are few children.
+    pub fn runs_at(&self, parent: NodeId) -> &[Run]
+        ensures { result.now ≡ runs_in self.now parent }
     {
-        match self.rows.get(&choice.0) {
+        match self.rows.get(&parent.0) {
             Some(runs) => runs,
             None => &[],
         }
     }
 }
 
-// Keeps the runs among the cases of a choice, where there are many.
+// Keeps the runs among the children of a node, where there are many.
 fn keep_runs(
     alloc: Global,
     schema: &Schema,
     known: &[Option<u64>],
-    id: NodeId,
+    parent: NodeId,
     rows: &mut BTreeMap<u32, Vec<Run>>,
 ) -> Result<(), AllocError>
-    requires node { id.0 < length schema.now.nodes }
+    requires node { rank parent ≤ length schema.now.nodes }
     requires known { AreKnown schema.now known.now }
     requires runs { HaveRuns schema.now rows.old }
     ensures { OnOk result (HaveRuns schema.now rows.new) }
 {
-    if !has_many_cases(schema, id) {
+    if schema.children(parent).len() <= FEW_CHILDREN {
         return Ok(());
     }
-    let runs = child_runs(alloc, schema, known, id)?;
-    rows.insert(id.0, runs)?;
+    let runs = child_runs(alloc, schema, known, parent)?;
+    rows.insert(parent.0, runs)?;
     Ok(())
-}
-
-fn has_many_cases(schema: &Schema, id: NodeId) -> bool
-    requires { id.0 < length schema.now.nodes }
-{
-    let node = schema.node(id);
-    matches!(node.kind(), NodeKind::Choice) && node.children().len() > FEW_CASES
 }
 
 // The run that begins at each child of a node, from the last to the first.
@@ -96,7 +89,7 @@ fn child_runs(
     ensures { IfOk result (λ runs. AreRuns schema.now (children_of schema.now parent) runs.items) }
 {
     let children = schema.children(parent);
-    let mut runs = Vec::new(alloc);
+    let mut runs = Vec::with_capacity(alloc, children.len())?;
     let mut run = Run { many: 0, steps: 0 };
     for index in 0..children.len() {
         let child = children[children.len() - 1 - index];

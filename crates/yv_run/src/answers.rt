@@ -9,7 +9,7 @@ ghost use Rattle.yv_run.specs.{Output.{ReadsData, IsStopped, count_printed, data
 use crate::notes::diagram_note;
 use crate::output::write_output;
 use crate::print::{of_count, of_data, of_diagram, of_refusal};
-use crate::whole_run::{Halt, RunEnd};
+use crate::whole_run::{Halt, Holdings, RunEnd};
 use std::alloc::{AllocError, Global};
 use std::io::{Read, Write};
 use yv_job::{Command, Job};
@@ -45,7 +45,11 @@ pub(crate) fn write_refusal<W: Write>(
     let output = of_refusal(alloc, inputs, refusal)?;
     let status = write_output(&output, writer);
     let note = refusal_note(alloc, job, inputs, refusal);
-    Ok(RunEnd { status, note })
+    Ok(RunEnd {
+        status,
+        note,
+        holdings: Holdings::none(),
+    })
 }
 
 // What helps a person to fix a file that is refused.
@@ -71,14 +75,14 @@ fn refusal_note(
 pub(crate) fn write_answer<R: Read, W: Write>(
     alloc: Global,
     job: &Job,
-    schema: &Schema,
+    schema: Schema,
     reader: &mut Counted<R>,
     writer: &mut Counted<W>,
 ) -> Result<RunEnd, Halt>
     requires reader { IsFresh reader.old }
     requires writer { IsFresh writer.old }
     ensures runs { IfOk result
-        (λ e. RunsSchema (asked_of job.now.command) job.now.kind schema.now e
+        (λ e. RunsSchema (asked_of job.now.command) job.now.kind schema e
         (R.remaining (stream_inner reader.old))
         (R.remaining (stream_inner reader.new)) (W.contents (stream_inner writer.old))
         (W.contents (stream_inner writer.new))) }
@@ -104,12 +108,12 @@ pub(crate) fn write_answer<R: Read, W: Write>(
 // Writes how many nodes the schema has.
 fn write_count<W: Write>(
     alloc: Global,
-    schema: &Schema,
+    schema: Schema,
     writer: &mut Counted<W>,
 ) -> Result<RunEnd, Halt>
     requires { IsFresh writer.old }
     ensures writes { IfOk result
-        (λ e. Writes (count_printed (whole schema.now)) e.status
+        (λ e. Writes (count_printed (whole schema)) e.status
         (W.contents (stream_inner writer.old)) (W.contents (stream_inner writer.new))) }
     ensures notes { IfOk result (HasNote (λ note. note ≡ None)) }
     ensures ends { IfOk result (λ e. IsStopped e.status → ⊥) }
@@ -119,10 +123,11 @@ fn write_count<W: Write>(
     ensures rest { OnErr result (writer.new ≡ writer.old) }
     ensures no_memory { IfErr result (λ h. h ≡ Halt.NoMemory) }
 {
-    let output = of_count(alloc, schema)?;
+    let output = of_count(alloc, &schema)?;
     Ok(RunEnd {
         status: write_output(&output, writer),
         note: Ok(None),
+        holdings: Holdings::of_schema(schema),
     })
 }
 
@@ -130,15 +135,15 @@ fn write_count<W: Write>(
 fn write_diagram<W: Write>(
     alloc: Global,
     job: &Job,
-    schema: &Schema,
+    schema: Schema,
     name: &str,
     writer: &mut Counted<W>,
 ) -> Result<RunEnd, Halt>
     requires { IsFresh writer.old }
     ensures writes { IfOk result
-        (λ e. Writes (diagram_printed schema.now name.now) e.status
+        (λ e. Writes (diagram_printed schema name.now) e.status
         (W.contents (stream_inner writer.old)) (W.contents (stream_inner writer.new))) }
-    ensures notes { IfOk result (HasNote (NotesDiagram schema.now name.now)) }
+    ensures notes { IfOk result (HasNote (NotesDiagram schema name.now)) }
     ensures ends { IfOk result (λ e. IsStopped e.status → ⊥) }
     ensures write_fault { IfOk result
         (λ e. e.status ≡ Status.WriteFault ↔ (has_failed writer.new ≡ true)) }
@@ -146,16 +151,23 @@ fn write_diagram<W: Write>(
     ensures rest { OnErr result (writer.new ≡ writer.old) }
     ensures no_memory { IfErr result (λ h. h ≡ Halt.NoMemory) }
 {
-    let output = of_diagram(alloc, schema, name)?;
-    let status = write_output(&output, writer);
-    let note = diagram_note(alloc, schema, &job.selection, name, &output);
-    Ok(RunEnd { status, note })
+    let (status, note) = {
+        let output = of_diagram(alloc, &schema, name)?;
+        let status = write_output(&output, writer);
+        let note = diagram_note(alloc, &schema, &job.selection, name, &output);
+        (status, note)
+    };
+    Ok(RunEnd {
+        status,
+        note,
+        holdings: Holdings::of_schema(schema),
+    })
 }
 
 // Reads a document, and writes what is said of it.
 fn validate_document<R: Read, W: Write>(
     alloc: Global,
-    schema: &Schema,
+    schema: Schema,
     kind: Kind,
     reader: &mut Counted<R>,
     writer: &mut Counted<W>,
@@ -163,7 +175,7 @@ fn validate_document<R: Read, W: Write>(
     requires reader { IsFresh reader.old }
     requires writer { IsFresh writer.old }
     ensures runs { IfOk result
-        (λ e. RunsData kind schema.now e (R.remaining (stream_inner reader.old))
+        (λ e. RunsData kind schema e (R.remaining (stream_inner reader.old))
         (R.remaining (stream_inner reader.new))
         (W.contents (stream_inner writer.old)) (W.contents (stream_inner writer.new))) }
     ensures ends { IfOk result (λ e. IsStopped e.status → ⊥) }
@@ -187,16 +199,16 @@ fn validate_document<R: Read, W: Write>(
 // Writes what is said of a document of these bytes.
 fn write_findings<W: Write>(
     alloc: Global,
-    schema: &Schema,
+    schema: Schema,
     bytes: &[u8],
     kind: Kind,
     writer: &mut Counted<W>,
 ) -> Result<RunEnd, Halt>
     requires { IsFresh writer.old }
     ensures writes { IfOk result
-        (λ e. Writes (data_printed kind schema.now bytes.now) e.status
+        (λ e. Writes (data_printed kind schema bytes.now) e.status
         (W.contents (stream_inner writer.old)) (W.contents (stream_inner writer.new))) }
-    ensures notes { IfOk result (HasNote (NotesData kind schema.now bytes.now)) }
+    ensures notes { IfOk result (HasNote (NotesData kind schema bytes.now)) }
     ensures ends { IfOk result (λ e. IsStopped e.status → ⊥) }
     ensures write_fault { IfOk result
         (λ e. e.status ≡ Status.WriteFault ↔ (has_failed writer.new ≡ true)) }
@@ -204,8 +216,12 @@ fn write_findings<W: Write>(
     ensures rest { OnErr result (writer.new ≡ writer.old) }
     ensures no_memory { IfErr result (λ h. h ≡ Halt.NoMemory) }
 {
-    let answer = of_data(alloc, schema, bytes, kind)?;
+    let answer = of_data(alloc, &schema, bytes, kind)?;
     let status = write_output(&answer.output, writer);
-    let note = answer.note(alloc, schema, bytes);
-    Ok(RunEnd { status, note })
+    let note = answer.note(alloc, &schema, bytes);
+    Ok(RunEnd {
+        status,
+        note,
+        holdings: Holdings::of_check(schema, answer),
+    })
 }

@@ -9,12 +9,14 @@ ghost use Rattle.yv_run.specs.{Compiles.{HavePattern}, Output.{WantsData, IsStop
 use crate::answers::{write_answer, write_refusal};
 use crate::compilation::compile_files;
 use crate::pattern_laws::a_pattern_of_a_type_is_listed;
+use crate::print::CheckResult;
 use crate::status::Status;
 use std::alloc::{AllocError, Global};
 use std::io::{Read, Write};
 use thiserror::Error;
 use yv_job::Job;
 use yv_refusal_notes::unbuilt_pattern;
+use yv_schema::Schema;
 use yv_source::laws::{a_bad_file_is_refused_once, a_text_is_spelled_or_refused_once};
 use yv_statement::Stop;
 use yv_streams::{Counted, Input};
@@ -41,6 +43,40 @@ impl From<AllocError> for Halt {
     }
 }
 
+/// What a run holds when it ends: the schema, and the document with what was found in it. To drop
+/// it takes time for each node and each value, so a program that ends then may forget it.
+#[derive(Drop)]
+pub struct Holdings {
+    schema: Option<Schema>,
+    check: Option<CheckResult>,
+}
+
+impl Holdings {
+    // Nothing.
+    pub(crate) fn none() -> Holdings {
+        Holdings {
+            schema: None,
+            check: None,
+        }
+    }
+
+    // A schema.
+    pub(crate) fn of_schema(schema: Schema) -> Holdings {
+        Holdings {
+            schema: Some(schema),
+            check: None,
+        }
+    }
+
+    // A schema, and what was said of a document.
+    pub(crate) fn of_check(schema: Schema, check: CheckResult) -> Holdings {
+        Holdings {
+            schema: Some(schema),
+            check: Some(check),
+        }
+    }
+}
+
 /// How a run ended, and what helps a person to fix what was found.
 #[derive(Drop)]
 pub struct RunEnd {
@@ -50,6 +86,7 @@ pub struct RunEnd {
     /// place and why; if it is too large, of what it has too many; if it has faults, sentences on
     /// the first of them. None otherwise. An error if memory ran out when all was written.
     pub note: Result<Option<String>, AllocError>,
+    pub holdings: Holdings,
 }
 
 impl RunEnd {
@@ -58,9 +95,18 @@ impl RunEnd {
         ensures status { result.status ≡ status }
         ensures note { result.note ≡ Ok None }
     {
+        RunEnd::stop_with_note(status, Ok(None))
+    }
+
+    /// A run that was stopped before it held anything, with this note.
+    pub fn stop_with_note(status: Status, note: Result<Option<String>, AllocError>) -> RunEnd
+        ensures status { result.status ≡ status }
+        ensures note { result.note ≡ note }
+    {
         RunEnd {
             status,
-            note: Ok(None),
+            note,
+            holdings: Holdings::none(),
         }
     }
 }
@@ -145,6 +191,7 @@ pub fn run_with_note<R: Read, W: Write>(
         Err(Halt::PatternBuild) => RunEnd {
             status: Status::PatternBuild,
             note: pattern_note(alloc, inputs),
+            holdings: Holdings::none(),
         },
         Err(Halt::Read) => RunEnd::stop_with(Status::ReadFault),
     }
@@ -193,7 +240,7 @@ fn run_job<R: Read, W: Write>(
         → HavePattern (selected_of job.now.selection) job.now.limit (map file_of inputs.now) }
 {
     match compile_files(alloc, inputs, &job.selection, job.limit) {
-        Ok(schema) => write_answer(alloc, job, &schema, reader, writer),
+        Ok(schema) => write_answer(alloc, job, schema, reader, writer),
         Err(Stop::Fault(refusal)) => write_refusal(alloc, job, inputs, &refusal, writer),
         Err(Stop::PatternBuild) => Err(Halt::PatternBuild),
         Err(Stop::NoMemory) => Err(Halt::NoMemory),

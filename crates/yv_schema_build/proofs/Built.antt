@@ -16,15 +16,12 @@ use Rattle.yv_node_leafrefs.specs.Bad.{BadLeafrefs}
 use Rattle.yv_schema_build.specs.InnerBasis.{NumberedBasis, leafrefs_of}
 use Rattle.yv_schema_build.specs.InnerRefuses.{BadNumberedNodes}
 use Rattle.yv_schema_build.specs.InnerBuild.{IsFirst, of_tree, of_both}
+use Rattle.yv_schema_build.specs.InnerParts.{BadOther}
 
 -- what holds of each answer holds
 pub on_ok_from : {A E : Type 0} {P : A → Type 0} {Q : Type 0} (o : Result A E) → ((x : A) → P x → Q) → IfOk o P → OnOk o Q
 on_ok_from (Ok x) f h = f x h
 on_ok_from (Err e) f h = tt
-
--- what is wrong with a tree, but for its rows
-abbrev pub BadOther : NumberedBasis → Forest → Refusal → Type 0
-BadOther b top f = BadTree top f ⊎ BadLeafrefs (leafrefs_of b) f
 
 -- neither of two is refused
 pub both_none : (a b c : Option Refusal) → IsLesser a b c → c ≡ None → (a ≡ None) × (b ≡ None)

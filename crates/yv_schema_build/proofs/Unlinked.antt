@@ -1,5 +1,5 @@
 -- Trees without leafrefs.
-use Rattle.std.proofs.Common.{◌≡◌, ◌==◌, true, eqb-true, ℕ, zero, suc, ◌+◌, ◌<◌, List, [], ◌∷◌, ◌++◌, length, length-append, ◌^◌, Option, Some, None, inl, inr, refl, sym, ap, ap₂, ◌∙◌, arith}
+use Rattle.std.proofs.Common.{◌≡◌, ◌==◌, true, eqb-true, ℕ, zero, suc, ◌+◌, ◌<◌, List, [], ◌∷◌, ◌++◌, length, length-append, ◌^◌, Option, Some, None, inl, inr, refl, sym, ap, ap₂, subst, ◌∙◌, arith}
 use Rattle.std.specs.List.{slice_get, slice_index_or}
 use Rattle.std.specs.Option.{option_and_then}
 use Rattle.std.proofs.lemmas.Option.{get_or_from_slice_get, slice_get_past}
@@ -8,16 +8,23 @@ use Rattle.yv_statement.specs.declared.refusal.Refusal.{Refusal}
 use Rattle.yv_values.specs.Types.{Plain}
 use Rattle.yv_nodes.specs.declared.node.NodeId.{NodeId}
 use Rattle.yv_nodes.specs.Numbers.{numbers_from, rows_below, rows_from}
-use Rattle.yv_nodes.specs.Rows.{blank_row, root, Row}
+use Rattle.yv_nodes.specs.Rows.{blank_row, root, Row, WithinLimit}
 use Rattle.yv_nodes.specs.Tree.{count, Forest, no_trees, node, tree}
 use Rattle.yv_nodes.specs.NodeTypes.{label_with_types, typed_from, types_at}
 use Rattle.yv_node_leafrefs.specs.Schema.{Referral, Schema, leafref_of_row}
 use Rattle.yv_node_leafrefs.specs.Targets.{LeadsTo, RefersTo, own, by_step, by_way}
 use Rattle.yv_node_leafrefs.specs.Bad.{BadLeafref, BadLeafrefs}
 use Rattle.yv_node_leafrefs.specs.Resolution.{IsTyped, with_targets}
-use Rattle.yv_nodes.specs.Link.{Link, reference_in}
+use Rattle.yv_nodes.specs.Link.{AreLinked, Link, reference_in}
 use Rattle.yv_node_leafrefs.specs.Links.{AreLinks, IsLinkOf}
-use Rattle.yv_schema_build.specs.InnerResolution.{no_links}
+use Rattle.yv_expand.specs.Tree.{Node}
+use Rattle.yv_expand.specs.declared.origin.Origin.{Origin}
+use Rattle.yv_expand.specs.declared.origin.Origin.TheVariants as origin
+use Rattle.yv_expand_tree.specs.FinalTree.{origin_at}
+use Rattle.yv_schema_build.specs.InnerBasis.{NumberedBasis, leafrefs_of, nodes_in, said_of, stated_of}
+use Rattle.yv_schema_build.specs.InnerResolution.{AreSilent, IsAnswered, no_links}
+use Rattle.yv_schema_build.specs.Referrals.{referral_at, referral_of}
+use Rattle.yv_schema_build.specs.declared.leafrefs.ResolvedLeafrefs.{ResolvedLeafrefs}
 
 module _ (s : Schema) (silent : (n : ℕ) → s.says n ≡ None) where
   unsaid : (n : ℕ) (ref : Referral) → s.says n ≡ Some ref → ⊥
@@ -118,7 +125,34 @@ linkless s many links silent few same none = record {
   );
 }
 
--- one more node without a link
-pub one_more : (many : ℕ) → no_links many ++ None ∷ [] ≡ no_links (many + 1)
-one_more zero = refl
-one_more (suc many) = ap (λ (ls : List (Option Link)). None ∷ ls) (one_more many) ∙ ap no_links (let e : suc (many + 1) ≡ suc many + 1 = omega arith in e)
+-- where no statement defines a leafref, no node says anything
+pub silent_nodes : (b : NumberedBasis) → AreSilent b.typing b.files → (n : ℕ) → (leafrefs_of b).says n ≡ None
+silent_nodes b silent n = by (slice_get (nodes_in b) n)
+  where
+    said : (from : Origin) → referral_at b.typing b.files from ≡ None
+    said (origin.Statement number) = ap (referral_of b.files) (silent number)
+    said (origin.Input number) = refl
+    said (origin.Output number) = refl
+
+    by : (o : Option Node) → option_and_then (said_of b) o ≡ None
+    by None = refl
+    by (Some x) = said (origin_at b.final.items x.origin)
+
+-- the links of a schema lead in its trees
+abbrev pub LinksLead : Type 0
+LinksLead = (s : Schema) (ts : Forest) (links : List (Option Link)) → s.rows ≡ rows_from 0 ts → AreLinks s links → AreLinked (reference_in links) ts
+
+-- what comes of nodes none of which is a leafref
+pub answered_without : (b : NumberedBasis) (nodes : WithinLimit) (r : ResolvedLeafrefs) → LinksLead → ((n : ℕ) → (leafrefs_of b).says n ≡ None)
+    → nodes.rows ≡ rows_from 0 (stated_of b) → r.nodes ≡ nodes → r.links ≡ no_links (length nodes.rows) → r.fault ≡ None → length nodes.rows < 2 ^ 32 → IsAnswered b r
+answered_without b nodes r lead silent are same unlinked clear few =
+    let small : length (leafrefs_of b).rows < 2 ^ 32 = subst (λ (rs : List Row). length rs < 2 ^ 32) are few in
+    let links : AreLinks (leafrefs_of b) r.links = linkless (leafrefs_of b) (length nodes.rows) r.links silent small (ap length are) unlinked in
+    record {
+      tree = stated_of b;
+      is = stays (leafrefs_of b) (stated_of b) silent refl;
+      rows = ap (λ (ns : WithinLimit). ns.rows) same ∙ are;
+      fault = subst (λ (f : Option Refusal). IsLeast (BadLeafrefs (leafrefs_of b)) f) (sym clear) (nothing_wrong (leafrefs_of b) silent);
+      linked = lead (leafrefs_of b) (stated_of b) r.links refl links;
+      links = λ fault. links;
+    }

@@ -1,10 +1,12 @@
 -- Only private clauses cite this: what comes of resolving the leafrefs of a schema tree.
-use Rattle.std.specs.Prelude.{◌≡◌, ℕ, zero, suc, ◌+◌, List, [], ◌∷◌, map, min, Option, None}
+use Rattle.std.specs.Prelude.{◌≡◌, ℕ, ◌+◌, List, map, min, replicate, Option, None}
 use Rattle.yv_statement.specs.Order.{IsLeast}
 use Rattle.yv_link_scopes.specs.Files.{Files}
 use Rattle.yv_expand.specs.declared.origin.Origin.{Origin}
 use Rattle.yv_expand.specs.declared.origin.Origin.TheVariants as origin
 use Rattle.yv_expand_tree.specs.FinalTree.{origin_at}
+use Rattle.yv_node_statements.specs.Definitions.{leafref_of}
+use Rattle.yv_node_statements.specs.Kinds.{TypeMeanings}
 use Rattle.yv_nodes.specs.Link.{AreLinked, Link, reference_in}
 use Rattle.yv_nodes.specs.Numbers.{rows_from}
 use Rattle.yv_nodes.specs.Rows.{Row}
@@ -33,10 +35,13 @@ origins_of b = map (λ x. origin_at b.final.items x.origin) (nodes_in b)
 abbrev pub schema_of_rows : List Row → (of : List (Option ℕ)) → (leafrefs : List Referral) → Schema
 schema_of_rows rows of leafrefs = record { rows = rows; says = leafref_of_row of leafrefs }
 
+-- no numbered statement defines a leafref
+abbrev pub AreSilent : TypeMeanings → Files → Type 0
+AreSilent typing files = (number : ℕ) → leafref_of typing files (origin.Statement number) ≡ None
+
 -- those of so many nodes without links
 abbrev pub no_links : ℕ → List (Option Link)
-no_links zero = []
-no_links (suc n) = None ∷ no_links n
+no_links count = replicate count None
 
 -- these are the rows of the tree that is stated of a basis with these files, of which the context
 -- tells

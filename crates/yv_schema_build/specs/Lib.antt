@@ -6,6 +6,7 @@ pub mod InnerDraft
 pub mod Module
 pub mod InnerContext
 pub mod InnerBuild
+pub mod InnerParts
 pub mod InnerResolution
 pub mod InnerRows
 pub mod InnerModuleNames

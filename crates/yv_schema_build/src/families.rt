@@ -34,7 +34,7 @@ impl ChildLists {
         ensures each { IfOk result (λ f. length (lists_of f.below.items) ≡ count) }
         ensures below { IfOk result (λ f. AreEmpty (lists_of f.below.items)) }
     {
-        let mut below = Vec::new(alloc);
+        let mut below = Vec::with_capacity(alloc, count)?;
         for _ in 0..count {
             below.push(Vec::new(alloc))?;
         }

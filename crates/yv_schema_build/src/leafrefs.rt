@@ -1,10 +1,11 @@
 //! The leafrefs of a schema tree, resolved.
-ghost use Rattle.std.specs.Prelude.{◌≡◌, ◌≢◌, ◌<◌, ◌^◌, [], None, map, length, IfOk};
+ghost use Rattle.std.specs.Prelude.{◌≡◌, ◌≢◌, ◌<◌, ◌^◌, [], None, false, map, length, IfOk};
 ghost use Rattle.yv_link_scopes.specs.Views.{lent_in, rows_in};
 ghost use Rattle.yv_expand_tree.specs.FinalTree.{origin_at};
+ghost use Rattle.yv_node_statements.specs.Context.{files_in, typing_in};
 ghost use Rattle.yv_nodes.specs.Numbers.{rows_from};
 ghost use Rattle.yv_node_leafrefs.specs.{Above.{AreBehind}, Leafrefs.{AreLeafrefs}, Links.{AreLinks}};
-ghost use Rattle.yv_schema_build.specs.{InnerBasis.{NumberedBasis, stated_of}, InnerContext.{Tells}, InnerResolution.{AreStated, IsAnswered, no_links, schema_of_rows, statement_number}};
+ghost use Rattle.yv_schema_build.specs.{InnerBasis.{NumberedBasis, stated_of}, InnerContext.{Tells}, InnerResolution.{AreSilent, AreStated, IsAnswered, no_links, schema_of_rows, statement_number}};
 
 use crate::all_referrals::referrals;
 use crate::context::Context;
@@ -19,6 +20,7 @@ use yv_node_leafrefs::link_laws::{
     alike_schemas_have_the_same_links, links_lead, types_leave_links,
 };
 use yv_node_leafrefs::{Leafrefs, links};
+use yv_node_statements::Definitions;
 use yv_nodes::{Links, Nodes};
 use yv_statement::Refusal;
 
@@ -73,27 +75,59 @@ fn statement_numbers(
 }
 
 // Nodes none of which is a leafref stay as they are, and have no links.
-fn without_leafrefs(alloc: Global, nodes: Nodes) -> Result<ResolvedLeafrefs, AllocError>
-    ensures nodes { IfOk result (λ r. r.nodes ≡ nodes) }
-    ensures links { IfOk result (λ r. r.links ≡ no_links (length nodes.rows)) }
-    ensures fault { IfOk result (λ r. r.fault ≡ None) }
-    ensures few { IfOk result (λ r. length nodes.rows < 2 ^ 32) }
+fn without_leafrefs(alloc: Global, nodes: Nodes) -> ResolvedLeafrefs
+    ensures nodes { result.nodes ≡ nodes }
+    ensures links { result.links ≡ no_links (length nodes.rows) }
+    ensures fault { result.fault ≡ None }
+    ensures few { length nodes.rows < 2 ^ 32 }
 {
-    let mut links = Vec::with_capacity(alloc, nodes.len() as usize)?;
-    for _ in 0..nodes.len() {
-        links.push(None)?;
-    }
-    Ok(ResolvedLeafrefs {
+    let count = nodes.len() as usize;
+    ResolvedLeafrefs {
         nodes,
-        links: Links::new(alloc, links)?,
+        links: Links::unlinked(alloc, count),
         fault: None,
-    })
+    }
+}
+
+// Whether a node that some statement defines is a leafref. Each statement is asked once.
+fn has_leafrefs(rows: &Rows<'_, '_>, definitions: &Definitions<'_, '_, '_>) -> bool
+    requires { files_in definitions.now ≡ lent_in rows.now }
+    ensures { result ≡ false
+        → AreSilent (typing_in definitions.now) (files_in definitions.now) }
+{
+    statements_have_their_rows();
+    for number in 0..rows.len() {
+        if definitions.leafref_of(Origin::Statement(number)).is_some() {
+            return true;
+        }
+    }
+    false
 }
 
 /// Resolves the leafrefs among the nodes of a tree as it is stated (RFC 7950, section 9.9): where
-/// something is wrong with one, the nodes stay as they are. Where there are none, it takes no more
-/// time than to see that.
+/// something is wrong with one, the nodes stay as they are. Where no statement defines one, it takes
+/// no more time than to see that, and no memory.
 pub(crate) fn resolve<'a>(
+    alloc: Global,
+    rows: &Rows<'a, '_>,
+    context: &Context<'_, 'a, '_>,
+    nodes: Nodes,
+) -> Result<ResolvedLeafrefs, AllocError>
+    requires { AreStated (lent_in rows.now) context.now nodes.rows }
+    ensures answers { (b : NumberedBasis) → Tells b context.now → b.files ≡ lent_in rows.now
+        → nodes.rows ≡ rows_from 0 (stated_of b)
+        → IfOk result (IsAnswered b) }
+    ensures limit { IfOk result (λ r. r.nodes.limit ≡ nodes.limit) }
+{
+    links_lead();
+    if !has_leafrefs(rows, context.definitions()) {
+        return Ok(without_leafrefs(alloc, nodes));
+    }
+    resolve_leafrefs(alloc, rows, context, nodes)
+}
+
+// The same, where some statement may define a leafref.
+fn resolve_leafrefs<'a>(
     alloc: Global,
     rows: &Rows<'a, '_>,
     context: &Context<'_, 'a, '_>,
@@ -115,8 +149,7 @@ pub(crate) fn resolve<'a>(
     let origins = origins(alloc, context.tree)?;
     let said = referrals(alloc, rows, context.definitions(), &origins)?;
     if said.leafrefs.as_slice().is_empty() {
-        let stated = without_leafrefs(alloc, nodes)?;
-        return Ok(stated);
+        return Ok(without_leafrefs(alloc, nodes));
     }
     let statements = statement_numbers(alloc, rows, &origins)?;
     let leafrefs = Leafrefs::read(alloc, &nodes, &statements, &said.of, &said.leafrefs)?;

@@ -16,6 +16,7 @@ mod module_names;
 mod name;
 mod notes;
 mod number_table;
+mod parts;
 mod phases;
 mod precedent;
 pub mod referral_laws;

@@ -11,7 +11,7 @@ ghost use Rattle.yv_schema_tables.specs.Sound.{IsSound};
 ghost use Rattle.yv_schema_build.specs.{InnerRefuses.{RefusesByNumber, RefusesBeforeTypesByNumber}, Module.{modules_of}, InnerSchema.{AreNumberedNotes, AreNumberedReferences, IsNumberedSchema}, InnerStages.{HaveFinalTree, StopsLinked}, InnerPhases.{AreClear, AreExpanded, SomeClear, SomeExpanded}};
 
 use crate::build::build;
-use crate::context::{Context, refined_definitions};
+use crate::parts::schema_parts;
 use std::alloc::Global;
 use yv_expand::expansion_laws::a_tree_is_listed_whole;
 use yv_expand_tree::laws::{
@@ -24,7 +24,6 @@ use yv_link::laws::{linked_files_tell_what_holds, links_have_phases};
 use yv_link_definitions::{Names, names};
 use yv_link_features::laws::an_expression_has_one_truth;
 use yv_node_leafrefs::laws::a_tree_is_typed_once;
-use yv_node_statements::Definitions;
 use yv_node_statements::laws::{files_have_one_typing, types_tell_typing};
 use yv_schema_tables::Schema;
 use yv_statement::{Selection, Stop};
@@ -79,7 +78,7 @@ pub(crate) fn of_linked(
     };
     // There are no more items than the limit.
     let _items = tree.len();
-    of_expanded(alloc, linked, names, &tree, selection, limit)
+    of_expanded(alloc, linked, names, tree, selection, limit)
 }
 
 // The schema of expanded files in which nothing is refused so far, or the least refusal of their
@@ -88,35 +87,35 @@ fn of_expanded(
     alloc: Global,
     linked: &Linked<'_, '_>,
     names: Names,
-    tree: &FinalTree,
+    tree: FinalTree,
     selection: &Selection,
     limit: u32,
 ) -> Result<Schema, Stop>
-    requires gives { SomeExpanded (selected_of selection.now) limit linked.now names tree.now }
-    requires room { length tree.now.left ≤ limit }
+    requires gives { SomeExpanded (selected_of selection.now) limit linked.now names tree }
+    requires room { length tree.left ≤ limit }
     ensures schema { (files : Files)
-        → AreExpanded (selected_of selection.now) files limit linked.now names tree.now
+        → AreExpanded (selected_of selection.now) files limit linked.now names tree
         → IfOk result (λ s. IsNumberedSchema (selected_of selection.now) files (whole s)) }
     ensures limit { IfOk result (λ s. s.limit ≡ limit) }
     ensures modules { (files : Files)
-        → AreExpanded (selected_of selection.now) files limit linked.now names tree.now
+        → AreExpanded (selected_of selection.now) files limit linked.now names tree
         → IfOk result (λ s. s.modules ≡ modules_of (selected_of selection.now) files) }
     ensures augments { (files : Files)
-        → AreExpanded (selected_of selection.now) files limit linked.now names tree.now
+        → AreExpanded (selected_of selection.now) files limit linked.now names tree
         → IfOk result (λ s. AreNumberedNotes (selected_of selection.now) files s.augments) }
     ensures references { (files : Files)
-        → AreExpanded (selected_of selection.now) files limit linked.now names tree.now
+        → AreExpanded (selected_of selection.now) files limit linked.now names tree
         → IfOk result (λ s. AreNumberedReferences (selected_of selection.now) files s.links) }
     ensures sound { IfOk result IsSound }
     ensures clear { (files : Files)
-        → AreExpanded (selected_of selection.now) files limit linked.now names tree.now
+        → AreExpanded (selected_of selection.now) files limit linked.now names tree
         → OnOk result (IsLeast (RefusesByNumber (selected_of selection.now) files limit) None) }
     ensures refusal { (files : Files)
-        → AreExpanded (selected_of selection.now) files limit linked.now names tree.now
+        → AreExpanded (selected_of selection.now) files limit linked.now names tree
         → (r : Refusal) → result ≡ Err (Fault r)
         → IsLeast (RefusesByNumber (selected_of selection.now) files limit) (Some r) }
     ensures builds { (files : Files)
-        → AreExpanded (selected_of selection.now) files limit linked.now names tree.now
+        → AreExpanded (selected_of selection.now) files limit linked.now names tree
         → result ≡ Err PatternBuild → HasTypePattern files }
 {
     linked_files_tell_what_holds();
@@ -130,10 +129,8 @@ fn of_expanded(
         Ok(types) => types,
         Err(stop) => return Err(stop),
     };
-    let definitions = Definitions::read(alloc, linked.rows(), &types)?;
-    let refined = refined_definitions(alloc, &definitions, tree)?;
-    let context = Context::new(&definitions, &refined, tree);
-    build(alloc, linked.rows(), &context, selection, limit)
+    let parts = schema_parts(alloc, linked.rows(), types, tree, selection, limit)?;
+    build(alloc, parts)
 }
 
 // The types of linked files, the names being theirs, which aren't needed any longer: their memory

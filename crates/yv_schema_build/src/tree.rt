@@ -51,7 +51,7 @@ impl Builder<'_, '_, '_> {
     {
         let left = self.context.remaining_nodes();
         let families = families_of(self.alloc, left)?;
-        let mut nodes = Nodes::new(self.alloc, limit);
+        let mut nodes = Nodes::with_room(self.alloc, limit, left.len())?;
         self.add_nodes(left, &families.below, &mut nodes)?;
         let top = numbers_at(self.alloc, &families.top)?;
         Ok(NumberedNodes { nodes, top })
@@ -78,7 +78,7 @@ impl Builder<'_, '_, '_> {
         ensures memory { IfErr result (λ stop. stop ≡ NoMemory) }
     {
         let top = Above::top();
-        let mut aboves = Vec::new(self.alloc);
+        let mut aboves = Vec::with_capacity(self.alloc, items.len())?;
         let mut copies = FirstCopies::new(self.alloc, self.statements)?;
         for (place, item) in items.iter().enumerate() {
             let above = above_at(&top, &aboves, item.parent);
@@ -219,7 +219,7 @@ pub(crate) fn numbers_at(alloc: Global, places: &[usize]) -> Result<Vec<NodeId>,
     requires { All (λ place. place < 4294967296) places.now }
     ensures { IfOk result (λ numbers. numbers.items ≡ numbers_at places.now) }
 {
-    let mut numbers = Vec::new(alloc);
+    let mut numbers = Vec::with_capacity(alloc, places.len())?;
     for place in places {
         numbers.push(number_at(*place))?;
     }

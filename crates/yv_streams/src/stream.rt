@@ -28,8 +28,8 @@ impl From<AllocError> for InputFault {
     }
 }
 
-/// How many bytes one read may give.
-const CHUNK: usize = 4096;
+/// How many bytes one read may give: enough that a large file takes few calls of the system.
+const CHUNK: usize = 32_768;
 
 /// The bytes that the reader gives until its end, or the first `limit` of them, and no more is
 /// taken from it.

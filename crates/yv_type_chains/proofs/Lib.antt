@@ -12,3 +12,4 @@ pub mod Counting
 pub mod Judging
 pub mod Once
 pub mod Sifting
+pub mod Families

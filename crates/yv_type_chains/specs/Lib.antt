@@ -4,6 +4,7 @@ pub mod Counts
 pub mod Refusals
 pub mod Bases
 pub mod InnerPairs
+pub mod InnerBlocks
 pub mod InnerTables
 pub mod InnerSteps
 pub mod InnerOrder

@@ -32,8 +32,7 @@ impl Bases {
             → AreBases files bases) }
     {
         let draft = Draft::read(alloc, rows, names)?;
-        let steps = draft.steps(alloc)?;
-        let all = draft.order(alloc, &steps)?;
+        let all = draft.order(alloc)?;
         let found = Findings::read(alloc, &draft, &all)?;
         let fault = draft.first_refusal(&found);
         let order = draft.types_only(alloc, &all)?;

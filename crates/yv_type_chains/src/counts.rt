@@ -49,7 +49,7 @@ impl Draft<'_, '_, '_> {
             return Some(0);
         }
         if is_kind("union", entry) {
-            return total(counts, &self.inside[number]);
+            return total(counts, self.inside.at(number));
         }
         if self.names_built_in(number) {
             return Some(1);

@@ -1,12 +1,13 @@
 //! The types of files and what each follows, before these are looked at.
-ghost use Rattle.std.specs.Prelude.{◌≡◌, ◌<◌, ℕ, Some, length, IfOk};
+ghost use Rattle.std.specs.Prelude.{◌≡◌, ◌<◌, ℕ, [], Some, length, IfOk, slice_index_or};
 ghost use Rattle.yv_link_scopes.specs.Views.{files_in, lent_in, rows_in};
 ghost use Rattle.yv_link_definitions.specs.Meanings.{AreNames};
-ghost use Rattle.yv_type_chains.specs.{Types.{types_in}, InnerTables.{AreFollowed, at, items_at}};
+ghost use Rattle.yv_type_chains.specs.{Types.{types_in}, InnerTables.{AreFollowed, at}};
 
+use crate::by_block::types_by_block;
 use crate::follows::all_followed;
-use crate::inside::types_inside;
 use std::alloc::{AllocError, Global};
+use yv_base_tables::Families;
 use yv_link_definitions::Names;
 use yv_link_scopes::Rows;
 
@@ -14,10 +15,9 @@ use yv_link_scopes::Rows;
 #[derive(Drop)]
 pub(crate) struct Draft<'r, 'a, 'b> {
     pub rows: &'r Rows<'a, 'b>,
-    pub inside: Vec<Vec<usize>>,
+    pub inside: Families,
     pub follows: Vec<Option<usize>>,
-    ghost each: { length inside.items ≡ length (rows_in rows.now) },
-    ghost listed: { (block : ℕ) → items_at inside.items block ≡ types_in (rows_in rows.now) block },
+    ghost listed: { (block : ℕ) → slice_index_or inside block [] ≡ types_in (rows_in rows.now) block },
     ghost within: { (k j : ℕ) → at follows.items k ≡ Some j → j < length (rows_in rows.now) },
 }
 
@@ -32,7 +32,7 @@ impl<'r, 'a, 'b> Draft<'r, 'a, 'b> {
         ensures follows { IfOk result (λ draft. AreNames (lent_in rows.now) names.now
             → AreFollowed (files_in rows.now) (rows_in rows.now) draft.follows.items) }
     {
-        let inside = types_inside(alloc, rows)?;
+        let inside = types_by_block(alloc, rows)?;
         let follows = all_followed(alloc, rows, names, &inside)?;
         Ok(Draft {
             rows,

@@ -14,8 +14,8 @@ pub(crate) fn is_type(entry: &Entry<'_, '_>) -> bool
     entry.statement.keyword() == "type"
 }
 
-// Whether a statement is a type that stands in a block.
-fn is_inner(number: usize, entry: &Entry<'_, '_>) -> bool
+/// Whether a statement is a type that stands in a block.
+pub(crate) fn is_inner(number: usize, entry: &Entry<'_, '_>) -> bool
     ensures { result ≡ is_inner number (row entry.now) }
 {
     is_type(entry) && entry.scope < number

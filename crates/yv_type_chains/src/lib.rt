@@ -6,6 +6,7 @@
 
 mod base;
 mod bases;
+mod by_block;
 mod counts;
 mod draft;
 mod findings;
@@ -21,4 +22,5 @@ mod slots;
 mod steps;
 
 pub use bases::Bases;
+pub use by_block::types_by_block;
 pub use inside::types_inside;

@@ -10,13 +10,9 @@ use std::alloc::{AllocError, Global};
 use yv_base_graph::{Ranking, rank};
 
 impl Draft<'_, '_, '_> {
-    /// An order of all statements in which each type comes after those from which it takes its
-    /// values, these being the steps.
-    pub(crate) fn order(
-        &self,
-        alloc: Global,
-        steps: &[Vec<usize>],
-    ) -> Result<Vec<usize>, AllocError>
+    // An order of all statements in which each type comes after those from which it takes its
+    // values, these being the steps.
+    fn order_of(&self, alloc: Global, steps: &[Vec<usize>]) -> Result<Vec<usize>, AllocError>
         requires { AreSteps (rows_in self.now.rows.now) self.now.follows.items steps.now }
         ensures { IfOk result (λ order. (names : Names) → AreNames (lent_in self.now.rows.now) names
             → AreFollowed (files_in self.now.rows.now) (rows_in self.now.rows.now)
@@ -28,6 +24,18 @@ impl Draft<'_, '_, '_> {
             // Where the names are known no typedef leads to itself, and then no type does.
             Ranking::Cycle(_) => Ok(Vec::new(alloc)),
         }
+    }
+
+    /// An order of all statements in which each type comes after those from which it takes its
+    /// values.
+    pub(crate) fn order(&self, alloc: Global) -> Result<Vec<usize>, AllocError>
+        ensures { IfOk result (λ order. (names : Names) → AreNames (lent_in self.now.rows.now) names
+            → AreFollowed (files_in self.now.rows.now) (rows_in self.now.rows.now)
+            self.now.follows.items
+            → IsOrderOfAll (files_in self.now.rows.now) (rows_in self.now.rows.now) order.items) }
+    {
+        let steps = self.steps(alloc)?;
+        self.order_of(alloc, &steps)
     }
 
     /// Only the types, in an order of all statements.

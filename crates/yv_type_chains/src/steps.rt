@@ -41,7 +41,7 @@ impl<'a, 'b> Draft<'_, 'a, 'b> {
             (row entry.now) list.items) }
     {
         if is_kind("union", entry) {
-            self.inside[number].clone()
+            self.inside.at(number).to_vec(alloc)
         } else {
             let followed = get(&self.follows, number);
             let list = one_or_none(alloc, followed)?;
@@ -54,8 +54,9 @@ impl<'a, 'b> Draft<'_, 'a, 'b> {
         ensures { IfOk result
             (λ steps. AreSteps (rows_in self.now.rows.now) self.now.follows.items steps.items) }
     {
-        let mut steps = Vec::new(alloc);
-        for (number, entry) in self.rows.entries().iter().enumerate() {
+        let entries = self.rows.entries();
+        let mut steps = Vec::with_capacity(alloc, entries.len())?;
+        for (number, entry) in entries.iter().enumerate() {
             steps.push(self.edges(alloc, number, entry)?)?;
         }
         Ok(steps)

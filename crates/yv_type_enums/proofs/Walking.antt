@@ -1,10 +1,11 @@
 -- Tables that are filled along an order, and what is wrong along it.
-use Rattle.std.proofs.Common.{◌≡◌, ◌≢◌, ℕ, ◌+◌, ◌<◌, ◌≤◌, ◌⊎◌, inl, inr, ⊎_elim, zero, suc, List, [], ◌∷◌, ◌++◌, length, take, get_or, ◌↔◌, refl, sym, ◌∙◌, ap, subst, arith, Option, Some, None}
+use Rattle.std.proofs.Common.{◌≡◌, ◌≢◌, ℕ, ◌+◌, ◌<◌, ◌≤◌, ◌⊎◌, inl, inr, ⊎_elim, zero, suc, List, [], ◌∷◌, length, take, get_or, ◌↔◌, refl, sym, ◌∙◌, ap, subst, arith, Option, Some, None}
 use Rattle.std.specs.List.{Contains}
 use Rattle.std.proofs.lemmas.Bool.{cases_eq}
 use Rattle.std.proofs.lemmas.Option.{slice_get_within}
 use Rattle.std.proofs.lemmas.List.{take_more, take_all}
 use Rattle.std.proofs.lemmas.List.Elements.{Contains-append_cases, Contains-append_left, Contains-append_right}
+use Rattle.yv_base_tables.specs.declared.table.Table.{Table}
 use Rattle.yv_statement.specs.Order.{IsLeast, IsLesser}
 use Rattle.yv_statement.specs.declared.refusal.Refusal.{Refusal}
 use Rattle.yv_statement.proofs.Least.{least_lesser, least_same}
@@ -45,23 +46,16 @@ item_in xs i l = (i, l, item_itself xs i 0 l)
 no_told : (x : NamesView) → None ≡ Some x → ⊥
 no_told x e = cc
 
--- one place more of which nothing is told
-pub none_more : (xs : List (Option TypeNames)) → ((k : ℕ) → told_at xs k ≡ None) → (k : ℕ) → told_at (xs ++ None ∷ []) k ≡ None
-none_more [] h zero = refl
-none_more [] h (suc k) = refl
-none_more (x ∷ xs) h zero = h 0
-none_more (x ∷ xs) h (suc k) = none_more xs (λ n. h (suc n)) k
-
 module _ (files : Files) (truth : Truth) (order : List ℕ) where
   none_in : (k : ℕ) → Contains (take 0 order) k → ⊥
   none_in k c = omega (arith, c.1)
 
   -- nothing is told yet
-  pub told_start : (types : List (Option TypeNames)) → ((k : ℕ) → told_at types k ≡ None) → AreTold files truth (take 0 order) types
+  pub told_start : (types : Table TypeNames) → ((k : ℕ) → told_at types k ≡ None) → AreTold files truth (take 0 order) types
   told_start types none k x = (λ e. absurd (no_told x (sym (none k) ∙ e)), λ h. absurd (none_in k h.0))
 
   -- one number more
-  pub told_next : (i n : ℕ) (old new : List (Option TypeNames)) → i < length order → n ≡ get_or order i 0 → ((x : NamesView) → (told_at new n ≡ Some x) ↔ HasNames files truth n x) → ((k : ℕ) → k ≢ n → told_at new k ≡ told_at old k) → AreTold files truth (take i order) old → AreTold files truth (take (i + 1) order) new
+  pub told_next : (i n : ℕ) (old new : Table TypeNames) → i < length order → n ≡ get_or order i 0 → ((x : NamesView) → (told_at new n ≡ Some x) ↔ HasNames files truth n x) → ((k : ℕ) → k ≢ n → told_at new k ≡ told_at old k) → AreTold files truth (take i order) old → AreTold files truth (take (i + 1) order) new
   told_next i n old new l e here else before k x = elim (cases_eq k n) [
     | inl same ↦ (
       λ h. (subst (Contains (take (i + 1) order)) (sym same) (newest order i n l e), subst (λ m. HasNames files truth m x) (sym same) ((here x).0 (ap (told_at new) (sym same) ∙ h))),
@@ -77,7 +71,7 @@ module _ (files : Files) (truth : Truth) (order : List ℕ) where
   ]
 
   -- all numbers
-  pub told_all : (i : ℕ) (types : List (Option TypeNames)) → length order ≤ i → ((a : ℕ) → IsTypeAt (rows_of files) a → Contains order a) → AreTold files truth (take i order) types → (k : ℕ) (x : NamesView) → (told_at types k ≡ Some x) ↔ HasNames files truth k x
+  pub told_all : (i : ℕ) (types : Table TypeNames) → length order ≤ i → ((a : ℕ) → IsTypeAt (rows_of files) a → Contains order a) → AreTold files truth (take i order) types → (k : ℕ) (x : NamesView) → (told_at types k ≡ Some x) ↔ HasNames files truth k x
   told_all i types past stands all k x = (
     λ e. ((all k x).0 e).1,
     λ h. (all k x).1 (subst (λ xs. Contains xs k) (sym (take_all i order past)) (stands k (lists_type files truth h)), h),

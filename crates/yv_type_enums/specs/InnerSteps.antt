@@ -1,6 +1,7 @@
 -- Inner definitions, which only private clauses cite: one type, and the types so far.
 use Rattle.std.specs.Prelude.{◌≡◌, ◌↔◌, ℕ, List, Option, Some, map, slice_get}
 use Rattle.std.specs.List.{Contains}
+use Rattle.yv_base_tables.specs.declared.table.Table.{Table}
 use Rattle.yv_statement.specs.Order.{IsLeast}
 use Rattle.yv_statement.specs.Tree.{Tree}
 use Rattle.yv_statement.specs.declared.refusal.Refusal.{Refusal}
@@ -28,7 +29,7 @@ pub record IsStep (files : Files) (truth : Truth) (k : ℕ) (told : Option Names
   pub least : IsLeast (BadAt files truth k) fault
 
 -- the table tells of those
-abbrev pub AreKnown : Files → Truth → (ℕ → Type 0) → List (Option TypeNames) → Type 0
+abbrev pub AreKnown : Files → Truth → (ℕ → Type 0) → Table TypeNames → Type 0
 AreKnown files truth Those types = (k : ℕ) → Those k → (x : NamesView) → (told_at types k ≡ Some x) ↔ HasNames files truth k x
 
 -- what type k follows
@@ -40,5 +41,5 @@ abbrev pub BadAmong : Files → Truth → List ℕ → Refusal → Type 0
 BadAmong files truth ks f = (k : ℕ) × Contains ks k × BadAt files truth k f
 
 -- the table tells of these numbers, and of no others
-abbrev pub AreTold : Files → Truth → List ℕ → List (Option TypeNames) → Type 0
+abbrev pub AreTold : Files → Truth → List ℕ → Table TypeNames → Type 0
 AreTold files truth ks types = (k : ℕ) (x : NamesView) → (told_at types k ≡ Some x) ↔ (Contains ks k × HasNames files truth k x)

@@ -6,8 +6,9 @@ ghost use Rattle.yv_type_chains.specs.Bases.{AreBases};
 ghost use Rattle.yv_link.specs.LinkedFiles.{AreLinked, truth_in};
 
 use crate::step::type_at;
-use crate::table::{TypeNames, get, no_types, put};
+use crate::table::{TypeNames, get};
 use std::alloc::{AllocError, Global};
+use yv_base_tables::Table;
 use yv_link::Linked;
 use yv_statement::{Refusal, lesser};
 use yv_type_chains::Bases;
@@ -16,7 +17,7 @@ use yv_type_chains::Bases;
 /// these.
 #[derive(Drop)]
 pub struct Lists<'a> {
-    pub(crate) types: Vec<Option<TypeNames<'a>>>,
+    pub(crate) types: Table<TypeNames<'a>>,
     pub(crate) fault: Option<Refusal>,
 }
 
@@ -37,12 +38,12 @@ impl<'a> Lists<'a> {
             → AreLists files (truth_in linked.now) lists) }
     {
         let rows = linked.rows();
-        let mut types = no_types(alloc, rows.entries().len())?;
+        let mut types = Table::new(alloc);
         let mut fault = None;
         for number in bases.order() {
             let step = type_at(alloc, linked, rows, bases, &types, *number)?;
             fault = lesser(fault, step.fault);
-            put(&mut types, *number, step.names);
+            types.put(*number, step.names)?;
         }
         Ok(Lists { types, fault })
     }

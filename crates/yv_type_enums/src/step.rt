@@ -9,6 +9,7 @@ use crate::table::{TypeNames, get};
 use crate::type_names::NamedEntries;
 use std::alloc::{AllocError, Global};
 use yv_base_numbers::NumberKind;
+use yv_base_tables::Table;
 use yv_link::Linked;
 use yv_link_scopes::{Entry, Rows, name_of};
 use yv_statement::{Refusal, Statement};
@@ -106,7 +107,7 @@ pub(crate) fn type_at<'a>(
     linked: &Linked<'a, '_>,
     rows: &Rows<'a, '_>,
     bases: &Bases,
-    types: &[Option<TypeNames<'a>>],
+    types: &Table<TypeNames<'a>>,
     number: usize,
 ) -> Result<Step<'a>, AllocError>
     ensures { IfOk result (λ s. AreBases (lent_in rows.now) bases.now

@@ -1,5 +1,5 @@
 -- The bases in each block, as they are listed statement by statement.
-use Rattle.std.proofs.Common.{◌≡◌, ◌≢◌, ℕ, ◌+◌, ◌<◌, ◌==◌, ◌&&◌, ◌||◌, ◌↔◌, ◌++◌, ◌∷◌, [], inl, inr, Bool, true, false, IsTrue, cond, List, length, Vec, Option, None, Some, refl, sym, ◌∙◌, ap, subst, arith}
+use Rattle.std.proofs.Common.{◌≡◌, ◌≢◌, ℕ, ◌+◌, ◌<◌, ◌||◌, ◌↔◌, ◌++◌, ◌∷◌, [], inl, inr, Bool, true, false, IsTrue, cond, List, length, Vec, None, Some, refl, sym, ◌∙◌, ap, arith}
 use Rattle.std.specs.List.{slice_get, list_any}
 use Rattle.std.specs.declared.alloc.Global.{Global}
 use Rattle.std.proofs.lemmas.Bool.{cases_eq}

@@ -6,7 +6,7 @@ use Rattle.yv_link_scopes.specs.Files.{Files, brief_of}
 use Rattle.yv_link_scopes.specs.RowList.{rows_of}
 use Rattle.yv_link_identities.specs.References.{is_at}
 use Rattle.yv_link_identities.specs.declared.references.IdentityRef.{IdentityRef}
-use Rattle.yv_values.specs.Identities.{Id, id_of, is_identity}
+use Rattle.yv_values.specs.Identities.{id_of}
 use Rattle.yv_type_identities.specs.Bases.{NamesBase}
 use Rattle.yv_type_identities.specs.Values.{Truth, HasValue}
 use Rattle.yv_type_identities.specs.InnerBases.{IsBelowKey}

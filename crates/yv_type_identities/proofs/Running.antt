@@ -1,19 +1,17 @@
 -- Runs of numbers.
-use Rattle.std.proofs.Common.{◌≡◌, ℕ, zero, suc, ◌+◌, ◌<◌, ◌≤◌, ◌==◌, ◌⊎◌, ◌&&◌, ◌||◌, ◌↔◌, inl, inr, Bool, true, false, IsTrue, List, [], ◌∷◌, ◌++◌, length, get_or, take, Option, Some, None, refl, sym, ◌∙◌, ap, subst, arith, eqb-true, eq-eqb}
+use Rattle.std.proofs.Common.{◌≡◌, ℕ, zero, suc, ◌+◌, ◌<◌, ◌==◌, ◌⊎◌, ◌||◌, inl, inr, true, false, List, [], ◌∷◌, ◌++◌, length, get_or, take, Option, Some, None, refl, sym, ◌∙◌, ap, subst, arith, eqb-true, eq-eqb}
 use Rattle.std.specs.List.{slice_get, Contains, list_any}
 use Rattle.std.specs.Option.{option_and_then}
 use Rattle.std.specs.declared.vec.Vec.{Vec}
 use Rattle.std.specs.declared.alloc.Global.{Global}
-use Rattle.std.proofs.lemmas.Bool.Decides.{nat_tests}
 use Rattle.std.proofs.lemmas.List.{take_more}
 use Rattle.std.proofs.lemmas.List.Folds.{Any-from_list_any, list_any-from_Any, list_any_more}
-use Rattle.std.proofs.lemmas.Option.{slice_get_read, slice_get_within}
+use Rattle.std.proofs.lemmas.Option.{slice_get_read}
 use Rattle.yv_base_graph.specs.Graph.{Graph, ArePlaces, HasEdge, IsGraph, LeadsTo, by_edge, by_way}
 use Rattle.yv_link_identities.proofs.Pairing.{pushed_in}
 use Rattle.yv_link_identities.proofs.Ways.{edge_place, edge_within, first_edge}
 use Rattle.yv_type_identities.specs.InnerRuns.{AreRuns, IsKnown, IsRunOf, in_node, in_run, is_in, run_at}
 use Rattle.yv_type_identities.specs.declared.runs.Run.{Run}
-use Rattle.yv_type_identities.proofs.Gathered.{get_behind}
 use Rattle.yv_type_identities.proofs.Gathering.{split, left_true, right_true}
 
 -- ### the nodes that a node leads to

@@ -1,5 +1,5 @@
 -- The list that types share, and the parts of it that are values of types.
-use Rattle.std.proofs.Common.{◌≡◌, ℕ, ◌<◌, ◌&&◌, ◌||◌, ◌↔◌, Bool, true, false, cond, IsTrue, List, [], ◌∷◌, length, map, get_or, Option, Some, None, refl, sym, ◌∙◌, ap, subst, arith}
+use Rattle.std.proofs.Common.{◌≡◌, ℕ, ◌<◌, ◌&&◌, ◌||◌, ◌↔◌, Bool, true, false, cond, IsTrue, List, [], ◌∷◌, length, map, get_or, Option, Some, refl, sym, ◌∙◌, ap, subst, arith}
 use Rattle.std.specs.List.{filter, slice_get, list_any}
 use Rattle.std.specs.Option.{option_map, option_and_then, unwrap_or}
 use Rattle.std.specs.Str.{bytes_eq}
@@ -11,7 +11,6 @@ use Rattle.yv_link_scopes.specs.Files.{Files, Briefs, brief_of}
 use Rattle.yv_link_scopes.specs.RowList.{rows_of}
 use Rattle.yv_link_scopes.specs.Rows.{Row}
 use Rattle.yv_link_identities.specs.Names.{is_identity as is_identity_row}
-use Rattle.yv_link_identities.specs.Derivation.{IsDerivedFrom}
 use Rattle.yv_link_identities.specs.References.{is_at, number_of, ref_of}
 use Rattle.yv_link_identities.specs.declared.references.IdentityRef.{IdentityRef}
 use Rattle.yv_link.specs.LinkedFiles.{AreLinked, truth_in}
@@ -20,9 +19,8 @@ use Rattle.yv_values.specs.Identities.{Id, NumberedId, between, id_of, ids_of, i
 use Rattle.yv_values.proofs.Numbered.{is_itself}
 use Rattle.yv_type_identities.specs.Bases.{IsBelow}
 use Rattle.yv_type_identities.specs.Identities.{IsFound}
-use Rattle.yv_type_identities.specs.Values.{id_at}
 use Rattle.yv_type_identities.specs.InnerBases.{IsBelowKey}
-use Rattle.yv_type_identities.specs.InnerCandidates.{AreCandidates, HasKeyValue}
+use Rattle.yv_type_identities.specs.InnerCandidates.{AreCandidates}
 use Rattle.yv_type_identities.specs.InnerRuns.{AreDerived, AreIdentityPlaces, AreRuns, AreShared, HasRun, IsRunOf, in_run, is_in, number_at, numbered_by, rank_by, run_at, run_of}
 use Rattle.yv_type_identities.specs.InnerSets.{is_key}
 use Rattle.yv_type_identities.specs.declared.candidates.Candidate.{Candidate}

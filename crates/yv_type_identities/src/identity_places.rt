@@ -44,6 +44,11 @@ impl IdentityPlaces {
         }
     }
 
+    /// Whether there is no identity.
+    pub(crate) fn is_empty(&self) -> bool {
+        self.map.is_empty()
+    }
+
     /// The number at a place.
     pub(crate) fn get(&self, place: IdentityRef) -> Option<usize>
         ensures { result ≡ number_at self.now place }

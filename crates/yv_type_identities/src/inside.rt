@@ -22,22 +22,21 @@ pub(crate) fn base_of<'a, 'b>(linked: &Linked<'a, 'b>, entry: &Entry<'a, 'b>) ->
     }
 }
 
-// So many lists, all empty.
-fn no_lists(alloc: Global, count: usize) -> Result<Vec<Vec<IdentityRef>>, AllocError>
-    ensures { IfOk result
-        (λ lists. (length lists.items ≡ count) × ((k : ℕ) → bases_at lists.items k ≡ [])) }
+// Makes a block one of those that have a list.
+fn grow(alloc: Global, lists: &mut Vec<Vec<IdentityRef>>, block: usize) -> Result<(), AllocError>
+    ensures reaches { OnOk result (block < length lists.new.items) }
+    ensures same { OnOk result
+        ((k : ℕ) → bases_at lists.new.items k ≡ bases_at lists.old.items k) }
 {
-    let mut lists = Vec::new(alloc);
-    for _ in 0..count {
+    while lists.len() <= block {
         lists.push(Vec::new(alloc))?;
     }
-    Ok(lists)
+    Ok(())
 }
 
 // Puts a base behind those of a block.
 fn put(lists: &mut Vec<Vec<IdentityRef>>, block: usize, base: IdentityRef) -> Result<(), AllocError>
     requires { block < length lists.old.items }
-    ensures each { OnOk result (length lists.new.items ≡ length lists.old.items) }
     ensures here { OnOk result
         (bases_at lists.new.items block ≡ bases_at lists.old.items block ++ base ∷ []) }
     ensures elsewhere { OnOk result
@@ -47,7 +46,25 @@ fn put(lists: &mut Vec<Vec<IdentityRef>>, block: usize, base: IdentityRef) -> Re
     Ok(())
 }
 
-/// For each block the bases that its statements name, as often as they do.
+// The same where the block may have no list yet.
+fn add(
+    alloc: Global,
+    lists: &mut Vec<Vec<IdentityRef>>,
+    block: usize,
+    base: IdentityRef,
+) -> Result<(), AllocError>
+    ensures here { OnOk result
+        (bases_at lists.new.items block ≡ bases_at lists.old.items block ++ base ∷ []) }
+    ensures elsewhere { OnOk result
+        ((k : ℕ) → k ≢ block → bases_at lists.new.items k ≡ bases_at lists.old.items k) }
+{
+    grow(alloc, lists, block)?;
+    put(lists, block, base)?;
+    Ok(())
+}
+
+/// For each block the bases that its statements name, as often as they do. Blocks behind the last
+/// with a base have no list.
 pub(crate) fn bases_inside(
     alloc: Global,
     linked: &Linked<'_, '_>,
@@ -58,12 +75,11 @@ pub(crate) fn bases_inside(
         → IsTrue (list_any (is_at base) (bases_at inside.items block))
         ↔ NamesBase (map brief_of files) (rows_of files) block base) }
 {
-    yv_link_scopes::laws::blocks_are_nested();
     let entries = linked.rows().entries();
-    let mut inside = no_lists(alloc, entries.len())?;
+    let mut inside = Vec::new(alloc);
     for entry in entries {
         if let Some(base) = base_of(linked, entry) {
-            put(&mut inside, entry.scope, base)?;
+            add(alloc, &mut inside, entry.scope, base)?;
         }
     }
     Ok(inside)

@@ -62,8 +62,8 @@ fn narrow(met: Option<Run>, run: Run) -> Run
 }
 
 impl SharedMembers {
-    /// Reads them, in time n log n in the statements and the candidates; nothing, if two identities
-    /// are at one place, or of one module and name.
+    /// Reads them, in time n log n in the statements and the candidates; nothing, if there is no
+    /// identity, and if two are at one place, or of one module and name.
     pub(crate) fn read(
         alloc: Global,
         linked: &Linked<'_, '_>,
@@ -75,6 +75,9 @@ impl SharedMembers {
         let Some(places) = IdentityPlaces::read(alloc, linked)? else {
             return Ok(None);
         };
+        if places.is_empty() {
+            return Ok(None);
+        }
         let graph = read_graph(alloc, linked, inside, &places)?;
         let Ranking::Ranks { ranks, order } = rank(alloc, &graph)? else {
             return Ok(None);

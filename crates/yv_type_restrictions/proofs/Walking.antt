@@ -5,6 +5,7 @@ use Rattle.std.proofs.lemmas.Bool.{cases_eq}
 use Rattle.std.proofs.lemmas.Option.{slice_get_within}
 use Rattle.std.proofs.lemmas.List.{take_more, take_all}
 use Rattle.std.proofs.lemmas.List.Elements.{Contains-append_cases, Contains-append_left, Contains-append_right}
+use Rattle.yv_base_tables.specs.declared.table.Table.{Table}
 use Rattle.yv_statement.specs.Order.{IsLeast, IsLesser}
 use Rattle.yv_statement.specs.declared.refusal.Refusal.{Refusal}
 use Rattle.yv_statement.proofs.Least.{least_lesser, least_same}
@@ -51,11 +52,11 @@ module _ (files : Files) (order : List ℕ) where
   none_in k c = omega (arith, c.1)
 
   -- nothing is told yet
-  pub told_start : (types : List (Option PlainType)) → ((k : ℕ) → plain_at types k ≡ None) → AreTold files (take 0 order) types
+  pub told_start : (types : Table PlainType) → ((k : ℕ) → plain_at types k ≡ None) → AreTold files (take 0 order) types
   told_start types none k p = (λ e. absurd (no_plain p (sym (none k) ∙ e)), λ h. absurd (none_in k h.0))
 
   -- one number more
-  pub told_next : (i n : ℕ) (old new : List (Option PlainType)) → i < length order → n ≡ get_or order i 0 → ((p : Plain) → (plain_at new n ≡ Some p) ↔ HasPlainType files n p) → ((k : ℕ) → k ≢ n → plain_at new k ≡ plain_at old k) → AreTold files (take i order) old → AreTold files (take (i + 1) order) new
+  pub told_next : (i n : ℕ) (old new : Table PlainType) → i < length order → n ≡ get_or order i 0 → ((p : Plain) → (plain_at new n ≡ Some p) ↔ HasPlainType files n p) → ((k : ℕ) → k ≢ n → plain_at new k ≡ plain_at old k) → AreTold files (take i order) old → AreTold files (take (i + 1) order) new
   told_next i n old new l e here else before k p = elim (cases_eq k n) [
     | inl same ↦ (
       λ h. (subst (Contains (take (i + 1) order)) (sym same) (newest order i n l e), subst (λ m. HasPlainType files m p) (sym same) ((here p).0 (ap (plain_at new) (sym same) ∙ h))),
@@ -71,7 +72,7 @@ module _ (files : Files) (order : List ℕ) where
   ]
 
   -- all numbers
-  pub told_all : HaveRows → (i : ℕ) (types : List (Option PlainType)) → length order ≤ i → ((a : ℕ) → IsTypeAt (rows_of files) a → Contains order a) → AreTold files (take i order) types → (k : ℕ) (p : Plain) → (plain_at types k ≡ Some p) ↔ HasPlainType files k p
+  pub told_all : HaveRows → (i : ℕ) (types : Table PlainType) → length order ≤ i → ((a : ℕ) → IsTypeAt (rows_of files) a → Contains order a) → AreTold files (take i order) types → (k : ℕ) (p : Plain) → (plain_at types k ≡ Some p) ↔ HasPlainType files k p
   told_all heads i types past stands all k p = (
     λ e. ((all k p).0 e).1,
     λ h. (all k p).1 (subst (λ xs. Contains xs k) (sym (take_all i order past)) (stands k (plain_type files heads h)), h),

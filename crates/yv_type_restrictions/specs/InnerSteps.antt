@@ -1,6 +1,7 @@
 -- Inner definitions, which only private clauses cite: one type, and the types so far.
 use Rattle.std.specs.Prelude.{◌≡◌, ◌↔◌, ℕ, ⊤, List, Option, Some, map, slice_get}
 use Rattle.std.specs.List.{Contains}
+use Rattle.yv_base_tables.specs.declared.table.Table.{Table}
 use Rattle.yv_statement.specs.Order.{IsLeast}
 use Rattle.yv_statement.specs.Tree.{Tree}
 use Rattle.yv_statement.specs.declared.refusal.Refusal.{Refusal}
@@ -41,7 +42,7 @@ pub record IsStep (files : Files) (k : ℕ) (plain : Option Plain) (fault : Opti
   pub least : IsLeast (BadAt files k) fault
 
 -- the table has the plain types of those
-abbrev pub AreKnown : Files → (ℕ → Type 0) → List (Option PlainType) → Type 0
+abbrev pub AreKnown : Files → (ℕ → Type 0) → Table PlainType → Type 0
 AreKnown files Those types = (k : ℕ) → Those k → (p : Plain) → (plain_at types k ≡ Some p) ↔ HasPlainType files k p
 
 -- what type k follows
@@ -53,5 +54,5 @@ abbrev pub BadAmong : Files → List ℕ → Refusal → Type 0
 BadAmong files ks f = (k : ℕ) × Contains ks k × BadAt files k f
 
 -- the table has the plain types of these numbers, and no others
-abbrev pub AreTold : Files → List ℕ → List (Option PlainType) → Type 0
+abbrev pub AreTold : Files → List ℕ → Table PlainType → Type 0
 AreTold files ks types = (k : ℕ) (p : Plain) → (plain_at types k ≡ Some p) ↔ (Contains ks k × HasPlainType files k p)

@@ -10,5 +10,5 @@ use Rattle.yv_type_restrictions.specs.declared.plain_types.PlainTypes.{PlainType
 
 -- these are the plain types of the types of these files; how, only the readers ask
 pub record AreFaceted (files : Files) (faceted : PlainTypes) : Type 0 where
-  pub types : (k : ℕ) (p : Plain) → (plain_at faceted.types.items k ≡ Some p) ↔ HasPlainType files k p
+  pub types : (k : ℕ) (p : Plain) → (plain_at faceted.types k ≡ Some p) ↔ HasPlainType files k p
   pub least : IsLeast (BadFaceted files) faceted.fault

@@ -6,8 +6,9 @@ ghost use Rattle.yv_type_chains.specs.Bases.{AreBases};
 ghost use Rattle.yv_values.specs.Types.{Plain, plain_of};
 
 use crate::step::type_at;
-use crate::table::{get, no_types, put};
+use crate::table::get;
 use std::alloc::Global;
+use yv_base_tables::Table;
 use yv_link_scopes::Rows;
 use yv_pattern::Patterns;
 use yv_statement::{Refusal, Stop, lesser};
@@ -18,7 +19,7 @@ use yv_values::PlainType;
 /// empty, and what is wrong with their restrictions.
 #[derive(Drop)]
 pub struct PlainTypes {
-    pub(crate) types: Vec<Option<PlainType>>,
+    pub(crate) types: Table<PlainType>,
     pub(crate) fault: Option<Refusal>,
 }
 
@@ -38,7 +39,7 @@ impl PlainTypes {
     {
         yv_link_scopes::laws::statements_have_their_rows();
         let order = bases.order();
-        let mut types = no_types(alloc, rows.entries().len())?;
+        let mut types = Table::new(alloc);
         let mut fault = None;
         let mut patterns = Patterns::new(alloc);
         for number in order {
@@ -47,7 +48,7 @@ impl PlainTypes {
                 Err(stop) => return Err(stop),
             };
             fault = lesser(fault, step.fault);
-            put(&mut types, *number, step.plain);
+            types.put(*number, step.plain)?;
         }
         Ok(PlainTypes { types, fault })
     }

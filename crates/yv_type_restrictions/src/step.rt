@@ -11,6 +11,7 @@ use crate::digits::digits_of_type;
 use crate::facets::narrow;
 use crate::table::get;
 use std::alloc::{AllocError, Global};
+use yv_base_tables::Table;
 use yv_link_scopes::{Rows, name_of};
 use yv_pattern::Patterns;
 use yv_statement::{Refusal, Statement, Stop};
@@ -100,7 +101,7 @@ pub(crate) fn type_at(
     patterns: &mut Patterns,
     rows: &Rows<'_, '_>,
     bases: &Bases,
-    types: &[Option<PlainType>],
+    types: &Table<PlainType>,
     number: usize,
 ) -> Result<Step, Stop>
     ensures step { IfOk result (λ s. AreBases (lent_in rows.now) bases.now

@@ -2,11 +2,12 @@
 use Rattle.std.proofs.Common.{◌≡◌, ◌<◌, ◌⊎◌, ℕ, ◌+◌, inl, inr, List, Option, Some, sym, ◌∙◌, ap, arith}
 use Rattle.std.specs.Option.{option_map}
 use Rattle.std.proofs.lemmas.Option.{same_Some}
+use Rattle.yv_base_tables.specs.declared.table.Table.{Table}
 use Rattle.yv_values.specs.Types.{Plain}
 use Rattle.yv_types.specs.InnerTables.{AreBelow, AreNumbered, IsNewOrThere, entry_at, entry_of}
 use Rattle.yv_types.specs.declared.table.SharedTypes.{SharedTypes}
 
-module _ (old new : List (Option SharedTypes)) (next : ℕ) (space : Option SharedTypes) where
+module _ (old new : Table SharedTypes) (next : ℕ) (space : Option SharedTypes) where
   -- each place has what it had, or the new list
   abbrev pub IsPut : Type 0
   IsPut = (k : ℕ) → (entry_at new k ≡ entry_at old k) ⊎ (entry_at new k ≡ option_map entry_of space)

@@ -7,6 +7,7 @@ use Rattle.std.proofs.lemmas.Bool.{false≢true}
 use Rattle.std.specs.Option.{option_map}
 use Rattle.std.proofs.lemmas.Option.{same_Some, slice_get-map, slice_get_read}
 use Rattle.std.proofs.lemmas.Slice.Eq.{bytes_eq-Decides}
+use Rattle.yv_base_tables.specs.declared.table.Table.{Table}
 use Rattle.yv_statement.specs.Selection.{Selected}
 use Rattle.yv_link_scopes.specs.Files.{Files, brief_of}
 use Rattle.yv_link_scopes.specs.Rows.{Row, name_in}
@@ -158,7 +159,7 @@ module _ (files : Files) (truth : Truth) (choice : Selected) (k : ℕ) where
       union_space l i ps (through_typedef {j = j} g np nn s) = absurd (alone j g)
 
       -- a union
-      pub has_joined : (spaces : List (Option SharedTypes)) (o : Option (List Plain)) → is_kind (codes "leafref") r ≡ false → is_kind (codes "identityref") r ≡ false → is_kind (codes "union") r ≡ true → AreKnown files truth choice (RestsOn (map brief_of files) (rows_of files) k) spaces → o ≡ joined_from spaces [] (types_in (rows_of files) k) → IsSpace files truth choice k o
+      pub has_joined : (spaces : Table SharedTypes) (o : Option (List Plain)) → is_kind (codes "leafref") r ≡ false → is_kind (codes "identityref") r ≡ false → is_kind (codes "union") r ≡ true → AreKnown files truth choice (RestsOn (map brief_of files) (rows_of files) k) spaces → o ≡ joined_from spaces [] (types_in (rows_of files) k) → IsSpace files truth choice k o
       has_joined spaces o l i u known is =
           let members : (m : ℕ) → Contains (types_in (rows_of files) k) m → IsSpace files truth choice m (plains_at spaces m) = λ m c. known m (inr (member_in (rows_of files) k m r at u c)) in
           record {

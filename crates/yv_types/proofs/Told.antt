@@ -1,6 +1,7 @@
 -- What is told of the type statements at places.
 use Rattle.std.proofs.Common.{◌≡◌, ℕ, List, Option, Some, None, refl, sym, ◌∙◌, subst, codes}
 use Rattle.std.specs.Option.{option_and_then}
+use Rattle.yv_base_tables.specs.declared.table.Table.{Table}
 use Rattle.yv_statement.specs.Selection.{Selected}
 use Rattle.yv_link_scopes.specs.Files.{Files}
 use Rattle.yv_link_scopes.specs.RowList.{rows_of}
@@ -8,7 +9,7 @@ use Rattle.yv_link_definitions.specs.References.{number_at}
 use Rattle.yv_type_chains.specs.Types.{IsTypeAt}
 use Rattle.yv_type_enums.specs.Types.{Truth}
 use Rattle.yv_values.specs.Types.{Plain}
-use Rattle.yv_types.specs.InnerPlaces.{placed_in}
+use Rattle.yv_link_definitions.specs.Places.{placed_in}
 use Rattle.yv_types.specs.InnerTables.{AreSpaces, plains_at}
 use Rattle.yv_types.specs.Types.{AreTypes, IsTold, space_at}
 use Rattle.yv_types.specs.declared.type_table.Types.{Types}
@@ -16,7 +17,7 @@ use Rattle.yv_types.specs.declared.table.SharedTypes.{SharedTypes}
 use Rattle.yv_types.proofs.Placing.{type_there}
 
 module _ (files : Files) (choice : Selected) (truth : Truth) where
-  told_of : (spaces : List (Option SharedTypes)) (number : Option ℕ) → AreSpaces files truth choice spaces → ((k : ℕ) → number ≡ Some k → IsTypeAt (rows_of files) k)
+  told_of : (spaces : Table SharedTypes) (number : Option ℕ) → AreSpaces files truth choice spaces → ((k : ℕ) → number ≡ Some k → IsTypeAt (rows_of files) k)
       → IsTold files choice truth number (option_and_then (plains_at spaces) number)
   told_of spaces None are types = tt
   told_of spaces (Some k) are types = by (plains_at spaces k) refl
@@ -30,4 +31,4 @@ module _ (files : Files) (choice : Selected) (truth : Truth) where
   all_told types are file offset =
       let placed : placed_in types.places file offset ≡ number_at (rows_of files) (codes "type") file offset = are.places file offset in
       subst (λ (number : Option ℕ). IsTold files choice truth number (space_at types file offset)) placed
-      (told_of types.spaces.items (placed_in types.places file offset) are.spaces (λ k e. type_there (rows_of files) file offset k (sym placed ∙ e)))
+      (told_of types.spaces (placed_in types.places file offset) are.spaces (λ k e. type_there (rows_of files) file offset k (sym placed ∙ e)))

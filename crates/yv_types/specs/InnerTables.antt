@@ -1,7 +1,9 @@
 -- Inner definitions, which only private clauses and the tables cite: plain types by number.
-use Rattle.std.specs.Prelude.{◌≡◌, ◌<◌, ◌⊎◌, ℕ, List, [], ◌∷◌, ◌++◌, Option, Some, None, map, slice_get}
+use Rattle.std.specs.Prelude.{◌≡◌, ◌<◌, ◌⊎◌, ℕ, List, [], ◌∷◌, ◌++◌, Option, Some, None, map}
 use Rattle.std.specs.Option.{option_and_then, option_map}
 use Rattle.std.specs.Rc.{rc_slice_items}
+use Rattle.yv_base_tables.specs.Table.{item_of}
+use Rattle.yv_base_tables.specs.declared.table.Table.{Table}
 use Rattle.yv_statement.specs.Selection.{Selected}
 use Rattle.yv_link_scopes.specs.Files.{Files, brief_of}
 use Rattle.yv_link_scopes.specs.RowList.{rows_of}
@@ -23,27 +25,27 @@ abbrev pub entry_of : SharedTypes → ℕ × List Plain
 entry_of shared = (shared.list, plains shared)
 
 -- those at a place, if there are some
-abbrev pub entry_at : List (Option SharedTypes) → ℕ → Option (ℕ × List Plain)
-entry_at spaces k = option_and_then (option_map entry_of) (slice_get spaces k)
+abbrev pub entry_at : Table SharedTypes → ℕ → Option (ℕ × List Plain)
+entry_at spaces k = option_map entry_of (item_of spaces k)
 
 -- lists of one number have the same plain types
-abbrev pub AreNumbered : List (Option SharedTypes) → Type 0
+abbrev pub AreNumbered : Table SharedTypes → Type 0
 AreNumbered spaces = (j k : ℕ) (x y : ℕ × List Plain) → entry_at spaces j ≡ Some x → entry_at spaces k ≡ Some y → x.0 ≡ y.0 → x.1 ≡ y.1
 
 -- their numbers are below this one
-abbrev pub AreBelow : List (Option SharedTypes) → ℕ → Type 0
+abbrev pub AreBelow : Table SharedTypes → ℕ → Type 0
 AreBelow spaces next = (k : ℕ) (x : ℕ × List Plain) → entry_at spaces k ≡ Some x → x.0 < next
 
 -- a list has this number, or it is one of those that are there
-abbrev pub IsNewOrThere : List (Option SharedTypes) → ℕ → Option SharedTypes → Type 0
+abbrev pub IsNewOrThere : Table SharedTypes → ℕ → Option SharedTypes → Type 0
 IsNewOrThere spaces next space = (x : ℕ × List Plain) → option_map entry_of space ≡ Some x → (x.0 ≡ next) ⊎ ((k : ℕ) × (entry_at spaces k ≡ Some x))
 
 -- the plain types at a place, if there are some
-abbrev pub plains_at : List (Option SharedTypes) → ℕ → Option (List Plain)
-plains_at spaces k = option_and_then (option_map plains) (slice_get spaces k)
+abbrev pub plains_at : Table SharedTypes → ℕ → Option (List Plain)
+plains_at spaces k = option_map plains (item_of spaces k)
 
 -- plain types and those of members behind them, if each has some
-abbrev pub joined_from : List (Option SharedTypes) → List Plain → List ℕ → Option (List Plain)
+abbrev pub joined_from : Table SharedTypes → List Plain → List ℕ → Option (List Plain)
 joined_from spaces all [] = Some all
 joined_from spaces all (m ∷ ms) = option_and_then (λ ps. joined_from spaces (all ++ ps) ms) (plains_at spaces m)
 
@@ -53,7 +55,7 @@ pub record IsSpace (files : Files) (truth : Truth) (choice : Selected) (k : ℕ)
   pub full : space ≡ None → (ps : List Plain) → Space files truth choice k ps → ⊥
 
 -- the table has the plain types of those
-abbrev pub AreKnown : Files → Truth → Selected → (ℕ → Type 0) → List (Option SharedTypes) → Type 0
+abbrev pub AreKnown : Files → Truth → Selected → (ℕ → Type 0) → Table SharedTypes → Type 0
 AreKnown files truth choice Those spaces = (k : ℕ) → Those k → IsSpace files truth choice k (plains_at spaces k)
 
 -- an enumeration or bits of the names that are values
@@ -74,6 +76,6 @@ abbrev pub IsUnrestricted : Files → ℕ → Type 0
 IsUnrestricted files k = (t : Tree) × IsType files k t × (trees t.children ≡ [])
 
 -- the table has the plain types of all types, and of nothing else
-pub record AreSpaces (files : Files) (truth : Truth) (choice : Selected) (spaces : List (Option SharedTypes)) : Type 0 where
+pub record AreSpaces (files : Files) (truth : Truth) (choice : Selected) (spaces : Table SharedTypes) : Type 0 where
   pub sound : (k : ℕ) (ps : List Plain) → plains_at spaces k ≡ Some ps → Space files truth choice k ps
   pub full : (k : ℕ) → IsTypeAt (rows_of files) k → plains_at spaces k ≡ None → (ps : List Plain) → Space files truth choice k ps → ⊥

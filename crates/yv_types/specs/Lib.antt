@@ -10,5 +10,4 @@ pub mod InnerLeafrefTables
 pub mod Refusals
 pub mod Spaces
 pub mod Types
-pub mod InnerPlaces
 pub mod InnerTables

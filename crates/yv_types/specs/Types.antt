@@ -16,7 +16,7 @@ use Rattle.yv_types.specs.LeafrefTypes.{AreLeafrefTypes}
 use Rattle.yv_types.specs.LeafrefTypes.{found_in as leafref_in}
 use Rattle.yv_types.specs.Referrals.{HasReferral}
 use Rattle.yv_types.specs.declared.leafref_path.TypeLeafref.{TypeLeafref}
-use Rattle.yv_types.specs.InnerPlaces.{placed_in}
+use Rattle.yv_link_definitions.specs.Places.{placed_in}
 use Rattle.yv_values.specs.Types.{Plain}
 use Rattle.yv_types.specs.InnerTables.{AreSpaces, entry_at, plains_at}
 use Rattle.yv_types.specs.Spaces.{Space}
@@ -33,14 +33,14 @@ pub record AreLayers (files : Files) (truth : Truth) (layers : Layers) : Type 0 
 -- these are the plain types and the defaults of the types of these files, what these say as
 -- leafrefs, and their places; how, only the readers ask
 pub record AreTypes (files : Files) (choice : Selected) (truth : Truth) (types : Types) : Type 0 where
-  pub spaces : AreSpaces files truth choice types.spaces.items
+  pub spaces : AreSpaces files truth choice types.spaces
   pub defaults : AreDefaults files types.defaults
   pub leafrefs : AreLeafrefTypes files types.leafrefs
   pub places : (file offset : ℕ) → placed_in types.places file offset ≡ number_at (rows_of files) (codes "type") file offset
 
 -- the plain types that are told of the type statement at an offset of a file
 abbrev pub space_at : Types → ℕ → ℕ → Option (List Plain)
-space_at types file offset = option_and_then (plains_at types.spaces.items) (placed_in types.places file offset)
+space_at types file offset = option_and_then (plains_at types.spaces) (placed_in types.places file offset)
 
 -- what is told of the plain types of the statement of this number, where there is one, is so
 abbrev pub IsTold : Files → Selected → Truth → Option ℕ → Option (List Plain) → Type 0
@@ -57,7 +57,7 @@ default_at types file offset = option_and_then (found_in types.defaults) (placed
 -- default
 abbrev pub sharing_of : Types → ℕ → Option (ℕ × ℕ)
 sharing_of types k =
-    option_and_then (λ (e : ℕ × List Plain). option_map (λ typedef. (e.0, typedef)) (typedef_in types.defaults k)) (entry_at types.spaces.items k)
+    option_and_then (λ (e : ℕ × List Plain). option_map (λ typedef. (e.0, typedef)) (typedef_in types.defaults k)) (entry_at types.spaces k)
 
 -- those of the type statement at an offset of a file
 abbrev pub sharing_at : Types → ℕ → ℕ → Option (ℕ × ℕ)

@@ -10,11 +10,10 @@ ghost use Rattle.yv_types.specs.{Refusals.{BadTypes}, Types.{AreTypes}};
 use crate::defaults::TypedefDefaults;
 use crate::layers::Layers;
 use crate::leafref_types::LeafrefTypes;
-use crate::places::TypePlaces;
 use crate::type_table::Types;
 use std::alloc::Global;
 use yv_link::Linked;
-use yv_link_definitions::{Names, names};
+use yv_link_definitions::{Names, names, places_of_types};
 use yv_statement::Stop;
 
 /// The plain types and the defaults of the types of linked files, and what they say as leafrefs,
@@ -49,7 +48,7 @@ pub fn types(alloc: Global, linked: &Linked<'_, '_>, names: &Names) -> Result<Ty
     let spaces = layers.spaces(alloc, linked)?;
     let defaults = TypedefDefaults::read(alloc, linked.rows(), names, &layers.bases)?;
     let leafrefs = LeafrefTypes::read(alloc, linked.rows(), &layers.bases)?;
-    let places = TypePlaces::read(alloc, linked.rows())?;
+    let places = places_of_types(alloc, linked.rows())?;
     Ok(Types {
         spaces,
         defaults,

@@ -18,7 +18,6 @@ mod leafref_path;
 mod leafref_table;
 mod leafref_types;
 mod path;
-mod places;
 mod require_instance;
 mod rows;
 mod scopes;

@@ -6,10 +6,11 @@ ghost use Rattle.yv_link.specs.LinkedFiles.{AreLinked, truth_in};
 ghost use Rattle.yv_types.specs.{Types.{AreLayers}, InnerTables.{AreNumbered, AreSpaces}};
 
 use crate::layers::Layers;
-use crate::table::{SharedTypes, no_spaces, put};
+use crate::table::{SharedTypes, put};
 use std::alloc::{AllocError, Global};
+use yv_base_tables::Table;
 use yv_link::Linked;
-use yv_type_chains::types_inside;
+use yv_type_chains::types_by_block;
 use yv_type_identities::IdentityLists;
 
 impl Layers<'_> {
@@ -18,17 +19,17 @@ impl Layers<'_> {
         &self,
         alloc: Global,
         linked: &Linked<'_, '_>,
-    ) -> Result<Vec<Option<SharedTypes>>, AllocError>
+    ) -> Result<Table<SharedTypes>, AllocError>
         ensures makes { IfOk result
             (λ spaces. (files : Files) (choice : Selected) → AreLinked files choice linked.now
             → AreLayers files (truth_in linked.now) self.now
-            → AreSpaces files (truth_in linked.now) choice spaces.items) }
-        ensures numbers { IfOk result (λ spaces. AreNumbered spaces.items) }
+            → AreSpaces files (truth_in linked.now) choice spaces) }
+        ensures numbers { IfOk result (λ spaces. AreNumbered spaces) }
     {
         let rows = linked.rows();
-        let inside = types_inside(alloc, rows)?;
+        let inside = types_by_block(alloc, rows)?;
         let mut identities = IdentityLists::new(alloc, linked)?;
-        let mut spaces = no_spaces(alloc, rows.entries().len())?;
+        let mut spaces = Table::new(alloc);
         let mut list = 0;
         for number in self.bases.order() {
             let space = self.types_at(
@@ -40,7 +41,7 @@ impl Layers<'_> {
                 *number,
                 list,
             )?;
-            put(&mut spaces, *number, space);
+            put(&mut spaces, *number, space)?;
             list += 1;
         }
         Ok(spaces)

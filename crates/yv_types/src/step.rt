@@ -1,8 +1,8 @@
 //! The plain types of one type.
-ghost use Rattle.std.specs.{Prelude.{◌≡◌, ℕ, List, [], Some, true, map, slice_get, IfOk, IfSome}, Option.{option_map}};
+ghost use Rattle.std.specs.{Prelude.{◌≡◌, ℕ, List, [], Some, true, map, slice_get, slice_index_or, IfOk, IfSome}, Option.{option_map}};
 ghost use Rattle.yv_statement.specs.Selection.{Selected};
 ghost use Rattle.yv_link_scopes.specs.{Files.{Files, brief_of}, Rows.{row}, RowList.{rows_of}};
-ghost use Rattle.yv_type_chains.specs.{Types.{RestsOn, is_kind, types_in}, InnerTables.{items_at}};
+ghost use Rattle.yv_type_chains.specs.Types.{RestsOn, is_kind, types_in};
 ghost use Rattle.yv_type_enums.specs.TypeNames.{told_of};
 ghost use Rattle.yv_link.specs.LinkedFiles.{AreLinked, truth_in};
 ghost use Rattle.yv_values.specs.Types.{Plain, plain_of};
@@ -13,6 +13,7 @@ use crate::layers::Layers;
 use crate::table::{SharedTypes, join_members, list_at, one};
 use std::alloc::{AllocError, Global};
 use std::rc::RcSlice;
+use yv_base_tables::{Families, Table};
 use yv_link::Linked;
 use yv_link_scopes::{Entry, name_of};
 use yv_type_enums::{NumberKind, TypeNames};
@@ -51,7 +52,7 @@ fn built_in(
     alloc: Global,
     linked: &Linked<'_, '_>,
     identities: &mut IdentityLists,
-    spaces: &[Option<SharedTypes>],
+    spaces: &Table<SharedTypes>,
     members: &[usize],
     number: usize,
     list: usize,
@@ -83,16 +84,6 @@ fn built_in(
     }
 }
 
-// The members of a union.
-fn members_of(inside: &[Vec<usize>], number: usize) -> &[usize]
-    ensures { result.now ≡ items_at inside.now number }
-{
-    match inside.get(number) {
-        Some(members) => members,
-        None => &[],
-    }
-}
-
 // Whether the numbered statement is a type that says nothing but a name.
 fn is_unrestricted(linked: &Linked<'_, '_>, number: usize) -> bool
     ensures { (files : Files) (choice : Selected) → AreLinked files choice linked.now → result
@@ -110,7 +101,7 @@ impl Layers<'_> {
     fn shared_types(
         &self,
         linked: &Linked<'_, '_>,
-        spaces: &[Option<SharedTypes>],
+        spaces: &Table<SharedTypes>,
         number: usize,
     ) -> Result<Option<SharedTypes>, AllocError>
         ensures space { IfOk result
@@ -141,8 +132,8 @@ impl Layers<'_> {
         alloc: Global,
         linked: &Linked<'_, '_>,
         identities: &mut IdentityLists,
-        inside: &[Vec<usize>],
-        spaces: &[Option<SharedTypes>],
+        inside: &Families,
+        spaces: &Table<SharedTypes>,
         number: usize,
         list: usize,
     ) -> Result<Option<SharedTypes>, AllocError>
@@ -150,7 +141,7 @@ impl Layers<'_> {
             → IfOk result
             (λ s. (files : Files) (choice : Selected) → AreLinked files choice linked.now
             → AreLayers files (truth_in linked.now) self.now
-            → ((block : ℕ) → items_at inside.now block ≡ types_in (rows_of files) block)
+            → ((block : ℕ) → slice_index_or inside.now block [] ≡ types_in (rows_of files) block)
             → AreKnown files (truth_in linked.now) choice
             (RestsOn (map brief_of files) (rows_of files) number) spaces.now
             → IsSpace files (truth_in linked.now) choice number (option_map plains s)) }
@@ -170,7 +161,7 @@ impl Layers<'_> {
         if let Some(followed) = self.bases.follows(number) {
             return list_at(spaces, followed);
         }
-        let members = members_of(inside, number);
+        let members = inside.at(number);
         match linked.rows().entries().get(number) {
             Some(entry) => built_in(
                 alloc, linked, identities, spaces, members, number, list, entry,

@@ -1,10 +1,11 @@
 //! Plain types by number.
-ghost use Rattle.std.specs.{Prelude.{◌≡◌, ◌≢◌, ◌<◌, ◌⊎◌, ◌∷◌, ◌++◌, ℕ, [], None, length, map, take, IfOk, IfSome, OnOk}, Option.{option_map, option_copied}};
+ghost use Rattle.std.specs.{Prelude.{◌≡◌, ◌≢◌, ◌⊎◌, ◌∷◌, ◌++◌, ℕ, [], map, take, IfOk, IfSome, OnOk}, Option.{option_map, option_copied}};
 ghost use Rattle.yv_values.specs.Types.{plain_of};
 ghost use Rattle.yv_types.specs.InnerTables.{entry_at, entry_of, joined_from, plains, plains_at};
 
 use std::alloc::{AllocError, Global};
 use std::rc::RcSlice;
+use yv_base_tables::Table;
 use yv_values::PlainType;
 
 /// The plain types of a type. Those that share them have one list.
@@ -27,30 +28,17 @@ impl SharedTypes {
     }
 }
 
-/// So many places, none with types.
-pub(crate) fn no_spaces(alloc: Global, count: usize) -> Result<Vec<Option<SharedTypes>>, AllocError>
-    ensures { IfOk result
-        (λ spaces. (length spaces.items ≡ count) × ((k : ℕ) → plains_at spaces.items k ≡ None)
-        × ((k : ℕ) → entry_at spaces.items k ≡ None)) }
-{
-    let mut spaces = Vec::new(alloc);
-    for _ in 0..count {
-        spaces.push(None)?;
-    }
-    Ok(spaces)
-}
-
 /// The types at a place.
-pub(crate) fn get(spaces: &[Option<SharedTypes>], place: usize) -> Option<&SharedTypes>
+pub(crate) fn get(spaces: &Table<SharedTypes>, place: usize) -> Option<&SharedTypes>
     ensures types { option_map plains (option_copied result) ≡ plains_at spaces.now place }
     ensures entry { option_map entry_of (option_copied result) ≡ entry_at spaces.now place }
 {
-    spaces.get(place)?.as_ref()
+    spaces.get(place)
 }
 
 /// The types at a place once more.
 pub(crate) fn list_at(
-    spaces: &[Option<SharedTypes>],
+    spaces: &Table<SharedTypes>,
     place: usize,
 ) -> Result<Option<SharedTypes>, AllocError>
     ensures types { IfOk result (λ s. option_map plains s ≡ plains_at spaces.now place) }
@@ -62,19 +50,21 @@ pub(crate) fn list_at(
     }
 }
 
-/// Puts types, or none, at a place that there is.
-pub(crate) fn put(spaces: &mut Vec<Option<SharedTypes>>, place: usize, space: Option<SharedTypes>)
-    ensures each { length spaces.new.items ≡ length spaces.old.items }
-    ensures here { place < length spaces.old.items → plains_at spaces.new.items place
-        ≡ option_map plains space }
-    ensures elsewhere { (k : ℕ) → k ≢ place → plains_at spaces.new.items k
-        ≡ plains_at spaces.old.items k }
-    ensures entries { (k : ℕ) → (entry_at spaces.new.items k ≡ entry_at spaces.old.items k)
-        ⊎ (entry_at spaces.new.items k ≡ option_map entry_of space) }
+/// Puts types, or none, at a place.
+pub(crate) fn put(
+    spaces: &mut Table<SharedTypes>,
+    place: usize,
+    space: Option<SharedTypes>,
+) -> Result<(), AllocError>
+    ensures here { OnOk result (plains_at spaces.new place ≡ option_map plains space) }
+    ensures elsewhere { OnOk result
+        ((k : ℕ) → k ≢ place → plains_at spaces.new k ≡ plains_at spaces.old k) }
+    ensures entries { OnOk result
+        ((k : ℕ) → (entry_at spaces.new k ≡ entry_at spaces.old k)
+        ⊎ (entry_at spaces.new k ≡ option_map entry_of space)) }
 {
-    if place < spaces.len() {
-        spaces[place] = space;
-    }
+    spaces.put(place, space)?;
+    Ok(())
 }
 
 /// A list of one type, with this number.
@@ -102,7 +92,7 @@ fn extend(all: &mut Vec<PlainType>, types: &[PlainType]) -> Result<(), AllocErro
 /// The types of members, one after the other, if each has some: a list with this number.
 pub(crate) fn join_members(
     alloc: Global,
-    spaces: &[Option<SharedTypes>],
+    spaces: &Table<SharedTypes>,
     members: &[usize],
     list: usize,
 ) -> Result<Option<SharedTypes>, AllocError>

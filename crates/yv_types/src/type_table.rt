@@ -11,10 +11,11 @@ ghost use Rattle.yv_node_definition.specs.Definition.{written_of};
 use crate::defaults::TypedefDefaults;
 use crate::leafref_path::TypeLeafref;
 use crate::leafref_types::LeafrefTypes;
-use crate::places::TypePlaces;
 use crate::table::{SharedTypes, get, list_at};
 use std::alloc::AllocError;
 use std::rc::RcSlice;
+use yv_base_tables::Table;
+use yv_link_definitions::PlaceList;
 use yv_node_definition::WrittenText;
 use yv_statement::Statement;
 use yv_values::PlainType;
@@ -23,11 +24,11 @@ use yv_values::PlainType;
 /// what they say as leafrefs.
 #[derive(Drop)]
 pub struct Types {
-    pub(crate) spaces: Vec<Option<SharedTypes>>,
+    pub(crate) spaces: Table<SharedTypes>,
     pub(crate) defaults: TypedefDefaults,
     pub(crate) leafrefs: LeafrefTypes,
-    pub(crate) places: TypePlaces,
-    ghost numbered: { AreNumbered spaces.items },
+    pub(crate) places: PlaceList,
+    ghost numbered: { AreNumbered spaces },
 }
 
 impl Types {

@@ -3,12 +3,12 @@ ghost use Rattle.std.specs.Prelude.{◌≡◌, ◌==◌, ◌<◌, ◌≤◌, ◌
 ghost use Rattle.serde_json.specs.{Data.{depth as nesting, object as an_object}, View.{view, items_view, members_view}};
 ghost use Rattle.yv_node_definition.specs.Kinds.{is_data};
 ghost use Rattle.yv_values.specs.Count.{count_up};
-ghost use Rattle.yv_nodes.specs.Rows.{rank, below, whole};
+ghost use Rattle.yv_nodes.specs.Rows.{rank, below, children_of, whole};
 ghost use Rattle.yv_schema_tables.specs.Measures.{measures_of};
 ghost use Rattle.yv_walk.specs.{Context.{members_len, members_of}, Existence.{any, existence_of}};
 ghost use Rattle.yv_leafref_values.specs.{Findings.{first_of}, InUse.{is_asked, is_number}};
 ghost use Rattle.yv_validate.specs.{Faults.{array_faults, faults as all_faults, flaw}, InnerNotes.{GainsBy, HasTuples}, InnerWalk.{children_met, Meets, MeetsBelow}, Size.{size}, Work.{work}, InnerPromises.{ClosesAt, ClosesData, data_of, fallback_in, faults_in, GainsData, GrowsAt, GrowsBy, GrowsWithAt, IsDataOn, IsObjectOn, IsParentOn, IsStateOn, MayChoose, MayMeet, MayMeetBelow, met_at_data, met_at_node, met_below, met_in_cases, met_in_container, met_in_entries, met_in_list, met_in_object, most_work, next_at, node_in, own_node, Reports, unknowns_in, work_in}};
-ghost use Rattle.yv_quiet_nodes.specs.Quiet.{IsEmptied, IsPassed};
+ghost use Rattle.yv_quiet_nodes.specs.{Quiet.{IsEmptied, IsPassed}, Runs.{AreRuns, IsPast}};
 
 use crate::laws::work_bound;
 use crate::memory::stood_before;
@@ -24,7 +24,9 @@ use yv_faults::{FaultKind, Faults, Trail};
 use yv_leafref_values::{RuleScope, answer, laws as found_laws};
 use yv_node_definition::NodeKind;
 use yv_nodes::NodeId;
-use yv_quiet_nodes::{RunTable, inner_steps, known_nodes, known_steps, pass_quiet};
+use yv_quiet_nodes::{
+    Run, RunTable, inner_steps, known_nodes, known_steps, pass_quiet, pass_quiet_children,
+};
 use yv_schema_tables::Schema;
 use yv_statement::Kind;
 use yv_values::{Index, Meter};
@@ -203,7 +205,7 @@ impl<'a> Walk<'a> {
     }
 
     // The steps of what is below a node in an object without members, where nothing else comes of
-    // it.
+    // it. Where there are many children, these are passed over one run after the other.
     fn empty_steps(&self, parent: NodeId, members: &Map<String, Value>) -> Option<u64>
         requires { rank parent ≤ length self.now.schema.now.nodes }
         ensures { IfSome result
@@ -212,11 +214,15 @@ impl<'a> Walk<'a> {
         if !members.is_empty() {
             return None;
         }
+        if !self.runs.runs_at(parent).is_empty() {
+            return None;
+        }
         let steps = inner_steps(self.schema, self.known, parent)?;
         Some(steps)
     }
 
-    // The nodes below one, each in this scope, in the object with this number.
+    // The nodes below one, each in this scope, in the object with this number: of many, those of
+    // which nothing comes are passed over at once.
     #[cycle(walk)]
     fn children(
         &self,
@@ -235,10 +241,41 @@ impl<'a> Walk<'a> {
         found_laws::nothing_met();
         found_laws::met_behind();
         found_laws::kept_objects_are_entered();
-        for child in self.schema.children(at.id) {
-            self.meet(Visit { id: *child, ..at }, context, notes, progress)?;
+        let parent = at.id;
+        let children = self.schema.children(parent);
+        let runs = self.runs.runs_at(parent);
+        let mut place = 0;
+        while place < children.len() {
+            let id = children[place];
+            let is_passed = self.meet(Visit { id, ..at }, context, notes, progress)?;
+            let meter = &mut progress.meter;
+            place = self.next_place(runs, parent, place + 1, is_passed, context, meter);
         }
         Ok(())
+    }
+
+    // The place of the child that is met next, from this one on. A run is looked for only where the
+    // child before was passed over: then those behind it are often not in the object either.
+    fn next_place(
+        &self,
+        runs: &[Run],
+        parent: NodeId,
+        from: usize,
+        is_passed: bool,
+        context: &Context<'_>,
+        meter: &mut Meter,
+    ) -> usize
+        requires node { rank parent ≤ length self.now.schema.now.nodes }
+        requires runs { AreRuns self.now.schema.now (children_of self.now.schema.now parent)
+            runs.now }
+        requires meets { MeetsBelow self.now.schema.now context.now parent }
+        ensures { IsPast self.now.schema.now parent (members_of context.now) from result meter.old
+            meter.new }
+    {
+        if !is_passed || runs.is_empty() {
+            return from;
+        }
+        pass_quiet_children(self.schema, runs, parent, from, context, meter)
     }
 
     // The cases of a choice, each in a scope of its own: many of which nothing comes are passed
@@ -297,7 +334,8 @@ impl<'a> Walk<'a> {
     }
 
     // A node that may be in the object, whose surroundings have this scope. Most nodes of an object
-    // are often not in it, and nothing comes of them: then their steps are counted at once.
+    // are often not in it, and nothing comes of them: then their steps are counted at once. The
+    // answer says whether that was so.
     #[cycle(walk)]
     fn meet(
         &self,
@@ -305,7 +343,7 @@ impl<'a> Walk<'a> {
         context: &Context<'_>,
         notes: &mut Notes,
         progress: &mut Progress<'a>,
-    ) -> Result<(), AllocError>
+    ) -> Result<bool, AllocError>
         requires { MayMeet self.now at context.now }
         ensures grows { OnOk result (GrowsAt self.now at.entry progress.old progress.new
             (met_at_node self.now at.entry context.now)) }
@@ -315,9 +353,10 @@ impl<'a> Walk<'a> {
         found_laws::nothing_met();
         if let Some(steps) = self.passed_steps(at.id, context) {
             progress.meter.visit_all(steps);
-            return Ok(());
+            return Ok(true);
         }
-        self.node(at, context, notes, progress)
+        self.node(at, context, notes, progress)?;
+        Ok(false)
     }
 
     // The steps of a node with all that is met below it, where none of them exists in the object

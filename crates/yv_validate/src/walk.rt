@@ -10,7 +10,7 @@ use yv_schema_tables::Schema;
 use yv_statement::Kind;
 
 /// A validation: where its memory comes from, the schema, what kind of document is asked for, and
-/// what is known of the nodes of the schema and of cases one after the other.
+/// what is known of the nodes of the schema and of children one after the other.
 #[derive(Clone, Copy)]
 pub(crate) struct Walk<'a> {
     pub(crate) alloc: Global,
@@ -19,7 +19,7 @@ pub(crate) struct Walk<'a> {
     pub(crate) known: &'a [Option<u64>],
     pub(crate) runs: &'a RunTable,
     ghost nodes: { AreKnown schema.now known.now },
-    ghost cases: { HasRuns schema.now runs.now },
+    ghost children: { HasRuns schema.now runs.now },
 }
 
 /// A visit of a node: its scope, or the one around it, the node, the way to the object in which it

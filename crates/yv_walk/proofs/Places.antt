@@ -16,7 +16,7 @@ use Rattle.yv_nodes.specs.declared.node.NodeId.{NodeId}
 use Rattle.yv_schema_tables.specs.Sound.{IsChild, IsSound}
 use Rattle.yv_walk.specs.Context.{IsContext, members_of, parent_of}
 use Rattle.yv_walk.specs.InnerNextExisting.{Ascend, IsUnkept}
-use Rattle.yv_walk.specs.Existence.{any, child_exists, is_there, kind_standing, passes, row_standing, existence_of, stands_in, tree_standing}
+use Rattle.yv_walk.specs.Existence.{any, child_exists, ChildrenStand, is_there, kind_standing, passes, row_standing, existence_of, stands_in, tree_standing}
 use Rattle.yv_walk.specs.declared.context.Context.{Context}
 use Rattle.yv_walk.specs.declared.existence.Existence.{Existence}
 use Rattle.yv_walk.specs.declared.existence.Existence.TheVariants.{Nothing, Only}
@@ -97,14 +97,21 @@ unkept_nothing s c x sound lt context stands unkept =
 abbrev pub AreUnkept : Context → List NodeId → (from to : ℕ) → Type 0
 AreUnkept c cs from to = (place : ℕ) (d : NodeId) → from ≤ place → place < to → place < length cs → IsUnkept c (get_or cs place d).0
 
+-- none of them exists, where the node's children stand in the object
+pub unkept_children : (s : Rows) (c : Context) (p : NodeId) (cs : List NodeId) (from to : ℕ) → IsSound s → rank p ≤ length s.nodes → IsContext s c → ChildrenStand s (parent_of c) p
+    → cs ≡ children_of s p → AreUnkept c cs from to → (place : ℕ) → from ≤ place → place < to → place < length (children_of s p)
+    → child_exists s p (members_of c) place ≡ false
+unkept_children s c p cs from to sound le context stand same unkept place low high within =
+    let x : NodeId = get_or (children_of s p) place p in
+    let here : IsUnkept c x.0 = subst (λ (xs : List NodeId). AreUnkept c xs from to) same unkept place p low high within in
+    let is_child : IsChild s p x = sound.children p le place p within in
+    ap any (unkept_nothing s c x sound is_child.within context (stand place p within) here)
+
 pub unkept_places : (s : Rows) (c : Context) (p : NodeId) (cs : List NodeId) (from to : ℕ) → IsSound s → p.0 < length s.nodes → IsContext s c → stands_in s (parent_of c) p ≡ true
     → passes s p ≡ true → cs ≡ children_of s p → AreUnkept c cs from to → (place : ℕ) → from ≤ place → place < to → place < length (children_of s p)
     → child_exists s p (members_of c) place ≡ false
 unkept_places s c p cs from to sound lt context stands pass same unkept place low high within =
-    let x : NodeId = get_or (children_of s p) place p in
-    let here : IsUnkept c x.0 = subst (λ (xs : List NodeId). AreUnkept c xs from to) same unkept place p low high within in
-    let is_child : IsChild s p x = sound.children p (rank_within s p lt) place p within in
-    ap any (unkept_nothing s c x sound is_child.within context (inner_stands s (parent_of c) p place p sound stands pass within) here)
+    unkept_children s c p cs from to sound (rank_within s p lt) context (λ i d less. inner_stands s (parent_of c) p i d sound stands pass less) same unkept place low high within
 
 -- ---- how many exist
 

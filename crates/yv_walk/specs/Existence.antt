@@ -1,6 +1,6 @@
 -- Which data nodes exist in one object of a document: through choices and cases, and each by its
 -- number (RFC 7950, sections 7.5 to 7.11).
-use Rattle.std.specs.Prelude.{ℕ, ◌+◌, ◌==◌, ◌&&◌, ◌||◌, Bool, true, false, not, Option, Some, None, if◌then◌else◌}
+use Rattle.std.specs.Prelude.{◌≡◌, ℕ, ◌+◌, ◌<◌, ◌==◌, ◌&&◌, ◌||◌, Bool, true, false, not, length, Option, Some, None, if◌then◌else◌}
 use Rattle.std.specs.List.{slice_index_or}
 use Rattle.serde_json.specs.Data.{Data, array, no_items, Members}
 use Rattle.serde_json.specs.Find.{get_member}
@@ -89,6 +89,11 @@ holds first (tree (node l kids) ts) n =
 -- object
 abbrev pub stands_in : Rows → (p n : NodeId) → Bool
 stands_in s p n = is_object s p && holds (rank p) (below s p) n
+
+-- the children of the node n stand in the object of p
+abbrev pub ChildrenStand : Rows → (p n : NodeId) → Type 0
+ChildrenStand s p n =
+    (i : ℕ) (d : NodeId) → i < length (children_of s n) → stands_in s p (slice_index_or (children_of s n) i d) ≡ true
 
 -- ---- one after the other
 

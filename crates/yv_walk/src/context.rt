@@ -5,7 +5,7 @@ ghost use Rattle.yv_node_definition.specs.Kinds.{is_data};
 ghost use Rattle.yv_values.specs.Count.{count_up};
 ghost use Rattle.yv_nodes.specs.{declared.node.NodeId.{NodeId}, Rows.{Rows, below, children_of, rank, row_at, tree_of}};
 ghost use Rattle.yv_schema_tables.specs.Sound.{object_trees};
-ghost use Rattle.yv_walk.specs.{InnerNextExisting.{Ascend, IsUnkept, is_before}, Marks.{with_node, mark_at}, Existence.{child_exists, count_standing, holds, is_there as exists, passes, row_standing, stands_in, tree_standing}};
+ghost use Rattle.yv_walk.specs.{InnerNextExisting.{Ascend, IsUnkept, is_before}, Marks.{with_node, mark_at}, Existence.{ChildrenStand, child_exists, count_standing, holds, is_there as exists, passes, row_standing, stands_in, tree_standing}};
 
 use crate::existence::Existence;
 use crate::exists::is_there;
@@ -207,10 +207,28 @@ impl<'v> Context<'v> {
         None
     }
 
+    /// Passes over children of a node, from this place on, of which nothing is written, where its
+    /// children are in the object: none of them exists. The place behind them, which is this one
+    /// where there are none. It takes time log n.
+    pub fn pass_absent(&self, schema: &Schema, parent: NodeId, from: usize) -> usize
+        requires { rank parent ≤ length schema.now.nodes }
+        ensures behind { from ≤ result }
+        ensures within { from ≤ length (children_of schema.now parent)
+            → result ≤ length (children_of schema.now parent) }
+        ensures absent { IsContext schema.now self.now
+            → ChildrenStand schema.now (parent_of self.now) parent
+            → (place : ℕ) → from ≤ place → place < result
+            → place < length (children_of schema.now parent)
+            → child_exists schema.now parent (members_of self.now) place ≡ false }
+    {
+        self.pass_unkept(schema.children(parent), from)
+    }
+
     // The first place from this one on where something may be kept of the node.
     fn pass_unkept(&self, nodes: &[NodeId], from: usize) -> usize
         requires { Ascend nodes.now }
         ensures behind { from ≤ result }
+        ensures within { from ≤ length nodes.now → result ≤ length nodes.now }
         ensures unkept { (place : ℕ) (d : NodeId) → from ≤ place → place < result → place
             < length nodes.now
             → IsUnkept self.now (slice_index_or nodes.now place d).0 }

@@ -1,4 +1,6 @@
-use Rattle.std.proofs.Common.{◌≡◌, ◌<◌, ℕ, List, None, length, get_or, map, sym, ◌∙◌, ap, subst, arith}
+use Rattle.std.proofs.Common.{◌≡◌, ◌<◌, ℕ, List, length, get_or, map, sym, ◌∙◌, ap, subst, arith}
+use Rattle.std.specs.BTreeMap.{get}
+use Rattle.std.specs.Ordering.{nat_cmp}
 use Rattle.std.specs.declared.vec.Vec.{Vec}
 use Rattle.std.specs.declared.alloc.Global.{Global}
 use Rattle.std.proofs.lemmas.List.{length-map}
@@ -66,7 +68,7 @@ returns c =
       each = are.long ∙ sym long;
       once = subst (λ (n : ℕ). StandOnce n new.groups) all once;
       spots = ap (λ (x : LayoutView). x.spots) c.in_ok-layout.ensures.lays;
-      missing = λ i. subst (λ (x : LayoutView). IsLeast (MissesAt w x (end_at items i) i) (get_or c.in_ok-grafting.field-0.missing.items i None)) c.in_ok-layout.ensures.lays
+      missing = λ i. subst (λ (x : LayoutView). IsLeast (MissesAt w x (end_at items i) i) (get nat_cmp c.in_ok-grafting.field-0.missing i)) c.in_ok-layout.ensures.lays
           (missing_same w (laid_in c.in_ok-layout.layout) _ (end_at items i) i _ (λ lt. told_end i (omega (arith, lt, size_of))) (c.in_ok-grafting.ensures.lacks i));
       refined = c.in_ok-grafting.ensures.refines
           ∙ refined_same w (labels_of (laid_in c.in_ok-layout.layout).spots) (laid_in c.in_ok-layout.layout).copies _ (end_at items) 0 (laid_in c.in_ok-layout.layout).spots

@@ -1,7 +1,7 @@
-use Rattle.std.proofs.Common.{◌≡◌, ℕ, List, [], Option, None, length, get_or, refl, sym, ◌∙◌, ap, subst, arith}
-use Rattle.std.proofs.lemmas.List.{get_or_past}
+use Rattle.std.proofs.Common.{rules, ◌≡◌, ℕ, List, [], None, length, refl, sym, ap, subst, arith}
+use Rattle.std.specs.BTreeMap.{get}
+use Rattle.std.specs.Ordering.{nat_cmp}
 use Rattle.yv_statement.specs.Order.{IsLeast}
-use Rattle.yv_statement.specs.declared.refusal.Refusal.{Refusal}
 use Rattle.yv_expand_rounds.specs.declared.label.Label.{Label}
 use Rattle.yv_expand_rounds.specs.Placements.{HaveEntered, none_yet, nothing}
 use Rattle.yv_expand_rounds.specs.Turns.{State}
@@ -19,9 +19,7 @@ returns c = λ files rows.
     let w : Whole = whole files rows [] 0 in
     let st : State = nothing 0 0 in
     let none : HaveEntered [] 0 0 st = none_yet in
-    let empty : List (Option Refusal) = [] in
-    let missing : (i : ℕ) → get_or c.new-4.result.items i None ≡ None =
-    λ i. (ap (λ (xs : List (Option Refusal)). get_or xs i None) c.new-4.ensures.items ∙ get_or_past empty i None (omega arith)) in (
+    let missing : (i : ℕ) → get nat_cmp c.new-4.result i ≡ None = λ i. search rules in (
       st,
       record {
         grafted = record { applied = record { count = 0; is = refl; last = refl } };

@@ -1,9 +1,10 @@
-use Rattle.std.proofs.Common.{◌≡◌, ◌+◌, ◌-◌, ◌<◌, ◌≤◌, ℕ, List, None, Some, length, drop, get_or, refl, sym, ◌∙◌, ap, subst, arith, length-set, Option}
+use Rattle.std.proofs.Common.{rules, ◌≡◌, ◌+◌, ◌-◌, ◌<◌, ◌≤◌, ℕ, List, None, Some, length, drop, get_or, refl, sym, ◌∙◌, ap, subst, arith}
+use Rattle.std.specs.BTreeMap.{get}
 use Rattle.std.specs.List.{slice_get}
-use Rattle.std.proofs.lemmas.List.{drop_all, get_or_past, length-map, length-replicate}
+use Rattle.std.specs.Ordering.{nat_cmp}
+use Rattle.std.proofs.lemmas.List.{drop_all, length-map}
 use Rattle.std.proofs.lemmas.Option.{slice_get-get_or}
 use Rattle.yv_statement.specs.Order.{IsLeast}
-use Rattle.yv_statement.specs.declared.refusal.Refusal.{Refusal}
 use Rattle.yv_expand_rounds.specs.declared.label.Label.{Label}
 use Rattle.yv_expand_rounds.specs.Turns.{State}
 use Rattle.yv_expand_rounds.specs.Placements.{nothing}
@@ -18,7 +19,7 @@ use Rattle.yv_expand_uses.specs.declared.spot.Spot.{Spot}
 use Rattle.yv_expand_augments.proofs.Entering.{placed_ends, placed_more}
 use Rattle.yv_expand_augments.specs.RefineMeanings.{refined_from}
 use Rattle.yv_expand_augments.proofs.Meaning.{refined_more}
-use Rattle.yv_expand_augments.proofs.Missing.{missing_here, missing_more, missing_past}
+use Rattle.yv_expand_augments.proofs.Missing.{missing_before, missing_here, missing_more, missing_past}
 use Rattle.yv_expand_augments.proofs.augmentation.place.Goals as goal
 
 pub loop-left-init : goal.loop-left-init
@@ -30,10 +31,10 @@ loop-left-init c =
     let base : IsAugmentation (labels_of spots) (nothing (length (labels_of spots)) copies) c.in_ok-grafting.grafting =
     subst (λ (ls : List Label). IsAugmentation ls (nothing (length ls) copies) c.in_ok-grafting.grafting) told c.in_ok-grafting.ensures in
     let none : drop c.len-left.result spots ≡ drop (length spots) spots = ap (λ (n : ℕ). drop n spots) (omega (arith, c.len-left.ensures)) in
-    let size : c.len.result ≡ length spots = omega (arith, c.len.ensures) in
+    let empty : (i : ℕ) → get nat_cmp c.new-missing.result i ≡ None = λ i. search rules in
     record {
       within = omega (arith, c.len-left.ensures);
-      each = ap length c.in_ok-missing.ensures ∙ length-replicate c.len.result None ∙ size;
+      fresh = λ i lt. empty i;
       state = subst (λ (l : List Spot). IsAugmentation (labels_of spots) (placed_from w (labels_of spots) copies c.len-left.result l) c.in_ok-grafting.grafting)
           (sym (none ∙ drop_all (length spots) spots (omega arith))) base;
       aims = c.new-aims.ensures.aims w;
@@ -42,10 +43,7 @@ loop-left-init c =
           (none ∙ drop_all (length spots) spots (omega arith)));
       told = λ i le. (
           let past : length spots ≤ i = omega (arith, c.len-left.ensures, le) in
-          let empty : get_or c.in_ok-missing.missing.items i None ≡ None =
-          (let all = ap length c.in_ok-missing.ensures in let each = length-replicate {A = Option Refusal} c.len.result None in
-          get_or_past c.in_ok-missing.missing.items i None (omega (arith, all, each, size, past))) in
-          subst (IsLeast (MissesAt w (laid_in c.args.layout.now) (get_or c.args.ends.now i 0) i)) (sym empty)
+          subst (IsLeast (MissesAt w (laid_in c.args.layout.now) (get_or c.args.ends.now i 0) i)) (sym (empty i))
           (missing_past w (laid_in c.args.layout.now) (get_or c.args.ends.now i 0) i past));
     }
 
@@ -83,14 +81,16 @@ loop-left-preserved c =
     let ready = c.in_ok-turned.ensures.state labels st c.loop-left.invariant.state long room in
     record {
       within = omega (arith, inside);
-      each = ap length c.note.ensures ∙ length-set c.loop-left.missing.items n _ ∙ c.loop-left.invariant.each;
+      fresh = missing_before w (laid_in c.args.layout.now) n left c.in_ok-turned.turned.missing (get nat_cmp c.loop-left.missing) (get nat_cmp c.note.new.missing) next
+          c.in_ok-note.ensures c.loop-left.invariant.fresh;
       state = subst (λ (x : State). IsAugmentation labels x c.enter.new.self) (placed_more w labels copies n left s spots (turns w labels s st) next at refl)
           (c.in_ok-enter.ensures labels (turns w labels s st) ready);
       aims = c.in_ok-refine_all.ensures.aims;
       schedules = c.in_ok-turned.ensures.schedules;
       refined = refined_more w labels copies (λ i. get_or c.args.ends.now i 0) n left s spots c.end_of-end.result (all_meant c.loop-left.aims.refinements) _ next at c.end_of-end.ensures
           (c.in_ok-refine_all.ensures.means labels st c.loop-left.invariant.state) c.loop-left.invariant.refined;
-      told = missing_more w (laid_in c.args.layout.now) c.args.ends.now n left _ c.loop-left.missing.items _ next (omega (arith, inside, c.loop-left.invariant.each)) c.note.ensures
+      told = missing_more w (laid_in c.args.layout.now) c.args.ends.now n left c.in_ok-turned.turned.missing (get nat_cmp c.loop-left.missing) (get nat_cmp c.note.new.missing) next
+          (c.loop-left.invariant.fresh n (omega (arith, next))) c.in_ok-note.ensures
           (missing_here w (laid_in c.args.layout.now) (get_or c.args.ends.now n 0) n left s _ next at refused) c.loop-left.invariant.told;
     }
 

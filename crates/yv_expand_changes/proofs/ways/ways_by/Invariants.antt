@@ -1,4 +1,4 @@
-use Rattle.std.proofs.Common.{◌≡◌, map, take, length}
+use Rattle.std.proofs.Common.{◌≡◌, map, take}
 use Rattle.yv_expand_changes.specs.InnerAlike.{way_of_target}
 use Rattle.yv_expand_changes.proofs.ways.ways_by.Given as goal
 

@@ -12,8 +12,8 @@ loop-row-init c =
     let order : AreInOrder c.args.labels.now whole 0 c.deref.result.now = subst (λ l. AreInOrder c.args.labels.now whole 0 l) (sym c.deref.ensures.value) c.take_group-top.ensures.takes in
     record {
       fresh = λ once. fresh_start c.args.labels.now whole _ c.new-stack.result.items _ c.deref.result.now once order c.take_group-top.ensures.others c.new-stack.ensures.items c.in_ok-put.ensures;
-      completes = λ once. completes_start c.args.labels.now whole c.new-stack.result.items _ _ c.deref.result.now order c.new-stack.ensures.items c.in_ok-put.ensures c.new-rows.ensures.items;
-      shallow = no_deeper_start c.new-stack.result.items _ c.deref.result.now c.new-rows.result.items c.new-stack.ensures.items c.in_ok-put.ensures;
+      completes = λ once. completes_start c.args.labels.now whole c.new-stack.result.items _ _ c.deref.result.now order c.new-stack.ensures.items c.in_ok-put.ensures c.in_ok-rows.ensures.items;
+      shallow = no_deeper_start c.new-stack.result.items _ c.deref.result.now c.in_ok-rows.rows.items c.new-stack.ensures.items c.in_ok-put.ensures;
     }
 
 pub loop-row-smaller : goal.loop-row-smaller

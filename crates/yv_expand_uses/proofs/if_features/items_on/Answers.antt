@@ -6,7 +6,7 @@ use Rattle.yv_expand_uses.proofs.Asking.{asking_all, asking_step}
 use Rattle.yv_expand_uses.proofs.if_features.items_on.Goals as goal
 
 pub loop-number-init : goal.loop-number-init
-loop-number-init c = record { each = ap length c.new-marks.ensures.items; told = λ k lt x at. absurd (omega (arith, lt)) }
+loop-number-init c = record { each = ap length c.in_ok-marks.ensures.items; told = λ k lt x at. absurd (omega (arith, lt)) }
 
 pub loop-number-preserved : goal.loop-number-preserved
 loop-number-preserved c =

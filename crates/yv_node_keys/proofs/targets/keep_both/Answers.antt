@@ -1,4 +1,4 @@
-use Rattle.std.proofs.Common.{◌≡◌, Some, sym, ap, ◌∙◌, subst, Vec, Global}
+use Rattle.std.proofs.Common.{◌≡◌, Some, sym, ◌∙◌, subst, Vec, Global}
 use Rattle.std.proofs.lemmas.Option.{same_Some}
 use Rattle.yv_nodes.specs.declared.node.NodeId.{NodeId}
 use Rattle.yv_node_keys.specs.InnerTargets.{HasLeafs}

@@ -1,4 +1,4 @@
-use Rattle.std.proofs.Common.{◌≡◌, ◌||◌, ◌==◌, ◌+◌, ℕ, Bool, List, Option, drop, slice_index_or, sym, ap, ◌∙◌}
+use Rattle.std.proofs.Common.{◌||◌, ◌==◌, ◌+◌, ℕ, Bool, List, Option, drop, slice_index_or, sym, ap, ◌∙◌}
 use Rattle.std.specs.BTreeSet.{contains}
 use Rattle.std.specs.Ordering.{nat_cmp}
 use Rattle.yv_nodes.specs.declared.node.NodeId.{NodeId}

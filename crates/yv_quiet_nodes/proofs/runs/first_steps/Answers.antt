@@ -1,4 +1,4 @@
-use Rattle.std.proofs.Common.{◌≡◌, ◌+◌, ◌-◌, ◌≤◌, ◌∷◌, ℕ, List, drop, arith}
+use Rattle.std.proofs.Common.{◌≡◌, ◌+◌, List, drop, arith}
 use Rattle.yv_nodes.specs.declared.node.NodeId.{NodeId}
 use Rattle.yv_nodes.specs.Rows.{Rows}
 use Rattle.yv_quiet_nodes.specs.Runs.{IsRun}

@@ -8,7 +8,7 @@ use Rattle.yv_type_chains.proofs.Following.{follower_within}
 use Rattle.yv_type_chains.proofs.follows.all_followed.Goals as goal
 
 pub next_type-requires-clause-at : goal.next_type-requires-clause-at
-next_type-requires-clause-at c = row_read row _ (rows_in c.args.rows.now) c.loop-number.number c.entry-item.result c.entries-entry-items.ensures c.loop-number-test.true c.entry-item.is
+next_type-requires-clause-at c = row_read row _ (rows_in c.args.rows.now) c.loop-number.number c.index-entries-number.result c.entries-entries.ensures c.loop-number-test.true c.index-entries-number.is
 
 pub loop-number-preserved : goal.loop-number-preserved
 loop-number-preserved c = record {
@@ -21,6 +21,6 @@ pub returns-clause-exact : goal.returns-clause-exact
 returns-clause-exact c given =
     let files = files_in c.args.rows.now in
     let rows : List Row = rows_in c.args.rows.now in
-    let past : length rows ≤ c.loop-number.number = omega (arith, rows_count row _ rows c.entries-entry-items.ensures, c.loop-number-test.false) in
+    let past : length rows ≤ c.loop-number.number = omega (arith, rows_count row _ rows c.entries-entries.ensures, c.loop-number-test.false) in
     let within : (k j : ℕ) → Follows files rows k j → k < c.loop-number.number = λ k j f. omega (arith, past, follower_within files rows k j f) in
     told_all (Follows files rows) c.loop-number.number c.loop-number.follows.items within (c.loop-number.invariant.told given)

@@ -1,5 +1,5 @@
-use Rattle.std.proofs.Common.{◌≡◌, ◌&&◌, ℕ, Some, List, length, refl, ◌∙◌, ap, map}
-use Rattle.std.specs.List.{slice_get, list_any}
+use Rattle.std.proofs.Common.{◌&&◌, List, refl, ◌∙◌, ap, map}
+use Rattle.std.specs.List.{list_any}
 use Rattle.std.proofs.lemmas.Option.{slice_get-get_or}
 use Rattle.yv_link_scopes.specs.Files.{brief_of}
 use Rattle.yv_link_scopes.specs.RowList.{rows_of}

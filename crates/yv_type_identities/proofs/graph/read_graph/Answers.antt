@@ -1,4 +1,4 @@
-use Rattle.std.proofs.Common.{◌≡◌, ◌<◌, ℕ, Some, List, Option, length, length-set, set, map, sym, ◌∙◌, ap, arith, subst}
+use Rattle.std.proofs.Common.{◌≡◌, ◌<◌, Some, List, length, length-set, set, map, ◌∙◌, ap, arith, subst}
 use Rattle.std.specs.List.{slice_get}
 use Rattle.yv_base_graph.specs.Graph.{Graph}
 use Rattle.yv_link_scopes.specs.Files.{brief_of}

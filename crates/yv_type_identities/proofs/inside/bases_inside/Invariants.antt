@@ -1,4 +1,4 @@
-use Rattle.std.proofs.Common.{◌≡◌, length, map}
+use Rattle.std.proofs.Common.{map}
 use Rattle.yv_statement.specs.Selection.{Selected}
 use Rattle.yv_link_scopes.specs.Files.{Files, brief_of}
 use Rattle.yv_link_scopes.specs.RowList.{rows_of}
@@ -7,7 +7,4 @@ use Rattle.yv_type_identities.proofs.Blocks.{Listed}
 use Rattle.yv_type_identities.proofs.inside.bases_inside.Given as goal
 
 abbrev pub invariant-loop-entry : goal.invariant-loop-entry
-invariant-loop-entry l = record {
-  each : length l.inside.items ≡ length l.entries;
-  listed : (files : Files) (choice : Selected) → AreLinked files choice l.linked → Listed (map brief_of files) (rows_of files) l.entry-index l.inside.items;
-}
+invariant-loop-entry l = (files : Files) (choice : Selected) → AreLinked files choice l.linked → Listed (map brief_of files) (rows_of files) l.entry-index l.inside.items

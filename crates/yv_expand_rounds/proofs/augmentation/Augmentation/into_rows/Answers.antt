@@ -9,8 +9,8 @@ use Rattle.yv_expand_rounds.proofs.augmentation.Augmentation.into_rows.Goals as 
 
 pub returns : goal.returns
 returns c = λ labels st is stand.
-    let same : groups_in c.in_ok-lists.lists.items ≡ st.groups =
-    c.in_ok-lists.ensures ∙ are_members labels st.groups c.args.self.places.groups.items is.places.groups_are in
+    let same : groups_in c.args.self.places.groups.items ≡ st.groups =
+    are_members labels st.groups c.args.self.places.groups.items is.places.groups_are in
     subst (λ (ls : List Label). AreRows ls st.groups c.in_ok-rows.rows.items) (c.deref.ensures.value ∙ is.places.labels_are)
     (subst (λ (gs : Groups). AreRows c.deref.result.now gs c.in_ok-rows.rows.items) same
     (c.in_ok-rows.ensures (subst StandAtMostOnce (sym same) (stand_at_most_once _ st.groups stand))))

@@ -1,5 +1,6 @@
-use Rattle.std.proofs.Common.{◌≡◌, ℕ, arith, Bool, true, Some, None, Option, IfSome, List, map, not, is_some, sym, ap, ◌∙◌, subst, Vec, Global}
+use Rattle.std.proofs.Common.{◌≡◌, ℕ, arith, true, Some, Option, IfSome, List, length, map, not, is_some, sym, ap, ◌∙◌, subst, Vec, Global}
 use Rattle.std.specs.List.{slice_get}
+use Rattle.std.proofs.lemmas.List.{length-map}
 use Rattle.std.proofs.lemmas.Option.{slice_get-get_or}
 use Rattle.yv_statement.specs.declared.refusal.Code.TheVariants as code
 use Rattle.yv_statement.specs.declared.refusal.Refusal.{Refusal}
@@ -10,13 +11,13 @@ use Rattle.yv_nodes.specs.Tree.{Label}
 use Rattle.yv_nodes.specs.Rows.{Row, blank_row}
 use Rattle.yv_nodes.specs.Refusals.{refusal_of}
 use Rattle.yv_node_definition.specs.Steps.{Step}
-use Rattle.yv_node_keys.specs.Numbers.{default_case_at, key_leaf_at, tree_in, unique_leaf_at}
+use Rattle.yv_node_keys.specs.Numbers.{key_leaf_at, tree_in, unique_leaf_at}
 use Rattle.yv_node_keys.specs.Refusals.{is_bad_key, is_bad_unique}
-use Rattle.yv_nodes.specs.Alike.{untyped, untyped_at}
-use Rattle.yv_node_definition.specs.Definition.{Definition}
+use Rattle.yv_nodes.specs.Alike.{untyped_at}
+use Rattle.yv_node_definition.specs.Definition.{Definition, paths_in}
 use Rattle.yv_node_keys.specs.InnerNamesakes.{HaveNames, NamesDefault}
-use Rattle.yv_node_keys.specs.InnerTargets.{AreLeafsOf, lists_at, cases_at}
-use Rattle.yv_node_keys.proofs.Namesakes.{case_called, has_both, leafs_called}
+use Rattle.yv_node_keys.specs.InnerTargets.{lists_at, cases_at}
+use Rattle.yv_node_keys.proofs.Namesakes.{case_called, has_both, leafs_called, leafs_known, uniques_known}
 use Rattle.yv_node_keys.proofs.Keeping.{IsBoth, both}
 use Rattle.yv_node_keys.proofs.Refusing.{both_none, label_at, least_here, not_refused, same_not, there}
 use Rattle.yv_node_keys.proofs.targets.LeafTargets.meet.Goals as goal
@@ -57,14 +58,33 @@ returns-clause-fault c = λ ts are p here.
     least_lesser (λ (f : Refusal). Stands (is_bad_key (tree_in p) p.label.defined.keys ≡ true) (refusal_of code.BadKey p.label) f)
     (λ (f : Refusal). Stands (is_bad_unique (tree_in p) p.label.defined.uniques ≡ true) (refusal_of code.BadUnique p.label) f) _ _ _ c.lesser.ensures first second
 
-pub key_leafs_like-requires : goal.key_leafs_like-requires
-key_leafs_like-requires c =
+pub key_leafs_like-requires-clause-names : goal.key_leafs_like-requires-clause-names
+key_leafs_like-requires-clause-names c =
     let rows : List Row = c.args.nodes.now.rows in
-    let first : ℕ = c.first_alike-first.result.0 in
+    let model : ℕ = c.in_ok-model.model.0 in
     let keys : List (Option Step) = c.keys.result.now in
-    let same : keys ≡ (untyped_at rows first).keys = c.keys.ensures ∙ ap (λ (r : Row). r.label.defined.keys) c.get-node.ensures ∙ ap (λ (d : Definition). d.keys) (sym c.first_alike-first.ensures.alike) in
-    subst (HaveNames rows keys) (sym c.kept_keys.ensures)
-    (leafs_called rows first (lists_at c.args.self.now.lists first) keys (omega (arith, c.first_alike-first.ensures.before, c.requires.within)) (λ leafs. c.requires.right.lists first leafs) same)
+    let same : keys ≡ (untyped_at rows model).keys = c.keys.ensures ∙ ap (λ (r : Row). r.label.defined.keys) c.get-node.ensures ∙ ap (λ (d : Definition). d.keys) (sym c.in_ok-model.ensures.alike) in
+    subst (HaveNames rows keys) (sym c.kept_keys-known.ensures)
+    (leafs_called rows model (lists_at c.args.self.now.lists model) keys (omega (arith, c.in_ok-model.ensures.before, c.requires.within)) (λ leafs. c.requires.right.lists model leafs) same)
+
+pub key_leafs_like-requires-clause-known : goal.key_leafs_like-requires-clause-known
+key_leafs_like-requires-clause-known c =
+    let rows : List Row = c.args.nodes.now.rows in
+    let model : NodeId = c.in_ok-model.model in
+    let keys : List (Option Step) = c.keys.result.now in
+    let same : keys ≡ (untyped_at rows model.0).keys = c.keys.ensures ∙ ap (λ (r : Row). r.label.defined.keys) c.get-node.ensures ∙ ap (λ (d : Definition). d.keys) (sym c.in_ok-model.ensures.alike) in
+    subst (λ (ns : List NodeId). length ns ≡ length keys → map (λ n. Some n) ns ≡ map (key_leaf_at rows model) keys) (sym c.kept_keys-known.ensures)
+    (leafs_known rows model (lists_at c.args.self.now.lists model.0) keys (omega (arith, c.in_ok-model.ensures.before, c.requires.within)) (λ leafs. c.requires.right.lists model.0 leafs) same)
+
+pub unique_leafs_like-requires : goal.unique_leafs_like-requires
+unique_leafs_like-requires c =
+    let rows : List Row = c.args.nodes.now.rows in
+    let model : NodeId = c.in_ok-model.model in
+    let uniques : List (List (List (Option Step))) = map paths_in c.uniques.result.now in
+    let same : uniques ≡ (untyped_at rows model.0).uniques = c.uniques.ensures ∙ ap (λ (r : Row). r.label.defined.uniques) c.get-node.ensures ∙ ap (λ (d : Definition). d.uniques) (sym c.in_ok-model.ensures.alike) in
+    let long : length uniques ≡ length c.uniques.result.now = length-map c.uniques.result.now paths_in in
+    subst (λ (vs : List (Vec NodeId Global)). length vs ≡ length c.uniques.result.now → map (λ (v : Vec NodeId Global). map (λ n. Some n) v.items) vs ≡ map (map (unique_leaf_at rows model)) uniques) (sym c.kept_uniques-known.ensures)
+    (λ many. uniques_known rows model (lists_at c.args.self.now.lists model.0) uniques (omega (arith, c.in_ok-model.ensures.before, c.requires.within)) (λ leafs. c.requires.right.lists model.0 leafs) same (many ∙ sym long))
 
 pub default_case-case-requires : goal.default_case-case-requires
 default_case-case-requires c =

@@ -19,7 +19,7 @@ above_first xs place parents lt = parents place (get_or xs place no_node) (slice
 
 pub loop-place-init : goal.loop-place-init
 loop-place-init c = record {
-  kept = λ b tells module_files. kept_none b (lists_of c.args.below.now) _ c.args.items.now c.args.nodes.now.rows c.new-aboves.ensures.items c.requires.none;
+  kept = λ b tells module_files. kept_none b (lists_of c.args.below.now) _ c.args.items.now c.args.nodes.now.rows c.in_ok-aboves.ensures.items c.requires.none;
   limit = refl;
   grown = omega arith;
 }

@@ -40,7 +40,7 @@ returns-clause-rows c = λ b tells module_files.
     let left = c.remaining_nodes-left.ensures.tells b tells in
     let below = ap lists_of c.deref.ensures.value ∙ c.in_ok-families.ensures.below b.nodes left in
     c.in_ok-add_nodes.ensures.rows b tells module_files
-    ∙ ap (λ (rs : List Row). rs ++ rows_of_items b (lists_of c.deref.result.now) [] 0 c.remaining_nodes-left.result.now) c.new-nodes.ensures.rows
+    ∙ ap (λ (rs : List Row). rs ++ rows_of_items b (lists_of c.deref.result.now) [] 0 c.remaining_nodes-left.result.now) c.in_ok-nodes.ensures.rows
     ∙ rows_whole b c.remaining_nodes-left.result.now (lists_of c.deref.result.now) left below
 
 pub returns-clause-top : goal.returns-clause-top

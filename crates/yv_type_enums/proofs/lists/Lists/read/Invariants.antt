@@ -1,6 +1,6 @@
-use Rattle.std.proofs.Common.{◌≡◌, length, take}
+use Rattle.std.proofs.Common.{take}
 use Rattle.yv_statement.specs.Order.{IsLeast}
-use Rattle.yv_link_scopes.specs.Views.{lent_in, rows_in}
+use Rattle.yv_link_scopes.specs.Views.{lent_in}
 use Rattle.yv_type_chains.specs.Bases.{AreBases}
 use Rattle.yv_link.specs.LinkedFiles.{truth_in}
 use Rattle.yv_type_enums.specs.InnerSteps.{AreTold, BadAmong}
@@ -8,7 +8,6 @@ use Rattle.yv_type_enums.proofs.lists.Lists.read.Given as goal
 
 abbrev pub invariant-loop-number : goal.invariant-loop-number
 invariant-loop-number l = record {
-  each : length l.types.items ≡ length (rows_in l.rows);
-  told : AreBases (lent_in l.rows) l.bases → AreTold (lent_in l.rows) (truth_in l.linked) (take l.number-index l.number-items) l.types.items;
+  told : AreBases (lent_in l.rows) l.bases → AreTold (lent_in l.rows) (truth_in l.linked) (take l.number-index l.number-items) l.types;
   least : AreBases (lent_in l.rows) l.bases → IsLeast (BadAmong (lent_in l.rows) (truth_in l.linked) (take l.number-index l.number-items)) l.fault;
 }

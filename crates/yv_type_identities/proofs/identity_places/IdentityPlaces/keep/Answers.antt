@@ -1,4 +1,4 @@
-use Rattle.std.proofs.Common.{◌≡◌, ◌∙◌, None, Some, sym, ap, cond, rules}
+use Rattle.std.proofs.Common.{◌∙◌, Some, ap, cond}
 use Rattle.yv_type_identities.specs.InnerRuns.{number_at}
 use Rattle.yv_type_identities.proofs.Placing.{test_is}
 use Rattle.yv_type_identities.proofs.identity_places.IdentityPlaces.keep.Goals as goal

@@ -1,4 +1,4 @@
-use Rattle.std.proofs.Common.{◌≡◌, true, cond, Some, Ok, length, sym, ◌∙◌, ap, arith, map}
+use Rattle.std.proofs.Common.{◌≡◌, true, cond, Some, Ok, sym, ◌∙◌, ap, arith, map}
 use Rattle.std.specs.List.{slice_get}
 use Rattle.yv_link_scopes.specs.RowList.{rows_of}
 use Rattle.yv_link_scopes.specs.Rows.{row}

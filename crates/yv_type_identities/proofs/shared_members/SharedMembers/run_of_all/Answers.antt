@@ -1,9 +1,5 @@
-use Rattle.std.proofs.Common.{◌≡◌, ◌∙◌, ℕ, List, Option, Some, refl, sym, get_or, arith, length}
-use Rattle.std.specs.List.{slice_get}
+use Rattle.std.proofs.Common.{◌∙◌, ℕ, sym, get_or, arith}
 use Rattle.std.proofs.lemmas.Option.{slice_get-get_or}
-use Rattle.yv_type_identities.specs.InnerRuns.{run_of}
-use Rattle.yv_type_identities.specs.declared.runs.Run.{Run}
-use Rattle.yv_type_identities.proofs.Below.{ref_at}
 use Rattle.yv_type_identities.proofs.Meeting.{known_all, meets_all, meets_more}
 use Rattle.yv_type_identities.proofs.shared_members.SharedMembers.run_of_all.Goals as goal
 

@@ -1,4 +1,4 @@
-use Rattle.std.proofs.Common.{◌≡◌, ℕ, List, Some, length, take}
+use Rattle.std.proofs.Common.{◌≡◌, ℕ, List, Some, take}
 use Rattle.std.specs.List.{Contains}
 use Rattle.yv_statement.specs.Selection.{Selected}
 use Rattle.yv_link_scopes.specs.Files.{Files}
@@ -13,12 +13,11 @@ use Rattle.yv_types.proofs.layers.Layers.spaces.Given as goal
 abbrev pub invariant-loop-number : goal.invariant-loop-number
 invariant-loop-number l = record {
   kept : AreIdentities l.linked l.identities;
-  each : length l.spaces.items ≡ length l.inside.items;
   counted : l.list ≡ l.number-index;
-  numbered : AreNumbered l.spaces.items;
-  below : AreBelow l.spaces.items l.list;
+  numbered : AreNumbered l.spaces;
+  below : AreBelow l.spaces l.list;
   told : (files : Files) (choice : Selected) → AreLinked files choice l.linked → AreLayers files (truth_in l.linked) l.self
-      → AreKnown files (truth_in l.linked) choice (Contains (take l.number-index l.number-items)) l.spaces.items;
+      → AreKnown files (truth_in l.linked) choice (Contains (take l.number-index l.number-items)) l.spaces;
   sound : (files : Files) (choice : Selected) → AreLinked files choice l.linked → AreLayers files (truth_in l.linked) l.self
-      → (k : ℕ) (ps : List Plain) → plains_at l.spaces.items k ≡ Some ps → Space files (truth_in l.linked) choice k ps;
+      → (k : ℕ) (ps : List Plain) → plains_at l.spaces k ≡ Some ps → Space files (truth_in l.linked) choice k ps;
 }

@@ -52,7 +52,7 @@ returns-in-Some-get-clause-space c = λ kept. if_ok _ _ c.built_in.result
     let alone : FollowsNone files k = λ j f. no_number j ((c.in_default-follows.ensures files layers.based j).1 f) in
     let own : slice_get (rows_in c.rows.result.now) k ≡ Some (row c.in-Some-get.entry.now) = row_read row c.entries.result.now (rows_in c.rows.result.now) k c.in-Some-get.entry.now c.entries.ensures c.in-Some-get.ensures.lookup.3.0 c.in-Some-get.ensures.lookup.1 in
     let at : slice_get (rows_of files) k ≡ Some (row c.in-Some-get.entry.now) = subst (λ (fs : Files). slice_get (rows_of fs) k ≡ Some (row c.in-Some-get.entry.now)) (c.rows.ensures files choice linked) own in
-    e files choice linked at (c.members_of-members.ensures ∙ inside k) bare alone known)
+    e files choice linked at (c.at-members.ensures ∙ inside k) bare alone known)
     (c.built_in.ensures.space kept)
 
 pub returns-in-None-clause-space : goal.returns-in-None-clause-space

@@ -10,6 +10,6 @@ pub returns-in-None-clause-none : goal.returns-in-None-clause-none
 returns-in-None-clause-none c = λ files choice truth t e k at.
     let number : ℕ = c.in-Some.number in
     let same : number ≡ k = same_Some number k (c.in-Some.ensures ∙ t.places c.args.file c.args.offset ∙ at) in
-    let none : plains_at c.args.self.now.spaces.items k ≡ None =
-    ap (plains_at c.args.self.now.spaces.items) (sym same) ∙ ap (λ spaces. plains_at spaces number) (sym c.deref.ensures.value) ∙ sym c.in_ok-shared.ensures.types ∙ ap (option_map plains) c.in-None.is in
+    let none : plains_at c.args.self.now.spaces k ≡ None =
+    ap (plains_at c.args.self.now.spaces) (sym same) ∙ sym c.in_ok-shared.ensures.types ∙ ap (option_map plains) c.in-None.is in
     t.spaces.full k (type_there (rows_of files) c.args.file c.args.offset k at) none

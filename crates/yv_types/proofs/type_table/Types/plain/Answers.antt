@@ -10,6 +10,6 @@ pub returns-in_err-get-clause-none : goal.returns-in_err-get-clause-none
 returns-in_err-get-clause-none c = λ files choice truth t e k at.
     let number : ℕ = c.in_ok-number.number in
     let same : number ≡ k = same_Some number k (sym c.in_ok-number.was ∙ c.get.ensures ∙ t.places c.args.file c.args.offset ∙ at) in
-    let none : plains_at c.args.self.now.spaces.items k ≡ None =
-    ap (plains_at c.args.self.now.spaces.items) (sym same) ∙ ap (λ spaces. plains_at spaces number) (sym c.deref.ensures.value) ∙ sym c.get-2.ensures.types ∙ ap (λ s. option_map plains (option_copied s)) c.in_err-get.was in
+    let none : plains_at c.args.self.now.spaces k ≡ None =
+    ap (plains_at c.args.self.now.spaces) (sym same) ∙ sym c.get-2.ensures.types ∙ ap (λ s. option_map plains (option_copied s)) c.in_err-get.was in
     t.spaces.full k (type_there (rows_of files) c.args.file c.args.offset k at) none

@@ -49,12 +49,12 @@ use Rattle.yv_validate.proofs.walk.Walk.+walk.Goals as goal
 
 -- ---- children
 
-pub children-loop-child-init : goal.children-loop-child-init
-children-loop-child-init t c =
+pub children-loop-place-init : goal.children-loop-place-init
+children-loop-place-init t c =
     let k = c.args.self.now.kind in
     let s = c.args.self.now.schema.now in
     let p = c.args.at.id in
-    let kids = c.children-child-items in
+    let kids = c.children-children in
     let cs = kids.result.now in
     let ms = members_of c.args.context.now in
     let of : ℕ → Tree → RuleScope = λ at u. c.args.at.scope in
@@ -72,34 +72,47 @@ children-loop-child-init t c =
           (ones_start k s p cs of spot next ms are);
     }
 
-pub children-loop-child-preserved : goal.children-loop-child-preserved
-children-loop-child-preserved t c =
+pub children-loop-place-preserved : goal.children-loop-place-preserved
+children-loop-place-preserved t c =
     let k = c.args.self.now.kind in
     let s = c.args.self.now.schema.now in
     let p = c.args.at.id in
-    let cs = c.children-child-items.result.now in
+    let kids = c.children-children in
+    let cs = kids.result.now in
     let ms = members_of c.args.context.now in
     let of : ℕ → Tree → RuleScope = λ at u. c.args.at.scope in
-    let i = c.loop-child.child-index in
+    let i = c.loop-place.place in
     let d : NodeId = record { 0 = 0 } in
     let n : NodeId = slice_index_or cs i d in
-    let lt = c.loop-child-test.true in
+    let lt = c.loop-place-test.true in
     let left = drop i cs in
     let rest = drop (i + 1) cs in
+    let place = c.next_place-place in
     let start : ProgressView = progress_view c.args.progress.now in
-    let old : ProgressView = progress_view c.loop-child.progress in
-    let new : ProgressView = progress_view c.meet.new.progress in
+    let old : ProgressView = progress_view c.loop-place.progress in
+    let mid : ProgressView = progress_view c.meet.new.progress in
+    let are : AreKids s p cs = record {
+      same = kids.ensures.value;
+      each = kids.ensures.each;
+      trees = kids.ensures.trees;
+      sound = kids.ensures.sound;
+      numbers = c.child_numbers.ensures s p kids.ensures.sound c.requires.node;
+    } in
     record {
       grows = λ outer entry x later.
           let spot : Spot = spot_at s c.args.at.path.now c.args.at.position outer entry in
+          let all : List Meeting = children_met k s c.args.at.scope p ms spot (next_of start) in
           let one : List Meeting = one_met k s (scope_at k s c.args.at.scope n) n ms spot (next_of old) in
-          let grows : Grows k s old new one = c.in_ok-meet.ensures.grows outer entry in
-          turn c.met_behind.ensures k s start old new one (ones_met k s of rest ms spot (next_of old + count_entered one)) (ones_met k s of left ms spot (next_of old))
-          (children_met k s c.args.at.scope p ms spot (next_of start)) grows (ones_drop k s of spot (next_of old) cs i d ms lt)
-          (c.loop-child.invariant.grows outer entry) x
-          (subst (λ (m : ℕ). Grows k s new x (ones_met k s of rest ms spot m)) (next_behind c.kept_objects_are_entered.ensures k s old new one grows) later);
-      notes = λ spot next less. notes_turn k s of n left rest ms spot c.loop-child.notes c.meet.new.notes c.args.notes.now (children_met k s c.args.at.scope p ms spot next)
-          (split_at cs i d lt) (c.loop-child.invariant.notes spot next less) c.in_ok-meet.ensures.notes;
+          let grows : Grows k s old mid one = c.in_ok-is_passed.ensures.grows outer entry in
+          past_turn c.nothing_met.ensures c.met_behind.ensures c.kept_objects_are_entered.ensures k s of ms spot start mid all p cs (i + 1) place.result place.new.meter are place.ensures
+          (λ y g. turn c.met_behind.ensures k s start old mid one (ones_met k s of rest ms spot (next_of old + count_entered one)) (ones_met k s of left ms spot (next_of old)) all
+          grows (ones_drop k s of spot (next_of old) cs i d ms lt) (c.loop-place.invariant.grows outer entry) y
+          (subst (λ (m : ℕ). Grows k s mid y (ones_met k s of rest ms spot m)) (next_behind c.kept_objects_are_entered.ensures k s old mid one grows) g)) x later;
+      notes = λ spot next less.
+          let all : List Meeting = children_met k s c.args.at.scope p ms spot next in
+          past_notes k s of ms spot c.meet.new.notes c.args.notes.now all p cs (i + 1) place.result mid.steps place.new.meter are place.ensures
+          (notes_turn k s of n left rest ms spot c.loop-place.notes c.meet.new.notes c.args.notes.now all
+          (split_at cs i d lt) (c.loop-place.invariant.notes spot next less) c.in_ok-is_passed.ensures.notes);
     }
 
 pub children-returns-clause-grows : goal.children-returns-clause-grows
@@ -107,11 +120,11 @@ children-returns-clause-grows t c =
     let k = c.args.self.now.kind in
     let s = c.args.self.now.schema.now in
     let ms = members_of c.args.context.now in
-    let cs = c.children-child-items.result.now in
-    let i = c.loop-child.child-index in
-    let now : ProgressView = progress_view c.loop-child.progress in
-    let past : drop i cs ≡ [] = drop_all i cs c.loop-child-test.false in
-    λ outer entry. c.loop-child.invariant.grows outer entry now
+    let cs = c.children-children.result.now in
+    let i = c.loop-place.place in
+    let now : ProgressView = progress_view c.loop-place.progress in
+    let past : drop i cs ≡ [] = drop_all i cs c.loop-place-test.false in
+    λ outer entry. c.loop-place.invariant.grows outer entry now
     (subst (λ (ns : List NodeId). Grows k s now now (ones_met k s (λ at u. c.args.at.scope) ns ms (spot_at s c.args.at.path.now c.args.at.position outer entry) (next_of now)))
     (sym past) (grows_nothing c.nothing_met.ensures k s now))
 
@@ -120,10 +133,10 @@ children-returns-clause-notes t c =
     let k = c.args.self.now.kind in
     let s = c.args.self.now.schema.now in
     let ms = members_of c.args.context.now in
-    let cs = c.children-child-items.result.now in
-    let i = c.loop-child.child-index in
-    λ spot next less. notes_done k s (λ at u. c.args.at.scope) (drop i cs) ms spot c.loop-child.notes c.args.notes.now (children_met k s c.args.at.scope c.args.at.id ms spot next)
-    (drop_all i cs c.loop-child-test.false) (c.loop-child.invariant.notes spot next less)
+    let cs = c.children-children.result.now in
+    let i = c.loop-place.place in
+    λ spot next less. notes_done k s (λ at u. c.args.at.scope) (drop i cs) ms spot c.loop-place.notes c.args.notes.now (children_met k s c.args.at.scope c.args.at.id ms spot next)
+    (drop_all i cs c.loop-place-test.false) (c.loop-place.invariant.notes spot next less)
 
 -- ---- cases
 

@@ -13,20 +13,23 @@ use Rattle.yv_validate.proofs.Own.{NotesLeft}
 use Rattle.yv_validate.proofs.walk.Walk.+walk.Given as goal
 
 -- what is met at the children that are left leads to what is met at all, and so do the values
-abbrev pub invariant-children-loop-child : goal.invariant-children-loop-child
-invariant-children-loop-child l =
+abbrev pub invariant-children-loop-place : goal.invariant-children-loop-place
+invariant-children-loop-place l =
     let k = l.self.kind in
     let s = l.self.schema.now in
     let ms = members_of l.context in
-    let left = drop l.child-index l.child-items in
+    let left = drop l.place l.children in
     record {
       grows : (outer : List ℕ) (entry : ℕ) (x : ProgressView)
           → Grows k s (progress_view l.progress) x (ones_met k s (λ at t. l.fn.at.scope) left ms (spot_at s l.fn.at.path.now l.fn.at.position outer entry) (next_of (progress_view l.progress)))
-          → Grows k s (progress_view l.initial.progress) x
-          (children_met k s l.fn.at.scope l.fn.at.id ms (spot_at s l.fn.at.path.now l.fn.at.position outer entry) (next_of (progress_view l.initial.progress)));
+          → Grows k s (progress_view l.fn.progress) x
+          (children_met k s l.fn.at.scope l.fn.at.id ms (spot_at s l.fn.at.path.now l.fn.at.position outer entry) (next_of (progress_view l.fn.progress)));
       notes : (spot : Spot) (next : ℕ) → spot.entry < next
           → NotesLeft k s (λ at t. l.fn.at.scope) left ms spot l.notes l.initial.notes (children_met k s l.fn.at.scope l.fn.at.id ms spot next);
     }
+
+abbrev pub decreases-children-loop-place : goal.decreases-children-loop-place
+decreases-children-loop-place l = length l.children - l.place
 
 -- the same of cases
 abbrev pub invariant-cases-loop-place : goal.invariant-cases-loop-place
