@@ -110,7 +110,7 @@ pub(crate) fn refusal_of_augment(
 }
 
 // The refusal of the augment that gives an item to a node, if the node doesn't take it.
-fn misplaced(rows: &Rows<'_, '_>, item: Spot, node: Spot) -> Option<Refusal>
+fn refuse_placement(rows: &Rows<'_, '_>, item: Spot, node: Spot) -> Option<Refusal>
     ensures { result ≡ placement_refusal (rows_in rows.now) (Some item) (Some node) }
 {
     // Of most items the block isn't looked at.
@@ -125,7 +125,7 @@ fn placement_refusal(rows: &Rows<'_, '_>, item: Option<Spot>, node: Option<Spot>
     ensures { result ≡ placement_refusal (rows_in rows.now) item node }
 {
     match (item, node) {
-        (Some(item), Some(node)) => misplaced(rows, item, node),
+        (Some(item), Some(node)) => refuse_placement(rows, item, node),
         _ => None,
     }
 }

@@ -90,7 +90,7 @@ impl Group {
     }
 
     // The node that is the first of the name of an item, if the item comes before it.
-    fn displaced(&self, labels: &[Label], item: usize) -> Option<usize>
+    fn displaced_node(&self, labels: &[Label], item: usize) -> Option<usize>
         ensures { (members : List ℕ) → IsGroup labels.now members self.now
             → KeepBut (firsts labels.now members) (firsts labels.now (members ++ item ∷ []))
             result }
@@ -170,7 +170,7 @@ impl Group {
             → IfOk result
             (KeepBut (firsts labels.now members) (firsts labels.now (members ++ item ∷ []))) }
     {
-        let displaced = self.displaced(labels, item);
+        let displaced = self.displaced_node(labels, item);
         self.push(alloc, labels, item)?;
         Ok(displaced)
     }

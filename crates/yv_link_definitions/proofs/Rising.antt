@@ -6,7 +6,7 @@ use Rattle.std.proofs.lemmas.Bool.{cases_lt, false≢true}
 use Rattle.std.proofs.lemmas.Bool.Decides.{nat_tests}
 use Rattle.std.proofs.lemmas.Option.{same_Some, slice_get_within}
 use Rattle.yv_link_definitions.specs.Lookups.{is_there, lookup_in}
-use Rattle.yv_link_definitions.specs.InnerRising.{Rise, is_before}
+use Rattle.yv_link_definitions.specs.InnerOrder.{Rise, is_before}
 use Rattle.yv_link_definitions.specs.declared.place.Place.{Place}
 use Rattle.yv_link_definitions.proofs.Joining.{pushed_at}
 use Rattle.yv_link_definitions.proofs.Words.{not_true}

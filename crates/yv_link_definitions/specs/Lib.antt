@@ -8,7 +8,7 @@ pub mod Meanings
 pub mod InnerGraph
 pub mod Lookups
 pub mod Places
-pub mod InnerRising
+pub mod InnerOrder
 pub mod InnerPlaces
 pub mod InnerAnswers
 pub mod InnerDuplicates

@@ -1,6 +1,6 @@
 //! Where statements are.
 ghost use Rattle.std.specs.Prelude.{◌≡◌, ◌<◌, ◌≤◌, ℕ, Some, true, false, slice_get};
-ghost use Rattle.yv_link_definitions.specs.{Lookups.{is_there, lookup_in}, InnerRising.{Rise, is_before}};
+ghost use Rattle.yv_link_definitions.specs.{Lookups.{is_there, lookup_in}, InnerOrder.{Rise, is_before}};
 
 /// Where a statement is, and its number.
 #[derive(Clone, Copy)]

@@ -1,6 +1,6 @@
 //! A list in which places are searched for.
 ghost use Rattle.std.specs.Prelude.{◌≡◌, ℕ, None, true, OnOk};
-ghost use Rattle.yv_link_definitions.specs.InnerRising.{Rise};
+ghost use Rattle.yv_link_definitions.specs.InnerOrder.{Rise};
 
 use crate::place::{Place, are_before, find_there, first_there};
 use std::alloc::{AllocError, Global};

@@ -55,7 +55,7 @@ fn moved_leafs(
 {
     let mut leafs = Vec::with_capacity(alloc, known.len())?;
     for leaf in known {
-        match shift.moved(*leaf) {
+        match shift.counterpart(*leaf) {
             Some(leaf) => leafs.push(leaf)?,
             None => return Ok(None),
         }

@@ -17,7 +17,7 @@ pub(crate) struct Shift {
 
 impl Shift {
     /// The node so far from one of these nodes.
-    pub(crate) fn moved(self, node: NodeId) -> Option<NodeId>
+    pub(crate) fn counterpart(self, node: NodeId) -> Option<NodeId>
         ensures inside { IfSome result (λ other. IsInside self node) }
         ensures is { IfSome result (λ other. other ≡ moved self.by node) }
     {
@@ -34,7 +34,7 @@ fn is_moved_to(shift: Shift, one: NodeId, other: NodeId) -> bool
     ensures inside { result ≡ true → IsInside shift one }
     ensures is { result ≡ true → other ≡ moved shift.by one }
 {
-    match shift.moved(one) {
+    match shift.counterpart(one) {
         Some(moved) => moved == other,
         None => false,
     }
@@ -63,7 +63,7 @@ fn are_moved_to(shift: Shift, ones: &[NodeId], others: &[NodeId]) -> bool
 fn is_moved(nodes: &Nodes, shift: Shift, node: NodeId) -> bool
     ensures { result ≡ true → IsMoved nodes.now.rows shift node }
 {
-    let Some(other) = shift.moved(node) else {
+    let Some(other) = shift.counterpart(node) else {
         return false;
     };
     if other.number() >= nodes.len() || !are_called_alike(nodes, node, other) {

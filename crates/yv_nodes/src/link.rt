@@ -74,7 +74,7 @@ impl Links {
     }
 
     /// The links of so many nodes none of which is a leafref. It takes constant time and memory.
-    pub fn unlinked(alloc: Global, count: usize) -> Links
+    pub fn blank(alloc: Global, count: usize) -> Links
         ensures { result ≡ replicate count None }
     {
         Links {

@@ -84,7 +84,7 @@ fn without_leafrefs(alloc: Global, nodes: Nodes) -> ResolvedLeafrefs
     let count = nodes.len() as usize;
     ResolvedLeafrefs {
         nodes,
-        links: Links::unlinked(alloc, count),
+        links: Links::blank(alloc, count),
         fault: None,
     }
 }
@@ -105,8 +105,8 @@ fn has_leafrefs(rows: &Rows<'_, '_>, definitions: &Definitions<'_, '_, '_>) -> b
 }
 
 /// Resolves the leafrefs among the nodes of a tree as it is stated (RFC 7950, section 9.9): where
-/// something is wrong with one, the nodes stay as they are. Where no statement defines one, it takes
-/// no more time than to see that, and no memory.
+/// something is wrong with one, the nodes stay as they are. Where no statement defines one, it
+/// takes no more time than to see that, and no memory.
 pub(crate) fn resolve<'a>(
     alloc: Global,
     rows: &Rows<'a, '_>,

@@ -1,6 +1,6 @@
 use Rattle.std.proofs.Common.{◌-◌, ◌≡◌, ◌<◌, ◌≤◌, ℕ, Some, true, false, length}
 use Rattle.std.specs.List.{slice_get}
-use Rattle.yv_link_definitions.specs.InnerRising.{is_before}
+use Rattle.yv_link_definitions.specs.InnerOrder.{is_before}
 use Rattle.yv_link_definitions.specs.declared.place.Place.{Place}
 use Rattle.yv_link_definitions.proofs.place.count_before.Given as goal
 

@@ -4,7 +4,7 @@ use Rattle.std.proofs.lemmas.Option.{none-some, same_Some}
 use Rattle.yv_expand_rounds.specs.InnerGroups.{displaced_item}
 use Rattle.yv_expand_rounds.specs.Paths.{first_named}
 use Rattle.yv_expand_rounds.proofs.FirstNodeLemmas.{keeps_but, node_named}
-use Rattle.yv_expand_rounds.proofs.group.Group.displaced.Goals as goal
+use Rattle.yv_expand_rounds.proofs.group.Group.displaced_node.Goals as goal
 
 pub returns-in-Some : goal.returns-in-Some
 returns-in-Some c = λ members is n i was.

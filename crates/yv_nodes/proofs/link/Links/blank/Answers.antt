@@ -4,7 +4,7 @@ use Rattle.std.specs.declared.option.Option.{Option}
 use Rattle.std.specs.Ordering.{nat_cmp}
 use Rattle.yv_nodes.specs.Link.{is_target, Link}
 use Rattle.yv_nodes.specs.InnerLinks.{padded}
-use Rattle.yv_nodes.proofs.link.Links.unlinked.Goals as goal
+use Rattle.yv_nodes.proofs.link.Links.blank.Goals as goal
 
 none_leads : (count n : ℕ) → is_target (replicate count None) n ≡ false
 none_leads zero n = refl
