@@ -1,5 +1,5 @@
 -- What is built of the nodes of modules, and the first refusal of them.
-use Rattle.std.proofs.Common.{◌≡◌, ◌⊎◌, sym, ◌∙◌, subst, refl, IfOk, OnOk, Option, Some, None, inl, inr}
+use Rattle.std.proofs.Common.{◌≡◌, sym, ◌∙◌, subst, refl, IfOk, OnOk, Option, Some, None, inl, inr}
 use Rattle.std.specs.Option.{unwrap_or}
 use Rattle.std.specs.declared.result.Result.{Result}
 use Rattle.std.specs.declared.result.Result.TheVariants.{Ok, Err}

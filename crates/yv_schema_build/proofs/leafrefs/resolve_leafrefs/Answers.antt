@@ -1,4 +1,4 @@
-use Rattle.std.proofs.Common.{◌≡◌, ◌<◌, ◌^◌, ℕ, [], List, Option, None, length, map, refl, sym, ap, ap₂, ◌∙◌, subst}
+use Rattle.std.proofs.Common.{◌≡◌, ℕ, [], List, None, length, map, refl, sym, ap, ap₂, ◌∙◌, subst}
 use Rattle.std.specs.List.{slice_get}
 use Rattle.std.specs.Option.{option_and_then}
 use Rattle.yv_link_scopes.specs.Files.{Files}
@@ -13,12 +13,7 @@ use Rattle.yv_node_leafrefs.specs.Schema.{AreAlike, Schema, leafref_of_row}
 use Rattle.yv_schema_build.specs.Referrals.{referral_at}
 use Rattle.yv_schema_build.specs.InnerResolution.{origins_of, schema_of_rows, statement_number}
 use Rattle.yv_schema_build.specs.InnerBasis.{leafrefs_of, stated_of}
-use Rattle.yv_statement.specs.Order.{IsLeast}
-use Rattle.yv_statement.specs.declared.refusal.Refusal.{Refusal}
-use Rattle.yv_nodes.specs.Rows.{WithinLimit, Row}
-use Rattle.yv_node_leafrefs.specs.Bad.{BadLeafrefs}
-use Rattle.yv_node_leafrefs.specs.Links.{AreLinks}
-use Rattle.yv_schema_build.specs.declared.leafrefs.ResolvedLeafrefs.{ResolvedLeafrefs}
+use Rattle.yv_nodes.specs.Rows.{Row}
 use Rattle.yv_schema_build.proofs.Resolving.{are_alike, are_named, count_statements, links_are, origins_told}
 use Rattle.yv_schema_build.proofs.Typing.{links_resolved}
 use Rattle.yv_schema_build.proofs.Unlinked.{answered_without, no_items, said_nowhere}

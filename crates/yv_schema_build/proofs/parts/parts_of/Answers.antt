@@ -1,4 +1,4 @@
-use Rattle.std.proofs.Common.{◌≡◌, ◌∙◌, sym, subst, arith, None}
+use Rattle.std.proofs.Common.{◌∙◌, sym, subst, arith}
 use Rattle.yv_statement.specs.Selection.{selected_of}
 use Rattle.yv_link_scopes.specs.Files.{Files}
 use Rattle.yv_link_scopes.specs.Views.{lent_in}
@@ -17,14 +17,6 @@ notes-requires-clause-few c = omega (arith, c.requires.room, c.ranges.limit.fits
 
 pub notes-requires-clause-tells : goal.notes-requires-clause-tells
 notes-requires-clause-tells c = record { basis = c.requires.basis.basis; tells = c.requires.basis.tells }
-
--- what resolving answers of the basis
-pub resolve-requires : goal.resolve-requires
-resolve-requires c =
-    let told = c.requires.basis in
-    let b = told.basis in
-    let module_files : AreModuleNames b.files c.in_ok-module_files.module_files = subst (λ (fs : Files). AreModuleNames fs c.in_ok-module_files.module_files) (sym told.of_files) c.in_ok-module_files.ensures in
-    record { basis = b; tells = told.tells; of_files = told.of_files; are = c.in_ok-stated.ensures.rows b told.tells module_files }
 
 -- what resolving answers of the basis
 pub resolve-requires : goal.resolve-requires
