@@ -72,7 +72,7 @@ pub(crate) fn one(alloc: Global, plain: PlainType, list: usize) -> Result<Shared
     ensures types { IfOk result (λ shared. plains shared ≡ plain_of plain ∷ []) }
     ensures number { IfOk result (λ shared. shared.list ≡ list) }
 {
-    let mut all = Vec::new(alloc);
+    let mut all = Vec::with_capacity(alloc, 1)?;
     all.push(plain)?;
     let types = RcSlice::from_vec(all)?;
     Ok(SharedTypes { types, list })
