@@ -13,6 +13,10 @@ use yv_link::Linked;
 use yv_type_chains::types_by_block;
 use yv_type_identities::IdentityLists;
 
+// At how many places a list is looked for before another is made of the same type: there are some
+// ten built-in types that say it all.
+const MOST_COMMON: usize = 16;
+
 impl Layers<'_> {
     /// The plain types of all types, by number.
     pub(crate) fn spaces(
@@ -30,6 +34,7 @@ impl Layers<'_> {
         let inside = types_by_block(alloc, rows)?;
         let mut identities = IdentityLists::new(alloc, linked)?;
         let mut spaces = Table::new(alloc);
+        let mut common = Vec::new(alloc);
         let mut list = 0;
         for number in self.bases.order() {
             let space = self.types_at(
@@ -38,12 +43,25 @@ impl Layers<'_> {
                 &mut identities,
                 &inside,
                 &spaces,
+                &common,
                 *number,
                 list,
             )?;
+            if common.len() < MOST_COMMON && self.is_common(*number, &space, list) {
+                common.push(*number)?;
+            }
             put(&mut spaces, *number, space)?;
             list += 1;
         }
         Ok(spaces)
+    }
+
+    // Whether a numbered type is the first of one that many may have: its list is new, and it is
+    // seen to be the same as itself.
+    fn is_common(&self, number: usize, space: &Option<SharedTypes>, list: usize) -> bool {
+        match (space, self.faceted.plain(number)) {
+            (Some(space), Some(plain)) => space.list == list && plain.is_same(plain),
+            _ => false,
+        }
     }
 }

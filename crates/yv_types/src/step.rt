@@ -10,7 +10,7 @@ ghost use Rattle.yv_type_identities.specs.Identities.{AreIdentities};
 ghost use Rattle.yv_types.specs.{Types.{AreLayers}, Spaces.{Space}, InnerTables.{AreKnown, FollowsNone, IsBare, IsListed, IsNewOrThere, IsSpace, IsUnrestricted, entry_at, entry_of, plains}};
 
 use crate::layers::Layers;
-use crate::table::{SharedTypes, join_members, list_at, one};
+use crate::table::{SharedTypes, join_members, list_at, list_of, one};
 use std::alloc::{AllocError, Global};
 use std::rc::RcSlice;
 use yv_base_tables::{Families, Table};
@@ -126,7 +126,8 @@ impl Layers<'_> {
     }
 
     /// The plain types of the numbered type, the table having those of the types on which it rests.
-    /// A list that isn't in the table has this number.
+    /// If one of the common places has them, it is that list; a list that isn't in the table has
+    /// this number.
     pub(crate) fn types_at(
         &self,
         alloc: Global,
@@ -134,6 +135,7 @@ impl Layers<'_> {
         identities: &mut IdentityLists,
         inside: &Families,
         spaces: &Table<SharedTypes>,
+        common: &[usize],
         number: usize,
         list: usize,
     ) -> Result<Option<SharedTypes>, AllocError>
@@ -153,7 +155,7 @@ impl Layers<'_> {
             if let Some(shared) = self.shared_types(linked, spaces, number)? {
                 return Ok(Some(shared));
             }
-            return Ok(Some(one(alloc, plain.copy()?, list)?));
+            return Ok(Some(list_of(alloc, spaces, common, plain, list)?));
         }
         if let Some(names) = self.lists.names(number) {
             return Ok(Some(one(alloc, names_type(names)?, list)?));

@@ -1,5 +1,5 @@
 //! Plain types by number.
-ghost use Rattle.std.specs.{Prelude.{◌≡◌, ◌≢◌, ◌⊎◌, ◌∷◌, ◌++◌, ℕ, [], map, take, IfOk, IfSome, OnOk}, Option.{option_map, option_copied}};
+ghost use Rattle.std.specs.{Prelude.{◌≡◌, ◌≢◌, ◌⊎◌, ◌∷◌, ◌++◌, ℕ, [], true, map, take, IfOk, IfSome, OnOk, Some}, Option.{option_map, option_copied}};
 ghost use Rattle.yv_values.specs.Types.{plain_of};
 ghost use Rattle.yv_types.specs.InnerTables.{entry_at, entry_of, joined_from, plains, plains_at};
 
@@ -76,6 +76,54 @@ pub(crate) fn one(alloc: Global, plain: PlainType, list: usize) -> Result<Shared
     all.push(plain)?;
     let types = RcSlice::from_vec(all)?;
     Ok(SharedTypes { types, list })
+}
+
+// Whether these are one type, and are seen to be this one.
+fn is_one(types: &[PlainType], plain: &PlainType) -> bool
+    ensures { result ≡ true → map plain_of types.now ≡ plain_of plain.now ∷ [] }
+{
+    match types {
+        [only] => only.is_same(plain),
+        _ => false,
+    }
+}
+
+// The list at one of these places that is seen to have this type alone, if there is one.
+fn shared_at(
+    spaces: &Table<SharedTypes>,
+    places: &[usize],
+    plain: &PlainType,
+) -> Result<Option<SharedTypes>, AllocError>
+    ensures types { IfOk result
+        (λ s. IfSome s (λ shared. plains shared ≡ plain_of plain.now ∷ [])) }
+    ensures there { IfOk result (λ s. IfSome s
+        (λ shared. (k : ℕ) × (entry_at spaces.now k ≡ Some (entry_of shared)))) }
+{
+    for place in places {
+        match get(spaces, *place) {
+            Some(space) if is_one(&space.types, plain) => return Ok(Some(space.copy()?)),
+            _ => {}
+        }
+    }
+    Ok(None)
+}
+
+/// A list of one type: one at these places that is seen to have it, or else one with this number.
+pub(crate) fn list_of(
+    alloc: Global,
+    spaces: &Table<SharedTypes>,
+    places: &[usize],
+    plain: &PlainType,
+    list: usize,
+) -> Result<SharedTypes, AllocError>
+    ensures types { IfOk result (λ shared. plains shared ≡ plain_of plain.now ∷ []) }
+    ensures number { IfOk result (λ shared. (shared.list ≡ list)
+        ⊎ ((k : ℕ) × (entry_at spaces.now k ≡ Some (entry_of shared)))) }
+{
+    match shared_at(spaces, places, plain)? {
+        Some(shared) => Ok(shared),
+        None => one(alloc, plain.copy()?, list),
+    }
 }
 
 // Puts copies of types behind others.

@@ -1,5 +1,5 @@
 //! The patterns of a string type.
-ghost use Rattle.std.specs.{Prelude.{◌≡◌, ◌++◌, ◌∷◌, [], map, IfOk, OnOk, MatchOption}, List.{list_all}};
+ghost use Rattle.std.specs.{Prelude.{◌≡◌, ◌++◌, ◌∷◌, [], true, map, IfOk, OnOk, MatchOption}, List.{list_all}};
 ghost use Rattle.yv_values.specs.{Patterns.{test_of}, InnerPatterns.{tests_in, tests_of}, Texts.{passes}};
 
 use std::alloc::{AllocError, Global};
@@ -71,6 +71,12 @@ impl PatternTests {
         Ok(PatternTests {
             blocks: RcSlice::from_vec(blocks)?,
         })
+    }
+
+    pub(crate) fn is_empty(&self) -> bool
+        ensures { result ≡ true → self.now ≡ [] }
+    {
+        self.blocks.is_empty()
     }
 
     pub(crate) fn copy(&self) -> Result<PatternTests, AllocError>

@@ -1,12 +1,13 @@
 //! Plain types.
-ghost use Rattle.std.specs.Prelude.{◌≡◌, IfOk};
+ghost use Rattle.std.specs.Prelude.{◌≡◌, true, IfOk};
+ghost use Rattle.yv_base_numbers.specs.Intervals.{interval};
 ghost use Rattle.yv_values.specs.Types.{plain_of};
 
 use crate::members::Members;
 use crate::names::NameSet;
 use crate::patterns::PatternTests;
 use std::alloc::AllocError;
-use yv_base_numbers::Intervals;
+use yv_base_numbers::{Intervals, Span};
 
 /// A type of whole numbers: whether JSON writes them as texts, as it does those of 64 bits (RFC
 /// 7951, section
@@ -73,9 +74,50 @@ impl PlainType {
             PlainType::Empty => Ok(PlainType::Empty),
         }
     }
+
+    /// Whether both are one type, as far as that is seen at once: types of whole numbers or of
+    /// texts with one interval and without patterns, Boolean, and empty. It takes constant time.
+    pub fn is_same(&self, other: &PlainType) -> bool
+        ensures { result ≡ true → plain_of self.now ≡ plain_of other.now }
+    {
+        match (self, other) {
+            (PlainType::Whole(one), PlainType::Whole(other)) => {
+                one.is_text == other.is_text && have_one_span(&one.spans, &other.spans)
+            }
+            (PlainType::Text(one), PlainType::Text(other)) => one.is_same(other),
+            (PlainType::Boolean, PlainType::Boolean) => true,
+            (PlainType::Empty, PlainType::Empty) => true,
+            _ => false,
+        }
+    }
+}
+
+// Whether both have one interval, and that is the same.
+fn have_one_span(one: &Intervals, other: &Intervals) -> bool
+    ensures { result ≡ true → one.now ≡ other.now }
+{
+    match (one.spans(), other.spans()) {
+        ([one], [other]) => is_same_span(*one, *other),
+        _ => false,
+    }
+}
+
+fn is_same_span(one: Span, other: Span) -> bool
+    ensures { result ≡ true → interval one ≡ interval other }
+{
+    one.low == other.low && one.high == other.high
 }
 
 impl TextType {
+    // Whether both are one type of texts without patterns.
+    fn is_same(&self, other: &TextType) -> bool
+        ensures lengths { result ≡ true → self.now.lengths ≡ other.now.lengths }
+        ensures patterns { result ≡ true → self.now.patterns ≡ other.now.patterns }
+    {
+        self.patterns.is_empty()
+            && (other.patterns.is_empty() && have_one_span(&self.lengths, &other.lengths))
+    }
+
     fn copy(&self) -> Result<TextType, AllocError>
         ensures lengths { IfOk result (λ copy. copy.lengths ≡ self.now.lengths) }
         ensures patterns { IfOk result (λ copy. copy.patterns ≡ self.now.patterns) }

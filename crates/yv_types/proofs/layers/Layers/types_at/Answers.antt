@@ -18,16 +18,16 @@ use Rattle.yv_types.proofs.layers.Layers.types_at.Goals as goal
 
 pub returns-in-Some-clause-space : goal.returns-in-Some-clause-space
 returns-in-Some-clause-space c = λ kept files choice linked layers inside known.
-    has_some files (truth_in c.args.linked.now) choice c.args.number (Some (plains c.in_ok-one.field-0)) (plain_of c.in-Some.plain.now ∷ [])
-    (ap Some (c.in_ok-one.ensures.types ∙ ap (λ p. p ∷ []) c.in_ok-copy.ensures))
+    has_some files (truth_in c.args.linked.now) choice c.args.number (Some (plains c.in_ok-list_of.field-0)) (plain_of c.in-Some.plain.now ∷ [])
+    (ap Some c.in_ok-list_of.ensures.types)
     (plain_type ((c.in-Some.ensures files layers.faceted (plain_of c.in-Some.plain.now)).0 refl))
 
 pub returns-in-Some-names-clause-space : goal.returns-in-Some-names-clause-space
 returns-in-Some-names-clause-space c = λ kept files choice linked layers inside known.
     let told : NamesView = told_of c.in-Some-names.names.now in
     let is : IsListed told (plain_of c.in_ok-names_type.field-0) = c.in_ok-names_type.ensures in
-    has_some files (truth_in c.args.linked.now) choice c.args.number (Some (plains c.in_ok-one-2.field-0)) (of_kind told.kind is.0 ∷ [])
-    (ap Some (c.in_ok-one-2.ensures.types ∙ ap (λ p. p ∷ []) is.1))
+    has_some files (truth_in c.args.linked.now) choice c.args.number (Some (plains c.in_ok-one.field-0)) (of_kind told.kind is.0 ∷ [])
+    (ap Some (c.in_ok-one.ensures.types ∙ ap (λ p. p ∷ []) is.1))
     (names_type told is.0 ((c.in-Some-names.ensures files (truth_in c.args.linked.now) layers.listed told).0 refl) is.2 is.3)
 
 pub returns-in-Some-follows-clause-space : goal.returns-in-Some-follows-clause-space
