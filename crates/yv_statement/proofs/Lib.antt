@@ -1,3 +1,4 @@
 pub mod Built
 pub mod Least
 pub mod Mapped
+pub mod Written

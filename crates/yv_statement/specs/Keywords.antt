@@ -1,5 +1,5 @@
 -- The keywords of YANG statements, by name (RFC 7950, section 14).
-use Rattle.std.specs.Prelude.{ℕ, Bool, List, [], ◌∷◌, if◌then◌else◌, codes, ◌==◌}
+use Rattle.std.specs.Prelude.{ℕ, Bool, List, [], ◌∷◌, Option, None, Some, if◌then◌else◌, codes, ◌==◌}
 use Rattle.std.specs.List.{list_any}
 use Rattle.std.specs.Str.{bytes_eq}
 use denote.Enum.Bare.{sameb}
@@ -93,3 +93,12 @@ keyword_of text = if list_any (λ b. b == 58) text then word.Extended else keywo
 -- whether two keywords are one
 abbrev pub same : Keyword → Keyword → Bool
 same a b = sameb the_type a b
+
+-- the name that this keyword has among names
+abbrev pub name_in : List (List ℕ × Keyword) → Keyword → Option (List ℕ)
+name_in [] keyword = None
+name_in (n ∷ ns) keyword = if same n.1 keyword then Some n.0 else name_in ns keyword
+
+-- how a keyword is written; there is no one text for those of extensions, nor for unknown ones
+abbrev pub written : Keyword → Option (List ℕ)
+written keyword = name_in names keyword

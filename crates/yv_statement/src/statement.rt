@@ -1,5 +1,5 @@
-ghost use Rattle.std.specs.{Prelude.{◌≡◌, OnOk, OnErr}, Cow.{cow_str_bytes}, Option.{option_map}};
-ghost use Rattle.yv_statement.specs.{Keywords.{keyword_of}, Tree.{trees}, Builder.{bare, push_child, with_argument, with_more}};
+ghost use Rattle.std.specs.{Prelude.{◌≡◌, OnOk, OnErr, IfSome}, Cow.{cow_str_bytes}, Option.{option_map}, Str.{bytes_eq}};
+ghost use Rattle.yv_statement.specs.{Keywords.{keyword_of, same, written}, Tree.{trees}, Builder.{bare, push_child, with_argument, with_more}};
 
 use crate::keyword::Keyword;
 use std::alloc::{AllocError, Global};
@@ -106,6 +106,15 @@ impl<'a> Statement<'a> {
         ensures { result ≡ keyword_of self.now.head.keyword }
     {
         self.kind
+    }
+
+    /// Whether it has this keyword, without a comparison of texts.
+    pub fn is(&self, keyword: Keyword) -> bool
+        ensures kind { result ≡ same (keyword_of self.now.head.keyword) keyword }
+        ensures text { IfSome (written keyword)
+            (λ text. result ≡ bytes_eq self.now.head.keyword text) }
+    {
+        self.kind == keyword
     }
 
     /// The argument, where it has one.
