@@ -6,3 +6,4 @@ pub mod Searching
 pub mod Following
 pub mod Found
 pub mod Peers
+pub mod NoEdges

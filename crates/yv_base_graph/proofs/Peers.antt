@@ -8,7 +8,7 @@ use Rattle.std.proofs.lemmas.Option.{get_or_from_slice_get, slice_get_read}
 use Rattle.std.specs.List.{Contains, list_any}
 use Rattle.std.specs.declared.vec.Vec.{Vec}
 use Rattle.std.specs.declared.alloc.Global.{Global}
-use Rattle.yv_base_graph.specs.Graph.{Graph, IsGraph, HasEdge, IsMarked, AreOnCycles}
+use Rattle.yv_base_graph.specs.Graph.{Graph, IsGraph, IsMarked, AreOnCycles}
 use Rattle.yv_base_graph.specs.InnerSearch.{Progress, IsSearched, rank_of}
 use Rattle.yv_base_graph.specs.InnerPeers.{HasPeer, ArePeers}
 use Rattle.yv_base_graph.proofs.Ranks.{leads_within}

@@ -1,5 +1,6 @@
 pub mod Graph
-pub mod Ranks
+pub mod InnerEdgeless
 pub mod InnerMarks
 pub mod InnerPeers
 pub mod InnerSearch
+pub mod Ranks

@@ -1,7 +1,8 @@
 //! The first node that leads to itself, all such nodes, or else ranks that fall along each edge.
 ghost use Rattle.std.specs.{Prelude.{◌≡◌, ◌==◌, ◌<◌, length, slice_index, IfOk, IfSome, IfNone}, List.{All, list_any}};
-ghost use Rattle.yv_base_graph.specs.{Graph.{IsGraph, IsFirstOnCycle, HasNoCycle, AreOnCycles, HasRanks, AreRanks, IsOrder, ArePlaces}, InnerPeers.{ArePeers}, Ranks.{IfRanks, IfCycle}};
+ghost use Rattle.yv_base_graph.specs.{Graph.{IsGraph, IsFirstOnCycle, HasNoCycle, AreOnCycles, HasRanks, AreRanks, IsOrder, ArePlaces}, InnerEdgeless.{HasNoEdge}, InnerPeers.{ArePeers}, Ranks.{IfRanks, IfCycle}};
 
+use crate::edgeless::{has_no_edge, numbers};
 use crate::search::Search;
 use std::alloc::{AllocError, Global};
 
@@ -49,6 +50,9 @@ pub fn nodes_on_cycles(alloc: Global, graph: &[Vec<usize>]) -> Result<Vec<bool>,
     requires graph { IsGraph graph.now }
     ensures exact { IfOk result (λ marks. AreOnCycles graph.now marks.items) }
 {
+    if has_no_edge(graph) {
+        return Ok(vec![in alloc; false; graph.len()]?);
+    }
     let search = Search::run(alloc, graph)?;
     // Nodes of one rank lead to one another, and no rank rises along an edge.
     let ranks = search.ranks(alloc)?;
@@ -70,8 +74,23 @@ pub enum Ranking {
     Cycle(usize),
 }
 
-/// Ranks the nodes, or finds the first that leads to itself.
-pub fn rank(alloc: Global, graph: &[Vec<usize>]) -> Result<Ranking, AllocError>
+// Ranks nodes without edges: each by its number.
+fn edgeless_ranking(alloc: Global, graph: &[Vec<usize>]) -> Result<Ranking, AllocError>
+    requires { HasNoEdge graph.now }
+    ensures ranks { IfOk result
+        (λ ranked. IfRanks ranked (λ ranks order. AreRanks graph.now ranks)) }
+    ensures order { IfOk result
+        (λ ranked. IfRanks ranked (λ ranks order. IsOrder graph.now order)) }
+    ensures places { IfOk result (λ ranked. IfRanks ranked ArePlaces) }
+    ensures cycle { IfOk result (λ ranked. IfCycle ranked (IsFirstOnCycle graph.now)) }
+{
+    let ranks = numbers(alloc, graph.len())?;
+    let order = numbers(alloc, graph.len())?;
+    Ok(Ranking::Ranks { ranks, order })
+}
+
+// Ranks the nodes by a search along the edges.
+fn searched_ranking(alloc: Global, graph: &[Vec<usize>]) -> Result<Ranking, AllocError>
     requires graph { IsGraph graph.now }
     ensures ranks { IfOk result
         (λ ranked. IfRanks ranked (λ ranks order. AreRanks graph.now ranks)) }
@@ -88,4 +107,21 @@ pub fn rank(alloc: Global, graph: &[Vec<usize>]) -> Result<Ranking, AllocError>
     let ranks = search.ranks(alloc)?;
     let order = search.into_order();
     Ok(Ranking::Ranks { ranks, order })
+}
+
+/// Ranks the nodes, or finds the first that leads to itself.
+pub fn rank(alloc: Global, graph: &[Vec<usize>]) -> Result<Ranking, AllocError>
+    requires graph { IsGraph graph.now }
+    ensures ranks { IfOk result
+        (λ ranked. IfRanks ranked (λ ranks order. AreRanks graph.now ranks)) }
+    ensures order { IfOk result
+        (λ ranked. IfRanks ranked (λ ranks order. IsOrder graph.now order)) }
+    ensures places { IfOk result (λ ranked. IfRanks ranked ArePlaces) }
+    ensures cycle { IfOk result (λ ranked. IfCycle ranked (IsFirstOnCycle graph.now)) }
+{
+    if has_no_edge(graph) {
+        edgeless_ranking(alloc, graph)
+    } else {
+        searched_ranking(alloc, graph)
+    }
 }

@@ -4,6 +4,7 @@
 #![tactic(auto)]
 
 mod cycles;
+mod edgeless;
 pub mod laws;
 mod reach;
 mod search;

@@ -1,6 +1,6 @@
 use Rattle.std.proofs.Common.{arith}
 use Rattle.yv_base_graph.proofs.Found.{found_first_at, found_ranks_at, found_order_at, found_places_at}
-use Rattle.yv_base_graph.proofs.cycles.rank.Goals as goal
+use Rattle.yv_base_graph.proofs.cycles.searched_ranking.Goals as goal
 
 pub returns-then-least-graph-clause-cycle : goal.returns-then-least-graph-clause-cycle
 returns-then-least-graph-clause-cycle c = found_first_at _ _ _ c.requires.graph c.in_ok-search.ensures c.least-least.ensures c.if-least-graph.true
