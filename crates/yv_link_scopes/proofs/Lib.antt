@@ -10,3 +10,4 @@ pub mod Blocks
 pub mod Order
 pub mod FirstPrefixes
 pub mod Reading
+pub mod Keywords

@@ -6,7 +6,7 @@ ghost use Rattle.yv_link_scopes.specs.{Tables.{table_of}, Files.{brief, brief_of
 use crate::files::{File, module_file};
 use crate::places::NamePlaces;
 use std::alloc::{AllocError, Global};
-use yv_statement::Statement;
+use yv_statement::{Keyword, Statement};
 
 /// A statement, the number of its file, and the number of the block that contains its names.
 #[derive(Clone, Copy)]
@@ -16,11 +16,11 @@ pub struct Entry<'a, 'b> {
     pub statement: &'a Statement<'b>,
 }
 
-// Whether a keyword is an extension's.
-fn is_extended(keyword: &str) -> bool
-    ensures { result ≡ is_extended keyword.now }
+// Whether a statement is an extension's.
+fn is_extended(statement: &Statement<'_>) -> bool
+    ensures { result ≡ is_extended statement.now.head.keyword }
 {
-    keyword.as_bytes().iter().any(|byte| *byte == b':')
+    statement.is(Keyword::Extended)
 }
 
 // Lists a statement and what stands below it.
@@ -42,7 +42,7 @@ fn add<'a, 'b>(
         scope,
         statement,
     })?;
-    if is_extended(statement.keyword()) {
+    if is_extended(statement) {
         return Ok(());
     }
     for child in statement.children() {

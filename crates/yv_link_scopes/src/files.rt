@@ -5,7 +5,7 @@ ghost use Rattle.yv_link_scopes.specs.{Tables.{table_of}, Files.{brief, brief_of
 use crate::names::name_of;
 use crate::places::NamePlaces;
 use std::alloc::{AllocError, Global};
-use yv_statement::Statement;
+use yv_statement::{Keyword, Statement};
 
 /// A file: its name, the name of the module to which it belongs, and its root.
 #[derive(Clone, Copy)]
@@ -21,7 +21,7 @@ pub struct File<'a, 'b> {
 fn is_module(root: &Statement<'_>) -> bool
     ensures { result ≡ is_module root.now }
 {
-    root.keyword() == "module"
+    root.is(Keyword::Module)
 }
 
 // The name of the module to which a file belongs.
@@ -32,7 +32,7 @@ fn module_name<'a>(root: &'a Statement<'_>) -> &'a str
         return name_of(root);
     }
     for child in root.children() {
-        if child.keyword() == "belongs-to" {
+        if child.is(Keyword::BelongsTo) {
             return name_of(child);
         }
     }

@@ -1,5 +1,6 @@
 //! The kinds of names, and where a name of a kind occurs first.
 ghost use Rattle.std.specs.Prelude.{◌≡◌, ◌+◌, ℕ, List, Some, map, slice_get, take, IfOk, OnOk};
+ghost use Rattle.yv_statement.specs.Keywords.{written};
 ghost use Rattle.yv_link_scopes.specs.{Tables.{table_of, word_of, place_of_kind, first_of}, Files.{has_word}, Rows.{Row, row}, Views.{rows_in}, InnerPlaces.{AreFirst}, InnerDefinitions.{ArePlaces}, declared.kind.NameKind.TheVariants.{Typedef, Grouping, Feature, Identity, Extension}};
 
 use crate::entries::Entry;
@@ -7,6 +8,7 @@ use crate::names::name_of;
 use crate::places::NamePlaces;
 use crate::rows::Rows;
 use std::alloc::{AllocError, Global};
+use yv_statement::Keyword;
 
 /// What a statement names.
 #[derive(Clone, Copy, Debug, PartialEq, Eq)]
@@ -22,17 +24,17 @@ pub enum NameKind {
 
 impl NameKind {
     // The keyword of the statements that give such names.
-    fn word(self) -> &'static str
-        ensures { result.now ≡ word_of self }
+    fn keyword(self) -> Keyword
+        ensures { written result ≡ Some (word_of self) }
     {
         match self {
-            NameKind::Prefix => "prefix",
-            NameKind::Include => "include",
-            NameKind::Typedef => "typedef",
-            NameKind::Grouping => "grouping",
-            NameKind::Feature => "feature",
-            NameKind::Identity => "identity",
-            NameKind::Extension => "extension",
+            NameKind::Prefix => Keyword::Prefix,
+            NameKind::Include => Keyword::Include,
+            NameKind::Typedef => Keyword::Typedef,
+            NameKind::Grouping => Keyword::Grouping,
+            NameKind::Feature => Keyword::Feature,
+            NameKind::Identity => Keyword::Identity,
+            NameKind::Extension => Keyword::Extension,
         }
     }
 
@@ -47,11 +49,11 @@ impl NameKind {
     }
 }
 
-// Whether a statement has this keyword.
-fn has_word(word: &str, entry: &Entry<'_, '_>) -> bool
-    ensures { result ≡ has_word word.now (row entry.now).head }
+// Whether a statement gives names of a kind.
+fn gives_names(kind: NameKind, entry: &Entry<'_, '_>) -> bool
+    ensures { result ≡ has_word (word_of kind) (row entry.now).head }
 {
-    entry.statement.keyword() == word
+    entry.statement.is(kind.keyword())
 }
 
 // Keeps the name of the next statement, where that is of the kind and its name is new.
@@ -65,7 +67,7 @@ fn keep_name<'a>(
         → AreFirst kind (take number rows) places.old
         → OnOk result (AreFirst kind (take (number + 1) rows) places.new) }
 {
-    if has_word(kind.word(), entry) {
+    if gives_names(kind, entry) {
         let place = kind.place(entry);
         let name = name_of(entry.statement);
         places.keep(place, name.as_bytes(), number)?;
@@ -119,12 +121,19 @@ impl<'a> DefinitionPlaces<'a> {
             → ArePlaces (take number rows) self.old
             → OnOk result (ArePlaces (take (number + 1) rows) self.new) }
     {
-        keep_name(&mut self.features, NameKind::Feature, number, entry)?;
-        keep_name(&mut self.identities, NameKind::Identity, number, entry)?;
-        keep_name(&mut self.extensions, NameKind::Extension, number, entry)?;
-        keep_name(&mut self.typedefs, NameKind::Typedef, number, entry)?;
-        keep_name(&mut self.groupings, NameKind::Grouping, number, entry)?;
-        Ok(())
+        match entry.statement.kind() {
+            Keyword::Feature => keep_name(&mut self.features, NameKind::Feature, number, entry),
+            Keyword::Identity => keep_name(&mut self.identities, NameKind::Identity, number, entry),
+            Keyword::Extension => keep_name(
+                &mut self.extensions,
+                NameKind::Extension,
+                number,
+                entry,
+            ),
+            Keyword::Typedef => keep_name(&mut self.typedefs, NameKind::Typedef, number, entry),
+            Keyword::Grouping => keep_name(&mut self.groupings, NameKind::Grouping, number, entry),
+            _ => Ok(()),
+        }
     }
 }
 

@@ -9,6 +9,7 @@ use crate::names::name_of;
 use crate::places::NamePlaces;
 use crate::rows::Rows;
 use std::alloc::{AllocError, Global};
+use yv_statement::Keyword;
 
 // The file of the module for which a prefix stands that is declared so.
 fn declared_module_file(rows: &Rows<'_, '_>, entry: &Entry<'_, '_>) -> Option<u32>
@@ -27,7 +28,7 @@ fn module_file_of_prefix(rows: &Rows<'_, '_>, entry: &Entry<'_, '_>) -> Option<u
     ensures { result
         ≡ module_file_of_prefix (files_in rows.now) (rows_in rows.now) (row entry.now) }
 {
-    if entry.statement.keyword() == "prefix" {
+    if entry.statement.is(Keyword::Prefix) {
         declared_module_file(rows, entry)
     } else {
         None

@@ -33,7 +33,7 @@ returns t c =
     let done : map row c.loop-child.entries.items ≡ map row c.push.new.self.items ++ row_list c.args.file c.len-number.result (length (map row c.push.new.self.items)) (forest ts) = lists_end c.loop-child.invariant.rows end in
     let block : map row c.loop-child.entries.items ≡ map row c.push.new.self.items ++ row_list c.args.file c.len-number.result (length (map row c.push.new.self.items)) c.args.statement.now.children = done ∙ ap (λ f. map row c.push.new.self.items ++ row_list c.args.file c.len-number.result (length (map row c.push.new.self.items)) f) (forest-trees c.args.statement.now.children) in
     let told : map tree c.loop-child.entries.items ≡ map tree c.push.new.self.items ++ statements_in c.args.statement.now.children = tells_end c.loop-child.invariant.trees end ∙ ap (λ f. map tree c.push.new.self.items ++ statements_in f) (forest-trees c.args.statement.now.children) in
-    let plain : is_extended c.args.statement.now.head.keyword ≡ false = ap is_extended (sym c.keyword.ensures) ∙ sym c.is_extended.ensures ∙ c.if-is_extended.false in
+    let plain : is_extended c.args.statement.now.head.keyword ≡ false = sym c.is_extended.ensures ∙ c.if-is_extended.false in
     let number : c.len-number.result ≡ length c.args.entries.now.items = search rules in
     record {
       rows = listed_whole c.args.file c.args.scope (length c.args.entries.now.items) c.args.statement.now.head c.args.statement.now.children (map row c.args.entries.now.items) _ _ (sym (length-map c.args.entries.now.items row)) plain (pushed _ _ _ c.in_ok-push.ensures.items) (block ∙ ap (λ n. map row c.push.new.self.items ++ row_list c.args.file n (length (map row c.push.new.self.items)) c.args.statement.now.children) number);
@@ -42,7 +42,7 @@ returns t c =
 
 pub returns-then-is_extended : goal.returns-then-is_extended
 returns-then-is_extended t c =
-    let bare : is_extended c.args.statement.now.head.keyword ≡ true = ap is_extended (sym c.keyword.ensures) ∙ sym c.is_extended.ensures ∙ c.if-is_extended.true in
+    let bare : is_extended c.args.statement.now.head.keyword ≡ true = sym c.is_extended.ensures ∙ c.if-is_extended.true in
     record {
       rows = listed_bare c.args.file c.args.scope (length c.args.entries.now.items) c.args.statement.now.head c.args.statement.now.children _ _ bare (pushed _ _ _ c.in_ok-push.ensures.items);
       trees = told_bare c.args.statement.now.head c.args.statement.now.children (map tree c.args.entries.now.items) (map tree c.push.new.self.items) bare (pushed_tree _ _ _ c.in_ok-push.ensures.items);
