@@ -3,7 +3,7 @@ use Rattle.std.proofs.Common.{◌≡◌, ℕ, ◌+◌, ◌<◌, ◌≤◌, Bool,
 use Rattle.std.proofs.lemmas.List.{append-nil, drop_all, map-append}
 use Rattle.yv_statement.specs.Tree.{Head, Forest, Then, End, Tree, trees, forest, count}
 use Rattle.yv_link_scopes.specs.Rows.{Row, row, row_list, is_extended}
-use Rattle.yv_link_scopes.specs.declared.entries.Entry.{Entry}
+use Rattle.yv_link_scopes.specs.declared.entry.Entry.{Entry}
 
 inner_of : ℕ → ℕ → Head → Forest → List Row
 inner_of file number h c = cond (is_extended h.keyword) [] (row_list file number (number + 1) c)

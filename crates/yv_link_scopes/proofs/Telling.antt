@@ -5,7 +5,7 @@ use Rattle.yv_statement.specs.Tree.{Head, Forest, Then, End, Tree}
 use Rattle.yv_link_scopes.specs.Files.{Files, Briefs, brief_of, module_file_in}
 use Rattle.yv_link_scopes.specs.Rows.{Row, tree, is_extended, row_list}
 use Rattle.yv_link_scopes.specs.RowList.{roots_from, bodies, body_of, rows_of, statements_in, inner_statements, statements_of}
-use Rattle.yv_link_scopes.specs.declared.entries.Entry.{Entry}
+use Rattle.yv_link_scopes.specs.declared.entry.Entry.{Entry}
 use Rattle.yv_link_scopes.proofs.Bodies.{next_drop, drop_end}
 
 inner_of : Head → Forest → List Tree

@@ -3,18 +3,11 @@ ghost use Rattle.std.specs.Prelude.{◌≡◌, ◌≤◌, ◌<◌, ◌++◌, ℕ
 ghost use Rattle.yv_statement.specs.Tree.{Then, End, forest};
 ghost use Rattle.yv_link_scopes.specs.{Tables.{table_of}, Files.{brief, brief_of, file_named}, Rows.{row, tree, row_list, is_extended}, RowList.{rows_of, statements_in, statements_of}};
 
+use crate::entry::Entry;
 use crate::files::{File, module_file};
 use crate::places::NamePlaces;
 use std::alloc::{AllocError, Global};
 use yv_statement::{Keyword, Statement};
-
-/// A statement, the number of its file, and the number of the block that contains its names.
-#[derive(Clone, Copy)]
-pub struct Entry<'a, 'b> {
-    pub file: u32,
-    pub scope: usize,
-    pub statement: &'a Statement<'b>,
-}
 
 // Whether a statement is an extension's.
 fn is_extended(statement: &Statement<'_>) -> bool
@@ -39,6 +32,7 @@ fn add<'a, 'b>(
     let number = entries.len();
     entries.push(Entry {
         file,
+        kind: statement.kind(),
         scope,
         statement,
     })?;
@@ -87,6 +81,7 @@ pub(crate) fn read_entries<'a, 'b>(
     for (file, root) in roots.iter().enumerate() {
         entries.push(Entry {
             file: file as u32,
+            kind: root.kind(),
             scope: file,
             statement: root,
         })?;

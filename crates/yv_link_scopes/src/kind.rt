@@ -3,7 +3,7 @@ ghost use Rattle.std.specs.Prelude.{◌≡◌, ◌+◌, ℕ, List, Some, map, sl
 ghost use Rattle.yv_statement.specs.Keywords.{written};
 ghost use Rattle.yv_link_scopes.specs.{Tables.{table_of, word_of, place_of_kind, first_of}, Files.{has_word}, Rows.{Row, row}, Views.{rows_in}, InnerPlaces.{AreFirst}, InnerDefinitions.{ArePlaces}, declared.kind.NameKind.TheVariants.{Typedef, Grouping, Feature, Identity, Extension}};
 
-use crate::entries::Entry;
+use crate::entry::Entry;
 use crate::names::name_of;
 use crate::places::NamePlaces;
 use crate::rows::Rows;
@@ -53,7 +53,7 @@ impl NameKind {
 fn gives_names(kind: NameKind, entry: &Entry<'_, '_>) -> bool
     ensures { result ≡ has_word (word_of kind) (row entry.now).head }
 {
-    entry.statement.is(kind.keyword())
+    entry.is(kind.keyword())
 }
 
 // Keeps the name of the next statement, where that is of the kind and its name is new.
@@ -121,7 +121,7 @@ impl<'a> DefinitionPlaces<'a> {
             → ArePlaces (take number rows) self.old
             → OnOk result (ArePlaces (take (number + 1) rows) self.new) }
     {
-        match entry.statement.kind() {
+        match entry.kind() {
             Keyword::Feature => keep_name(&mut self.features, NameKind::Feature, number, entry),
             Keyword::Identity => keep_name(&mut self.identities, NameKind::Identity, number, entry),
             Keyword::Extension => keep_name(

@@ -7,6 +7,7 @@
 #![tactic(auto)]
 
 mod entries;
+mod entry;
 mod files;
 mod kind;
 pub mod laws;
@@ -16,7 +17,7 @@ mod prefixes;
 mod rows;
 mod scopes;
 
-pub use entries::Entry;
+pub use entry::Entry;
 pub use files::File;
 pub use kind::{DefinitionPlaces, NameKind, definition_places, first_places};
 pub use names::{local, name_of, prefix_of};

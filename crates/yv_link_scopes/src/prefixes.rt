@@ -2,7 +2,7 @@
 ghost use Rattle.std.specs.{Prelude.{◌≡◌, List, map, slice_get, IfOk}, Option.{option_and_then}};
 ghost use Rattle.yv_link_scopes.specs.{Rows.{Row, row}, Files.{Briefs, brief_of}, RowList.{rows_of}, Views.{files_in, lent_in, rows_in}, Scopes.{module_of}, InnerModuleFiles.{declared_module_file, module_file_of_prefix}};
 
-use crate::entries::Entry;
+use crate::entry::Entry;
 use crate::kind::{NameKind, first_places};
 use crate::laws::modules_are_files;
 use crate::names::name_of;
@@ -28,7 +28,7 @@ fn module_file_of_prefix(rows: &Rows<'_, '_>, entry: &Entry<'_, '_>) -> Option<u
     ensures { result
         ≡ module_file_of_prefix (files_in rows.now) (rows_in rows.now) (row entry.now) }
 {
-    if entry.statement.is(Keyword::Prefix) {
+    if entry.is(Keyword::Prefix) {
         declared_module_file(rows, entry)
     } else {
         None

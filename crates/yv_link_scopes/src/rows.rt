@@ -2,7 +2,8 @@
 ghost use Rattle.std.specs.{Prelude.{◌≡◌, ◌<◌, ◌≤◌, ℕ, List, map, length, slice_get, IfOk, IsErr}, Option.{option_map, unwrap_or}};
 ghost use Rattle.yv_link_scopes.specs.{Tables.{table_of, first_of}, Files.{brief, brief_of, file_named, module_file_at}, Rows.{row, tree}, RowList.{rows_of, statements_of}, declared.kind.NameKind.{NameKind}, declared.kind.NameKind.TheVariants.{Prefix}};
 
-use crate::entries::{Entry, read_entries};
+use crate::entries::read_entries;
+use crate::entry::Entry;
 use crate::files::{File, file_places, module_files, read_files};
 use crate::kind::{NameKind, first_entries};
 use crate::names::{local, name_of, prefix_of};

@@ -2,7 +2,7 @@
 ghost use Rattle.std.specs.Prelude.{◌≡◌, map};
 ghost use Rattle.yv_link_scopes.specs.{Tables.{first_of, table_of}, Rows.{row}, Scopes.{Means, AreNested}, InnerPlaces.{lesser_of}, declared.kind.NameKind.{NameKind}};
 
-use crate::entries::Entry;
+use crate::entry::Entry;
 use crate::places::NamePlaces;
 
 // The lesser of two numbers, or the one that there is.

@@ -6,7 +6,7 @@ use Rattle.std.proofs.lemmas.Option.{slice_get-get_or, slice_get-map}
 use Rattle.yv_statement.specs.declared.refusal.Code.TheVariants as code
 use Rattle.yv_link_scopes.specs.Views.{rows_in}
 use Rattle.yv_link_scopes.specs.Rows.{Row, row}
-use Rattle.yv_link_scopes.specs.declared.entries.Entry.{Entry}
+use Rattle.yv_link_scopes.specs.declared.entry.Entry.{Entry}
 use Rattle.yv_expand_augments.proofs.schedule.refusal_of.Goals as goal
 
 pub returns : goal.returns

@@ -2,7 +2,7 @@ use Rattle.std.proofs.Common.{◌≡◌, ◌<◌, ◌≤◌, ℕ, List, Option, 
 use Rattle.std.specs.List.{slice_get}
 use Rattle.std.proofs.lemmas.List.{length-map}
 use Rattle.std.proofs.lemmas.Option.{slice_get_past}
-use Rattle.yv_link_scopes.specs.declared.entries.Entry.{Entry}
+use Rattle.yv_link_scopes.specs.declared.entry.Entry.{Entry}
 use Rattle.yv_link_scopes.specs.Rows.{Row, row}
 use Rattle.yv_link_scopes.specs.Tables.{Table, first_of}
 use Rattle.yv_link_scopes.specs.InnerPlaces.{lesser_of}

@@ -3,7 +3,7 @@ use Rattle.std.specs.List.{slice_get}
 use Rattle.std.proofs.lemmas.Option.{slice_get_within}
 use Rattle.yv_link_scopes.specs.Rows.{Row, row}
 use Rattle.yv_link_scopes.specs.Views.{lent_in, rows_in}
-use Rattle.yv_link_scopes.specs.declared.entries.Entry.{Entry}
+use Rattle.yv_link_scopes.specs.declared.entry.Entry.{Entry}
 use Rattle.yv_expand_uses.specs.AugmentOrder.{place_of}
 use Rattle.yv_expand_uses.specs.Spots.{Whole, top_group_of, top_group}
 use Rattle.yv_expand_uses.specs.InnerPlan.{whole_in}
