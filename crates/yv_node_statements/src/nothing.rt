@@ -1,16 +1,18 @@
-//! What is shared by all nodes that lack something.
-ghost use Rattle.std.specs.{Prelude.{◌≡◌, [], IfOk}, Rc.{rc_slice_items, rc_str_bytes}};
+//! What is shared by all nodes that lack something, or that are of a built-in type.
+ghost use Rattle.std.specs.{Prelude.{◌≡◌, [], IfOk, IfSome}, Rc.{rc_slice_items, rc_str_bytes}};
 
 use std::alloc::{AllocError, Global};
 use std::rc::{Rc, RcSlice, RcStr};
+use yv_link_definitions::BUILT_INS;
 use yv_node_definition::{Keys, PathPiece, PathStep, WrittenText};
 use yv_values::{Defaults, PlainType};
 
 /// Empty texts, types, keys, paths, defaults and values: a node that has nothing of a kind shares
-/// these.
+/// these. Most leafs share the name of a built-in type.
 #[derive(Drop)]
 pub(crate) struct Nothing {
     text: RcStr,
+    built_ins: Vec<RcStr>,
     types: RcSlice<PlainType>,
     keys: Rc<Keys>,
     uniques: Rc<Vec<Vec<Vec<Option<PathStep>>>>>,
@@ -26,6 +28,22 @@ pub(crate) struct Nothing {
     ghost no_values: { values.value ≡ [] },
 }
 
+// The names of the built-in types.
+fn built_in_names(alloc: Global) -> Result<Vec<RcStr>, AllocError> {
+    let mut names = Vec::with_capacity(alloc, BUILT_INS.len())?;
+    for name in &BUILT_INS {
+        names.push(RcStr::from_str(alloc, name)?)?;
+    }
+    Ok(names)
+}
+
+// The one of these names that is the text.
+fn named<'n>(names: &'n [RcStr], text: &str) -> Option<&'n RcStr>
+    ensures { IfSome result (λ name. rc_str_bytes name.now ≡ text.now) }
+{
+    names.iter().find(|name| name.as_str() == text)
+}
+
 impl Nothing {
     /// All of this.
     pub(crate) fn new(alloc: Global) -> Result<Nothing, AllocError> {
@@ -33,6 +51,7 @@ impl Nothing {
         let values = Defaults::of(alloc, Vec::new(alloc))?;
         Ok(Nothing {
             text: RcStr::from_str(alloc, "")?,
+            built_ins: built_in_names(alloc)?,
             types: RcSlice::from_vec(Vec::new(alloc))?,
             keys: Rc::new(alloc, keys)?,
             uniques: Rc::new(alloc, Vec::new(alloc))?,
@@ -57,6 +76,16 @@ impl Nothing {
             self.text()
         } else {
             RcStr::from_str(alloc, text)
+        }
+    }
+
+    /// The text of a type. That of a built-in type takes no memory of its own.
+    pub(crate) fn type_text(&self, alloc: Global, text: &str) -> Result<RcStr, AllocError>
+        ensures { IfOk result (λ shared. rc_str_bytes shared ≡ text.now) }
+    {
+        match named(&self.built_ins, text) {
+            Some(name) => name.clone(),
+            None => self.or_text(alloc, text),
         }
     }
 

@@ -226,7 +226,7 @@ pub(crate) fn define(
         name: RcStr::from_str(alloc, node_name(kind, name_of(statement)))?,
         types: types_in(nothing, types, file, statement)?,
         features: features_in(alloc, nothing, statement)?,
-        type_text: nothing.or_text(alloc, argument_of(Keyword::Type, statement))?,
+        type_text: nothing.type_text(alloc, argument_of(Keyword::Type, statement))?,
         path: names.path,
         keys: names.keys,
         uniques: names.uniques,
