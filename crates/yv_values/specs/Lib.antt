@@ -12,6 +12,7 @@ pub mod Patterns
 pub mod Places
 pub mod Reads
 pub mod Same
+pub mod SameTypes
 pub mod Scopes
 pub mod NameOrder
 pub mod Texts

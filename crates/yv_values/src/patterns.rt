@@ -1,5 +1,5 @@
 //! The patterns of a string type.
-ghost use Rattle.std.specs.{Prelude.{◌≡◌, ◌++◌, ◌∷◌, [], true, map, IfOk, OnOk, MatchOption}, List.{list_all}};
+ghost use Rattle.std.specs.{Prelude.{◌≡◌, ◌==◌, ◌++◌, ◌∷◌, [], true, length, map, IfOk, OnOk, MatchOption}, List.{list_all}};
 ghost use Rattle.yv_values.specs.{Patterns.{test_of}, InnerPatterns.{tests_in, tests_of}, Texts.{passes}};
 
 use std::alloc::{AllocError, Global};
@@ -74,9 +74,9 @@ impl PatternTests {
     }
 
     pub(crate) fn is_empty(&self) -> bool
-        ensures { result ≡ true → self.now ≡ [] }
+        ensures { result ≡ (length self.now == 0) }
     {
-        self.blocks.is_empty()
+        have_no_test(&self.blocks)
     }
 
     pub(crate) fn copy(&self) -> Result<PatternTests, AllocError>
@@ -112,6 +112,28 @@ fn copies(alloc: Global, blocks: &[Block]) -> Result<Vec<Block>, AllocError>
         })?;
     }
     Ok(copies)
+}
+
+// Whether there is no test in blocks.
+fn have_no_test(blocks: &[Block]) -> bool
+    ensures { result ≡ (length (tests_in blocks.now) == 0) }
+{
+    for block in blocks {
+        if !has_no_test(&block.group) {
+            return false;
+        }
+    }
+    true
+}
+
+// Whether there is no test in a group. The calls nest as deep as the group is high.
+fn has_no_test(group: &Group) -> bool
+    ensures { result ≡ (length (tests_of group.now) == 0) }
+{
+    match group {
+        Group::Own(tests) => tests.is_empty(),
+        Group::Pair(first, second) => has_no_test(first) && has_no_test(second),
+    }
 }
 
 // Puts a block behind others, joined with each at the end that is as high as what is joined so far.

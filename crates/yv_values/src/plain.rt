@@ -1,7 +1,7 @@
 //! Plain types.
-ghost use Rattle.std.specs.Prelude.{◌≡◌, true, IfOk};
+ghost use Rattle.std.specs.Prelude.{◌≡◌, ◌↔◌, true, IsTrue, IfOk};
 ghost use Rattle.yv_base_numbers.specs.Intervals.{interval};
-ghost use Rattle.yv_values.specs.Types.{plain_of};
+ghost use Rattle.yv_values.specs.{Types.{plain_of, strings}, SameTypes.{is_one, is_simple}};
 
 use crate::members::Members;
 use crate::names::NameSet;
@@ -10,8 +10,7 @@ use std::alloc::AllocError;
 use yv_base_numbers::{Intervals, Span};
 
 /// A type of whole numbers: whether JSON writes them as texts, as it does those of 64 bits (RFC
-/// 7951, section
-/// 6.1), and the intervals of its range.
+/// 7951, section 6.1), and the intervals of its range.
 #[derive(Drop)]
 pub struct WholeType {
     pub is_text: bool,
@@ -78,7 +77,10 @@ impl PlainType {
     /// Whether both are one type, as far as that is seen at once: types of whole numbers or of
     /// texts with one interval and without patterns, Boolean, and empty. It takes constant time.
     pub fn is_same(&self, other: &PlainType) -> bool
-        ensures { result ≡ true → plain_of self.now ≡ plain_of other.now }
+        ensures same { result ≡ true → plain_of self.now ≡ plain_of other.now }
+        ensures simple { result ≡ true → IsTrue (is_simple (plain_of self.now)) }
+        ensures all { IsTrue (is_simple (plain_of self.now))
+            → plain_of self.now ≡ plain_of other.now → result ≡ true }
     {
         match (self, other) {
             (PlainType::Whole(one), PlainType::Whole(other)) => {
@@ -94,7 +96,9 @@ impl PlainType {
 
 // Whether both have one interval, and that is the same.
 fn have_one_span(one: &Intervals, other: &Intervals) -> bool
-    ensures { result ≡ true → one.now ≡ other.now }
+    ensures same { result ≡ true → one.now ≡ other.now }
+    ensures simple { result ≡ true → IsTrue (is_one one.now) }
+    ensures all { IsTrue (is_one one.now) → one.now ≡ other.now → result ≡ true }
 {
     match (one.spans(), other.spans()) {
         ([one], [other]) => is_same_span(*one, *other),
@@ -103,7 +107,7 @@ fn have_one_span(one: &Intervals, other: &Intervals) -> bool
 }
 
 fn is_same_span(one: Span, other: Span) -> bool
-    ensures { result ≡ true → interval one ≡ interval other }
+    ensures { (result ≡ true) ↔ (interval one ≡ interval other) }
 {
     one.low == other.low && one.high == other.high
 }
@@ -113,6 +117,11 @@ impl TextType {
     fn is_same(&self, other: &TextType) -> bool
         ensures lengths { result ≡ true → self.now.lengths ≡ other.now.lengths }
         ensures patterns { result ≡ true → self.now.patterns ≡ other.now.patterns }
+        ensures simple { result ≡ true
+            → IsTrue (is_simple (strings self.now.lengths self.now.patterns)) }
+        ensures all { IsTrue (is_simple (strings self.now.lengths self.now.patterns))
+            → self.now.lengths ≡ other.now.lengths → self.now.patterns ≡ other.now.patterns
+            → result ≡ true }
     {
         self.patterns.is_empty()
             && (other.patterns.is_empty() && have_one_span(&self.lengths, &other.lengths))
