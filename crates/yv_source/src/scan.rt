@@ -119,14 +119,16 @@ fn first_piece(before: Before, bytes: &[u8]) -> Ahead
     }
 }
 
-// How many bytes there are before the first that equals this one. Often it's the very first, as in
-// a row of backslash pairs.
+// How many bytes there are before the first that equals this one. Often it's among the very first,
+// as in a row of short texts, and these are looked at without a call.
 pub(crate) fn first_byte(byte: u8, bytes: &[u8]) -> usize
     ensures value { result ≡ length (until (begins byte) bytes.now) }
     ensures within { result ≤ length bytes.now }
 {
     match bytes {
         [first, ..] if *first == byte => 0,
+        [_, second, ..] if *second == byte => 1,
+        [_, _, third, ..] if *third == byte => 2,
         _ => byte_offset(byte, bytes),
     }
 }
@@ -228,13 +230,16 @@ fn pair_len(bytes: &[u8]) -> usize
     }
 }
 
-// How many bytes there are before the first double quote or backslash.
+// How many bytes there are before the first double quote or backslash. Often it's among the very
+// first.
 fn first_mark(bytes: &[u8]) -> usize
     ensures value { result ≡ length (until begins_mark bytes.now) }
     ensures within { result ≤ length bytes.now }
 {
     match bytes {
         [b'"' | b'\\', ..] => 0,
+        [_, b'"' | b'\\', ..] => 1,
+        [_, _, b'"' | b'\\', ..] => 2,
         _ => mark_offset(bytes),
     }
 }
