@@ -1,14 +1,12 @@
 -- How far files are read, file by file.
-use Rattle.std.proofs.Common.{◌≡◌, ℕ, zero, suc, ◌<◌, ◌≤◌, ◌+◌, List, [], ◌∷◌, ◌++◌, length, length-append, add-one, map, get_or, take, Result, Ok, Err, IfOk, OnOk, subst, sym, ap, refl, arith, take_all, Some, None, inl, inr}
+use Rattle.std.proofs.Common.{◌≡◌, ℕ, zero, suc, ◌<◌, ◌≤◌, ◌+◌, List, [], ◌∷◌, ◌++◌, length, length-append, add-one, map, get_or, take, Result, Ok, Err, subst, sym, ap, refl, arith, take_all, Some, inl, inr}
 use Rattle.std.specs.List.{AllZip, slice_get}
 use Rattle.std.proofs.lemmas.Option.{slice_get_within}
 use Rattle.yv_statement.specs.Tree.{Tree}
 use Rattle.yv_statement.specs.declared.refusal.Refusal.{Refusal}
-use Rattle.yv_statement.specs.declared.refusal.Stop.{Stop}
 use Rattle.yv_source.specs.Answer.{IsBadFile, IsSpelled, IsRefused}
-use Rattle.yv_source.specs.File as source
 use Rattle.yv_streams.specs.Files.{File}
-use Rattle.yv_source.specs.Texts.{IsText, IsNoText, Spells, SpellsNone}
+use Rattle.yv_source.specs.Texts.{IsText, IsNoText, SpellsNone}
 use Rattle.yv_source.specs.FileStatements.{IsRead, IsUnreadAt, in_file}
 
 abbrev pub error_of : {A E : Type 0} → E → Result A E → E
@@ -62,7 +60,7 @@ get_take (suc m) zero (y ∷ xs) x h = h
 get_take (suc m) (suc n) (y ∷ xs) x h = get_take m n xs x h
 
 -- files whose texts spell statements are read
-pub zip_both : (fs : List File) (ss : List source.File) (ts : List Tree) → AllZip IsText fs ss → AllZip Spells ss ts → AllZip IsRead fs ts
+pub zip_both : (fs : List File) (ss : List (List ℕ)) (ts : List Tree) → AllZip IsText fs ss → AllZip IsSpelled ss ts → AllZip IsRead fs ts
 zip_both [] [] [] p q = tt
 zip_both [] [] (t ∷ ts) p q = absurd q
 zip_both [] (s ∷ ss) ts p q = absurd p
@@ -71,12 +69,12 @@ zip_both (f ∷ fs) (s ∷ ss) [] p q = absurd q
 zip_both (f ∷ fs) (s ∷ ss) (t ∷ ts) p q = ((p.0.0, subst (λ text. IsSpelled text t) p.0.1 q.0), zip_both fs ss ts p.1 q.1)
 
 -- the text of a file spells no statement
-pub none_spelled : (files : List File) (ss : List source.File) (r : Refusal) → AllZip IsText (take (length ss) files) ss → SpellsNone ss r → IsUnreadAt files r
+pub none_spelled : (files : List File) (ss : List (List ℕ)) (r : Refusal) → AllZip IsText (take (length ss) files) ss → SpellsNone ss r → IsUnreadAt files r
 none_spelled files ss r each none =
     let m : ℕ = length ss in
     let n : ℕ = none.number in
-    let within : n < m = slice_get_within ss n none.source none.at in
-    let f = zip_at IsText (take m files) ss n none.source each none.at in
+    let within : n < m = slice_get_within ss n none.text none.at in
+    let f = zip_at IsText (take m files) ss n none.text each none.at in
     let at : slice_get files n ≡ Some f.0 = get_take m n files f.0 f.1 in
     let front : AllZip IsText (take n files) (take n ss) =
     subst (λ fs. AllZip IsText fs (take n ss)) (take_take n m files (omega (arith, within))) (zip_take IsText n (take m files) ss each) in
@@ -92,7 +90,7 @@ none_spelled files ss r each none =
     }
 
 -- the bytes of a file are no text
-pub no_text : (files : List File) (ss : List source.File) (ts : List Tree) (r : Refusal) → AllZip IsText (take (length ss) files) ss → AllZip Spells ss ts
+pub no_text : (files : List File) (ss : List (List ℕ)) (ts : List Tree) (r : Refusal) → AllZip IsText (take (length ss) files) ss → AllZip IsSpelled ss ts
     → IsNoText files (length ss) r → IsUnreadAt files r
 no_text files ss ts r each spelled none = record {
   number = length ss;
@@ -106,7 +104,7 @@ no_text files ss ts r each spelled none = record {
 }
 
 -- every file is read
-pub all_read : (files : List File) (ss : List source.File) (ts : List Tree) → length ss ≡ length files → AllZip IsText (take (length ss) files) ss → AllZip Spells ss ts → AllZip IsRead files ts
+pub all_read : (files : List File) (ss : List (List ℕ)) (ts : List Tree) → length ss ≡ length files → AllZip IsText (take (length ss) files) ss → AllZip IsSpelled ss ts → AllZip IsRead files ts
 all_read files ss ts whole each spelled =
     subst (λ fs. AllZip IsRead fs ts) (take_all (length ss) files (omega (arith, whole))) (zip_both (take (length ss) files) ss ts each spelled)
 
@@ -117,7 +115,7 @@ get_view view (y ∷ xs) zero x h is = ap (λ z. Some (view z)) (sym is)
 get_view view (y ∷ xs) (suc i) x h is = get_view view xs i x (omega (arith, h)) is
 
 -- one more text
-pub texts_more : (files : List File) (ss new : List source.File) (n : ℕ) (f : File) (s : source.File) → slice_get files n ≡ Some f → IsText f s → new ≡ ss ++ s ∷ []
+pub texts_more : (files : List File) (ss new : List (List ℕ)) (n : ℕ) (f : File) (s : List ℕ) → slice_get files n ≡ Some f → IsText f s → new ≡ ss ++ s ∷ []
     → (length ss ≡ n) × AllZip IsText (take n files) ss → (length new ≡ n + 1) × AllZip IsText (take (n + 1) files) new
 texts_more files ss new n f s at own is so_far =
     let long : length new ≡ n + 1 = omega (arith, ap length is, length-append ss (s ∷ []), so_far.0) in
@@ -125,15 +123,15 @@ texts_more files ss new n f s at own is so_far =
     (long, subst (λ xs. AllZip IsText (take (n + 1) files) xs) (sym is) (rw add-one more))
 
 -- the next file is no text
-pub texts_end : (files : List File) (ss : List source.File) (n : ℕ) (f : File) (own r : Refusal) → slice_get files n ≡ Some f → IsBadFile f.bytes own → r ≡ in_file n own
+pub texts_end : (files : List File) (ss : List (List ℕ)) (n : ℕ) (f : File) (own r : Refusal) → slice_get files n ≡ Some f → IsBadFile f.bytes own → r ≡ in_file n own
     → (length ss ≡ n) × AllZip IsText (take n files) ss → AllZip IsText (take (length ss) files) ss × IsNoText files (length ss) r
 texts_end files ss n f own r at bad placed so_far =
     let none : IsNoText files n r = record { file = f; at = at; own = own; bad = bad; placed = placed } in
     (subst (λ k. AllZip IsText (take k files) ss) (sym so_far.0) so_far.1, subst (λ k. IsNoText files k r) (sym so_far.0) none)
 
 -- one more statement
-pub statements_more : (ss : List source.File) (ts new : List Tree) (n : ℕ) (s : source.File) (t : Tree) → slice_get ss n ≡ Some s → Spells s t → new ≡ ts ++ t ∷ []
-    → AllZip Spells (take n ss) ts → AllZip Spells (take (n + 1) ss) new
+pub statements_more : (ss : List (List ℕ)) (ts new : List Tree) (n : ℕ) (s : List ℕ) (t : Tree) → slice_get ss n ≡ Some s → IsSpelled s t → new ≡ ts ++ t ∷ []
+    → AllZip IsSpelled (take n ss) ts → AllZip IsSpelled (take (n + 1) ss) new
 statements_more ss ts new n s t at own is so_far =
-    let more : AllZip Spells (take (suc n) ss) (ts ++ t ∷ []) = zip_push Spells ss ts n s t at so_far own in
-    subst (λ xs. AllZip Spells (take (n + 1) ss) xs) (sym is) (rw add-one more)
+    let more : AllZip IsSpelled (take (suc n) ss) (ts ++ t ∷ []) = zip_push IsSpelled ss ts n s t at so_far own in
+    subst (λ xs. AllZip IsSpelled (take (n + 1) ss) xs) (sym is) (rw add-one more)

@@ -21,7 +21,6 @@ use Rattle.yv_statement.specs.declared.refusal.Refusal.{Refusal}
 use Rattle.yv_statement.specs.declared.refusal.Stop.{Stop}
 use Rattle.yv_statement.specs.declared.refusal.Stop.TheVariants.{Fault}
 use Rattle.yv_source.specs.Legal.{is_legal, most_bytes, IsIllegalAt}
-use Rattle.yv_source.specs.File.{File}
 use Rattle.yv_source.specs.Answer.{refusal_in, IsBadFile}
 use Rattle.yv_source.proofs.Keyword.{false_true, and_first, and_second}
 
@@ -44,23 +43,34 @@ one_illegal text a b (f, c, r, e, h, i, p) (g, d, s, e', k, j, q) =
     p ∙ ap (λ l. length (encode_utf8_all l)) (first_same f g r s c d (sym e ∙ e') h k i j) ∙ sym q
 
 -- a file that isn't taken
-abbrev pub stopped : Stop → Result File Stop
-stopped s = Err s
+abbrev pub refused_as : (A : Type 0) → Refusal → Result A Refusal
+refused_as A r = Err r
 
-fault_same : (r s : Refusal) → stopped (Fault r) ≡ stopped (Fault s) → r ≡ s
-fault_same r s e = cc
+refusal_same : {A : Type 0} (r s : Refusal) → refused_as A r ≡ refused_as A s → r ≡ s
+refusal_same r s e = cc
+
+-- a refusal as the stop of a call that also needs memory
+abbrev pub stopped_as : (A : Type 0) → Refusal → Result A Stop
+stopped_as A r = Err (Fault r)
+
+pub refused_in_stop : {A B : Type 0} (bytes : List ℕ) (own : Refusal) → ((r : Refusal) → (refused_as A own ≡ refused_as A r) ↔ IsBadFile bytes r)
+    → (r : Refusal) → (stopped_as B own ≡ stopped_as B r) ↔ IsBadFile bytes r
+refused_in_stop {A} {B} bytes own h r = (
+  λ e. let same : own ≡ r = cc in (h r).0 (ap (refused_as A) same),
+  λ b. ap (stopped_as B) (refusal_same own r ((h r).1 b)),
+)
 
 -- a file is refused for its first such character, and for nothing else
-pub refuses_character : (bytes text : List ℕ) (at : ℕ) (stop : Stop) → length bytes ≤ most_bytes → text ≡ bytes → IsUtf8 bytes → IsIllegalAt text at → stop ≡ Fault (refusal_in bytes code.BadCharacter at) → (r : Refusal) → (stopped stop ≡ stopped (Fault r)) ↔ IsBadFile bytes r
-refuses_character bytes text at stop size same u illegal is r =
+pub refuses_character : {A : Type 0} (bytes text : List ℕ) (at : ℕ) (own : Refusal) → length bytes ≤ most_bytes → text ≡ bytes → IsUtf8 bytes → IsIllegalAt text at → own ≡ refusal_in bytes code.BadCharacter at → (r : Refusal) → (refused_as A own ≡ refused_as A r) ↔ IsBadFile bytes r
+refuses_character {A} bytes text at own size same u illegal is r =
     let P : List ℕ → Type 0 = λ l. IsIllegalAt l at in
     let here = subst P same illegal in (
-      λ e. inr (inr ((size, u), at, here, fault_same r (refusal_in bytes code.BadCharacter at) (sym e ∙ ap stopped is))),
+      λ e. inr (inr ((size, u), at, here, refusal_same r (refusal_in bytes code.BadCharacter at) (sym e ∙ ap (refused_as A) is))),
       λ b. elim b [
         | inl x ↦ absurd (let more : most_bytes < length bytes = x.0 in omega (arith, size, more))
         | inr y ↦ elim y [
           | inl x ↦ absurd (x.0.1 u)
-          | inr x ↦ ap stopped (is ∙ ap (λ n. Fault (refusal_in bytes code.BadCharacter n)) (one_illegal bytes at x.1 here x.2) ∙ ap (λ (q : Refusal). Fault q) (sym x.3))
+          | inr x ↦ ap (refused_as A) (is ∙ ap (λ n. refusal_in bytes code.BadCharacter n) (one_illegal bytes at x.1 here x.2) ∙ sym x.3)
         ]
       ],
     )

@@ -1,11 +1,10 @@
 -- The reader's loop, over plain values.
-use Rattle.std.proofs.Common.{◌≡◌, ℕ, zero, suc, get_or, ◌+◌, ◌*◌, ◌<◌, ◌≤◌, ◌==◌, ◌&&◌, Bool, true, false, cond, List, [], ◌∷◌, ◌++◌, length, take, drop, Option, Some, None, refl, sym, ◌∙◌, ap, subst, arith, append_assoc, length-append, length-drop, Result, Ok, Err}
+use Rattle.std.proofs.Common.{◌≡◌, ℕ, zero, suc, get_or, ◌+◌, ◌<◌, ◌≤◌, ◌==◌, ◌&&◌, Bool, true, false, cond, List, [], ◌∷◌, ◌++◌, length, take, drop, Option, Some, None, refl, sym, ◌∙◌, ap, subst, arith, append_assoc, length-append, length-drop, Result, Ok, Err}
 use Rattle.std.specs.Prelude.{IsUtf8, IsCharBoundary, IfSome, reverse}
 use Rattle.std.proofs.Math.Seq.{take-append_seam, drop-append_seam}
 use Rattle.std.proofs.lemmas.List.{take-append-drop, length-take, drop_more}
 use Rattle.std.specs.Prelude.{count_by}
 use Rattle.std.specs.List.{list_all}
-use Rattle.std.proofs.lemmas.List.Sums.{count_by-le-length}
 use Rattle.std.proofs.lemmas.Str.{IsCharBoundary-past_char, IsUtf8-drop}
 use Rattle.std.proofs.lemmas.Bool.{eqb-true}
 use lib.Utf8.{encode}
@@ -37,7 +36,7 @@ use Rattle.yv_source.specs.declared.scan.FoundPiece.{FoundPiece}
 use Rattle.yv_source.specs.declared.scan.FoundPiece.TheVariants as found
 use Rattle.yv_source.proofs.Keyword.{and_first, and_second}
 use Rattle.yv_source.proofs.Meaning.{MeansAhead, means}
-use Rattle.yv_source.proofs.Reading.{place_after, ReadsTo, spelling, spelled_by, HasMark, columns_most, count-cons}
+use Rattle.yv_source.proofs.Reading.{place_after, ReadsTo, spelling, spelled_by, HasMark, count-cons}
 use Rattle.yv_source.proofs.Turns.{Looks, looks}
 use Rattle.yv_source.proofs.Outcomes as outcomes
 

@@ -11,12 +11,20 @@ pub(crate) fn refuse(code: Code, bytes: &[u8], at: usize) -> Stop
     requires { at ≤ length bytes.now }
     ensures { result ≡ Stop.Fault (refusal_in bytes.now code at) }
 {
-    Stop::Fault(Refusal {
+    Stop::Fault(refusal(code, bytes, at))
+}
+
+/// The refusal of a text at an offset.
+pub(crate) fn refusal(code: Code, bytes: &[u8], at: usize) -> Refusal
+    requires { at ≤ length bytes.now }
+    ensures { result ≡ refusal_in bytes.now code at }
+{
+    Refusal {
         code,
         file: 0,
         offset: at as u64,
         line: line_at(bytes, at) as u64,
-    })
+    }
 }
 
 // The line of an offset, from 1.

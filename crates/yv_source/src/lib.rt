@@ -13,6 +13,7 @@ mod reader;
 mod scan;
 mod source;
 mod statements;
+mod text;
 mod texts;
 mod turn;
 

@@ -138,11 +138,10 @@ fn give_word<'a>(stack: &mut Vec<Statement<'a>>, text: &'a str) -> Result<Phase,
     ensures { Gives result (reverse stack.new.items)
         (give_word text.now (reverse stack.old.items)) }
 {
-    let Some(mut statement) = stack.pop() else {
+    let Some(statement) = stack.last_mut() else {
         return Err(Halt::Wrong);
     };
     statement.lend(text);
-    stack.push(statement)?;
     Ok(Phase::Argued)
 }
 
@@ -155,11 +154,10 @@ fn give_quoted<'a>(
     ensures { Gives result (reverse stack.new.items)
         (give_quoted (cow_str_bytes text.entry) (reverse stack.old.items)) }
 {
-    let Some(mut statement) = stack.pop() else {
+    let Some(statement) = stack.last_mut() else {
         return Err(Halt::Wrong);
     };
     statement.extend(alloc, text)?;
-    stack.push(statement)?;
     Ok(Phase::Said)
 }
 
@@ -179,11 +177,10 @@ fn finish<'a>(stack: &mut Vec<Statement<'a>>, done: Statement<'a>) -> Result<Pha
         (λ phase. finish done.entry (reverse stack.old.items)
         ≡ Next (reverse stack.new.items) phase) }
 {
-    let Some(mut parent) = stack.pop() else {
+    let Some(parent) = stack.last_mut() else {
         stack.push(done)?;
         return Ok(Phase::Done);
     };
     parent.adopt(done)?;
-    stack.push(parent)?;
     Ok(Phase::Between)
 }

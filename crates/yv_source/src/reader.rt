@@ -34,7 +34,14 @@ pub fn parse<'a>(alloc: Global, source: &'a Source) -> Result<Statement<'a>, Sto
     ensures order { IfOk result IsInOrder }
     ensures legal { IsLegalFile source.now.text }
 {
-    let text = source.text();
+    parse_text(alloc, source.text())
+}
+
+/// The one statement of a text, likewise.
+pub(crate) fn parse_text<'a>(alloc: Global, text: &'a str) -> Result<Statement<'a>, Stop>
+    requires { length text.now ≤ most_bytes }
+    ensures { Comes text.now result }
+{
     read(alloc, text, mark_len_of(text.as_bytes()))
 }
 

@@ -1,6 +1,6 @@
 // What a text begins with.
 
-ghost use Rattle.std.specs.Prelude.{◌≡◌, ◌<◌, ◌≤◌, ◌^◌, length, drop, false};
+ghost use Rattle.std.specs.Prelude.{◌≡◌, ◌<◌, ◌≤◌, ◌^◌, ◌∷◌, ℕ, List, length, drop, true, false};
 ghost use Rattle.yv_source.specs.{Characters.{single_quote, asterisk, slash}, Pieces.{begins, begins_two, until, ends_word, up_to_quote, past_gap}, Inner.Scan.{ahead_in, before_of, ahead_of, is_unquoted, unless_unquoted, closed_piece, closed_by_two, word_or_plus, from, from_quote, begins_mark, ends_comment, pair_len}, Inner.Turn.{length_of, past_found}};
 ghost use Rattle.yv_source.specs.Pieces as Piece;
 
@@ -119,14 +119,16 @@ fn first_piece(before: Before, bytes: &[u8]) -> Ahead
     }
 }
 
-// How many bytes there are before the first that equals this one. Often it's the very first, as in
-// a row of backslash pairs.
+// How many bytes there are before the first that equals this one. Often it's among the very first,
+// as in a row of short texts, and these are looked at without a call.
 pub(crate) fn first_byte(byte: u8, bytes: &[u8]) -> usize
     ensures value { result ≡ length (until (begins byte) bytes.now) }
     ensures within { result ≤ length bytes.now }
 {
     match bytes {
         [first, ..] if *first == byte => 0,
+        [_, second, ..] if *second == byte => 1,
+        [_, _, third, ..] if *third == byte => 2,
         _ => byte_offset(byte, bytes),
     }
 }
@@ -164,21 +166,33 @@ fn word_len(bytes: &[u8]) -> usize
     ensures { result ≡ length (until ends_word bytes.now) }
 {
     for i in 0..bytes.len() {
-        if ends_word(&bytes[i..]) {
+        if is_word_end(bytes, i) {
             return i;
         }
     }
     bytes.len()
 }
 
+// Whether an unquoted text ends at an offset. Most bytes end none, so that what is behind them
+// isn't looked at.
+fn is_word_end(bytes: &[u8], at: usize) -> bool
+    requires { at < length bytes.now }
+    ensures { result ≡ ends_word (drop at bytes.now) }
+{
+    !goes_on(bytes[at]) && ends_word(&bytes[at..])
+}
+
+// Whether a byte ends no unquoted text, whatever is behind it. The ranges leave out every mark.
+fn goes_on(byte: u8) -> bool
+    ensures { (rest : List ℕ) → result ≡ true → ends_word (byte ∷ rest) ≡ false }
+{
+    matches!(byte, b'<'..=b'z' | b'+'..=b'.' | b'0'..=b':')
+}
+
 fn ends_word(bytes: &[u8]) -> bool
     ensures { result ≡ ends_word bytes.now }
 {
     match bytes {
-        [
-            b'a'..=b'z' | b'A'..=b'Z' | b'0'..=b'9' | b'-' | b'.' | b':' | b'_',
-            ..
-        ] => false,
         [] => true,
         [
             b' ' | b'\t' | b'\r' | b'\n' | b'"' | b'\'' | b';' | b'{' | b'}',
@@ -216,13 +230,16 @@ fn pair_len(bytes: &[u8]) -> usize
     }
 }
 
-// How many bytes there are before the first double quote or backslash.
+// How many bytes there are before the first double quote or backslash. Often it's among the very
+// first.
 fn first_mark(bytes: &[u8]) -> usize
     ensures value { result ≡ length (until begins_mark bytes.now) }
     ensures within { result ≤ length bytes.now }
 {
     match bytes {
         [b'"' | b'\\', ..] => 0,
+        [_, b'"' | b'\\', ..] => 1,
+        [_, _, b'"' | b'\\', ..] => 2,
         _ => mark_offset(bytes),
     }
 }

@@ -1,13 +1,14 @@
 // A file's text.
 
-ghost use Rattle.std.specs.{Prelude.{◌≡◌, ◌≤◌, ◌++◌, [], length, take, drop, encode_utf8, IfSome, IfNone, IsTrue}, Char.{len_utf8}, List.{list_all}, Str.{chars}};
-ghost use Rattle.yv_source.specs.{Legal.{most_bytes, is_legal, IsIllegalAt}, Inner.Plain.{is_common}};
+ghost use Rattle.std.specs.{Prelude.{◌≡◌, ◌≤◌, ◌↔◌, ◌++◌, [], length, take, drop, encode_utf8, OnOk, IfOk, IfSome, IfNone, IsTrue, Err}, Char.{len_utf8}, List.{list_all}, Str.{chars}};
+ghost use Rattle.yv_statement.specs.declared.refusal.Refusal.{Refusal as TheRefusal};
+ghost use Rattle.yv_source.specs.{Answer.{IsBadFile}, Legal.{most_bytes, is_legal, IsIllegalAt, IsLegalFile}, Inner.Plain.{is_common}};
 
-use crate::fault::refuse;
+use crate::fault::refusal;
 use std::alloc::Global;
 use std::marker::Model;
 use std::str;
-use yv_statement::{Code, Stop, is_legal};
+use yv_statement::{Code, Refusal, Stop, is_legal};
 
 /// How many bytes a file may have.
 pub const MOST_BYTES: usize = 4_194_304;
@@ -56,16 +57,10 @@ impl Source {
             → (result ≡ Ok (record { name = name.now; text = bytes.now }))
             ⊎ (result ≡ Err Stop.NoMemory) }
     {
-        if bytes.len() > MOST_BYTES {
-            return Err(refuse(Code::TooLarge, bytes, 0));
-        }
-        let text = match str::from_utf8(bytes) {
+        let text = match legal_text(bytes) {
             Ok(text) => text,
-            Err(fault) => return Err(refuse(Code::NotUtf8, bytes, fault.valid_up_to())),
+            Err(refusal) => return Err(Stop::Fault(refusal)),
         };
-        if let Some(at) = first_illegal(text) {
-            return Err(refuse(Code::BadCharacter, bytes, at));
-        }
         let name = String::from_str(alloc, name)?;
         let text = String::from_str(alloc, text)?;
         Ok(Source { name, text })
@@ -85,6 +80,25 @@ impl Source {
     {
         self.text.as_str()
     }
+}
+
+/// The text that a file's bytes are, or why they are none.
+pub(crate) fn legal_text(bytes: &[u8]) -> Result<&str, Refusal>
+    ensures text { IfOk result (λ text. text.now ≡ bytes.now) }
+    ensures legal { OnOk result (IsLegalFile bytes.now) }
+    ensures refuses { (r : TheRefusal) → (result ≡ Err r) ↔ IsBadFile bytes.now r }
+{
+    if bytes.len() > MOST_BYTES {
+        return Err(refusal(Code::TooLarge, bytes, 0));
+    }
+    let text = match str::from_utf8(bytes) {
+        Ok(text) => text,
+        Err(fault) => return Err(refusal(Code::NotUtf8, bytes, fault.valid_up_to())),
+    };
+    if let Some(at) = first_illegal(text) {
+        return Err(refusal(Code::BadCharacter, bytes, at));
+    }
+    Ok(text)
 }
 
 // The offset of the first character that isn't legal. Only characters that aren't common are

@@ -1,10 +1,10 @@
 //! The statements of texts.
 ghost use Rattle.std.specs.{Prelude.{◌≡◌, ◌≢◌, ◌<◌, ◌≤◌, ◌⊎◌, IfOk, OnErr, Err}, List.{AllZip}};
 ghost use Rattle.yv_statement.specs.{declared.refusal.Refusal.{Refusal as TheRefusal}, declared.refusal.Stop.TheVariants.{Fault, NoMemory, PatternBuild}};
-ghost use Rattle.yv_source.specs.{FileStatements.{in_file}, Texts.{Spells, SpellsNone}};
+ghost use Rattle.yv_source.specs.{Answer.{IsSpelled}, FileStatements.{in_file}, Texts.{SpellsNone}};
 
-use crate::reader::parse;
-use crate::source::Source;
+use crate::reader::parse_text;
+use crate::text::Text;
 use std::alloc::{AllocError, Global};
 use yv_statement::{Refusal, Statement, Stop};
 
@@ -25,17 +25,14 @@ pub(crate) fn in_file(number: usize, refusal: Refusal) -> Result<Refusal, AllocE
 }
 
 /// The statements that texts spell, or the refusal of the first that spells none.
-pub(crate) fn parse_all<'a>(
-    alloc: Global,
-    sources: &'a [Source],
-) -> Result<Vec<Statement<'a>>, Stop>
-    ensures spells { IfOk result (λ statements. AllZip Spells sources.now statements.items) }
-    ensures refuses { (r : TheRefusal) → result ≡ Err (Fault r) → SpellsNone sources.now r }
+pub(crate) fn parse_all<'a>(alloc: Global, texts: &[Text<'a>]) -> Result<Vec<Statement<'a>>, Stop>
+    ensures spells { IfOk result (λ statements. AllZip IsSpelled texts.now statements.items) }
+    ensures refuses { (r : TheRefusal) → result ≡ Err (Fault r) → SpellsNone texts.now r }
     ensures never_built { result ≢ Err PatternBuild }
 {
     let mut statements = Vec::new(alloc);
-    for (number, source) in sources.iter().enumerate() {
-        match parse(alloc, source) {
+    for (number, text) in texts.iter().enumerate() {
+        match parse_text(alloc, text.as_str()) {
             Ok(statement) => statements.push(statement)?,
             Err(stop) => return Err(stop_in_file(number, stop)),
         }

@@ -4,50 +4,50 @@ ghost use Rattle.yv_statement.specs.{declared.refusal.Refusal.{Refusal as TheRef
 ghost use Rattle.yv_streams.specs.Files.{File, file_of};
 ghost use Rattle.yv_source.specs.{FileStatements.{IsRead, IsUnreadAt}, Texts.{AreTexts}};
 
-use crate::source::Source;
+use crate::source::legal_text;
 use crate::statements::{in_file, parse_all};
+use crate::text::Text;
 use std::alloc::{AllocError, Global};
 use yv_statement::{Refusal, Statement, Stop};
 use yv_streams::Input;
 
-/// The texts of files, up to the first whose bytes are not text. Statements borrow from them.
+/// The texts of files, up to the first whose bytes are not text. They lie in the files' bytes, and
+/// statements borrow from them there.
 #[derive(Drop)]
-pub struct Texts {
-    pub(crate) sources: Vec<Source>,
+pub struct Texts<'a> {
+    pub(crate) texts: Vec<Text<'a>>,
     /// Why the next file's bytes are no text, where there is such a file.
     pub(crate) bad: Option<Refusal>,
 }
 
-impl Texts {
+impl<'a> Texts<'a> {
     /// The texts of files that were read, up to the first whose bytes are not text. Want of memory
     /// where that isn't among the first 2 to the 32.
-    pub fn read(alloc: Global, inputs: &[Input]) -> Result<Texts, AllocError>
+    pub fn read(alloc: Global, inputs: &'a [Input]) -> Result<Texts<'a>, AllocError>
         ensures { IfOk result (AreTexts (map file_of inputs.now)) }
     {
-        let mut sources = Vec::new(alloc);
+        let mut texts = Vec::new(alloc);
         for (number, input) in inputs.iter().enumerate() {
-            match Source::new(alloc, input.name.as_str(), input.bytes.as_slice()) {
-                Ok(source) => sources.push(source)?,
-                Err(Stop::Fault(refusal)) => {
+            match legal_text(input.bytes.as_slice()) {
+                Ok(text) => texts.push(Text::new(text))?,
+                Err(refusal) => {
                     let bad = Some(in_file(number, refusal)?);
-                    return Ok(Texts { sources, bad });
+                    return Ok(Texts { texts, bad });
                 }
-                Err(Stop::NoMemory) => return Err(AllocError),
-                Err(Stop::PatternBuild) => unreachable!(),
             }
         }
-        Ok(Texts { sources, bad: None })
+        Ok(Texts { texts, bad: None })
     }
 
     /// The statement that each file spells, or the refusal of the first file that spells none.
-    pub fn statements(&self, alloc: Global) -> Result<Vec<Statement<'_>>, Stop>
+    pub fn statements(&self, alloc: Global) -> Result<Vec<Statement<'a>>, Stop>
         ensures reads { (files : List File) → AreTexts files self.now
             → IfOk result (λ statements. AllZip IsRead files statements.items) }
         ensures refuses { (files : List File) → AreTexts files self.now → (r : TheRefusal) → result
             ≡ Err (Fault r) → IsUnreadAt files r }
         ensures never_built { result ≢ Err PatternBuild }
     {
-        match parse_all(alloc, &self.sources) {
+        match parse_all(alloc, &self.texts) {
             Ok(statements) => match self.bad {
                 Some(refusal) => Err(Stop::Fault(refusal)),
                 None => Ok(statements),

@@ -1,7 +1,5 @@
-use Rattle.std.proofs.Common.{◌+◌, arith, ap, length, ◌∙◌, sym}
+use Rattle.std.proofs.Common.{◌+◌, arith, ap, length}
 use Rattle.std.specs.Prelude.{reverse}
-use Rattle.std.proofs.lemmas.List.{length-take}
-use Rattle.yv_source.specs.Place.{mark_len}
 use Rattle.yv_source.proofs.Counting.{counted_start, counted_on}
 use Rattle.yv_source.proofs.Loop as loop
 use Rattle.yv_source.proofs.reader.read.Goals as goal

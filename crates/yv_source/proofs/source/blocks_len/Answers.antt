@@ -1,4 +1,4 @@
-use Rattle.std.proofs.Common.{◌+◌, ◌-◌, ◌≡◌, List, ℕ, Bool, true, ◌&&◌, take, drop, ◌++◌, length, arith, ap, ◌∙◌, sym, refl}
+use Rattle.std.proofs.Common.{◌+◌, ◌-◌, ◌≡◌, true, ◌&&◌, take, drop, arith, ap, ◌∙◌, sym}
 use Rattle.std.specs.List.{list_all}
 use Rattle.std.proofs.Math.Seq.{take-add}
 use Rattle.std.proofs.lemmas.List.Folds.{list_all-append}

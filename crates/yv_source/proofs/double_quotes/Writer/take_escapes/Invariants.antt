@@ -1,4 +1,4 @@
-use Rattle.std.proofs.Common.{◌≡◌, ◌≤◌, ◌-◌, ◌+◌, true, take, length}
+use Rattle.std.proofs.Common.{◌≡◌, ◌≤◌, ◌-◌, true, take, length}
 use Rattle.yv_source.specs.Inner.Writer.{TakesEach, is_at_rest}
 use Rattle.yv_source.proofs.double_quotes.Writer.take_escapes.Given as goal
 

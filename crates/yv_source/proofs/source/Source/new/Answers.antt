@@ -1,11 +1,11 @@
-use Rattle.std.proofs.Common.{arith, subst, Option, ℕ}
-use Rattle.std.specs.Prelude.{IfSome}
-use Rattle.yv_source.specs.Legal.{IsIllegalAt}
-use Rattle.yv_source.proofs.Legality.{refuses_character}
+use Rattle.std.proofs.Common.{refl}
+use Rattle.yv_source.proofs.Legality.{refused_in_stop}
+use Rattle.yv_source.proofs.Once.{bad_or_legal}
 use Rattle.yv_source.proofs.source.Source.new.Goals as goal
 
-pub returns-in-Some-clause-refuses : goal.returns-in-Some-clause-refuses
-returns-in-Some-clause-refuses c =
-    let P : Option ℕ → Type 0 = λ o. IfSome o (IsIllegalAt c.in-Ok.text.now) in
-    refuses_character c.args.bytes.now c.in-Ok.text.now c.in-Some.at c.refuse-in-Some.result
-    (omega arith) c.in-Ok.ensures.cases.0 c.in-Ok.ensures.cases.1 (subst P c.in-Some.is c.first_illegal.ensures.finds) c.refuse-in-Some.ensures
+pub returns-in-Err-clause-refuses : goal.returns-in-Err-clause-refuses
+returns-in-Err-clause-refuses c = refused_in_stop c.args.bytes.now c.in-Err.refusal c.in-Err.ensures.refuses
+
+pub returns-in-Err-clause-only_legal : goal.returns-in-Err-clause-only_legal
+returns-in-Err-clause-only_legal c = λ legal.
+    absurd (bad_or_legal c.args.bytes.now c.in-Err.refusal ((c.in-Err.ensures.refuses c.in-Err.refusal).0 refl) legal)

@@ -6,4 +6,4 @@ use Rattle.yv_source.proofs.texts.Texts.read.Given as goal
 
 -- the texts so far
 abbrev pub invariant-loop-number : goal.invariant-loop-number
-invariant-loop-number l = (length l.sources.items ≡ l.number) × AllZip IsText (take l.number (map file_of l.inputs)) l.sources.items
+invariant-loop-number l = (length l.texts.items ≡ l.number) × AllZip IsText (take l.number (map file_of l.inputs)) l.texts.items
