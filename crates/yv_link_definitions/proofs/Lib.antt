@@ -11,3 +11,4 @@ pub mod Told
 pub mod BuiltIns
 pub mod Defining
 pub mod Rising
+pub mod KindsDefined
