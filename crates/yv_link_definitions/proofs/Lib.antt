@@ -12,3 +12,4 @@ pub mod BuiltIns
 pub mod Defining
 pub mod Rising
 pub mod KindsDefined
+pub mod Harmless
