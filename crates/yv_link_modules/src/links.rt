@@ -38,6 +38,9 @@ fn is_wrong(entry: &Entry<'_, '_>, own: &str, file: &File<'_, '_>) -> bool
 pub(crate) fn is_wrong_link<'a>(rows: &Rows<'a, '_>, entry: &Entry<'a, '_>) -> bool
     ensures { result ≡ is_wrong_link (files_in rows.now) (row entry.now) }
 {
+    if !is_link(entry) {
+        return false;
+    }
     let Some(number) = rows.file_named(name_of(entry.statement)) else {
         return false;
     };
