@@ -11,3 +11,5 @@ pub mod Told
 pub mod BuiltIns
 pub mod Defining
 pub mod Rising
+pub mod KindsDefined
+pub mod Harmless

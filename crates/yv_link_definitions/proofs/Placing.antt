@@ -1,8 +1,10 @@
 -- The first statement of a keyword at each place.
-use Rattle.std.proofs.Common.{◌≡◌, ℕ, ◌+◌, ◌==◌, ◌&&◌, Bool, true, false, cond, List, [], ◌∷◌, ◌++◌, take, Option, None, Some, refl, sym, ◌∙◌, ap}
+use Rattle.std.proofs.Common.{◌≡◌, ℕ, ◌+◌, ◌==◌, ◌&&◌, Bool, true, false, cond, List, [], ◌∷◌, ◌++◌, take, Option, None, Some, refl, IfSome, sym, ◌∙◌, ap}
 use Rattle.std.specs.List.{find, slice_get}
 use Rattle.std.specs.Option.{option_map, option_or}
 use Rattle.std.proofs.lemmas.List.Folds.{find-append}
+use Rattle.yv_statement.specs.Keywords.{written}
+use Rattle.yv_statement.specs.declared.keyword.Keyword.{Keyword}
 use Rattle.yv_link_scopes.specs.Files.{has_word}
 use Rattle.yv_link_scopes.specs.Rows.{Row}
 use Rattle.yv_link_scopes.specs.InnerPlaces.{first_some}
@@ -41,3 +43,11 @@ places_same rows word i r old at is before f o =
     ∙ first_none (number_at (take i rows) word f o)
     ∙ ap (λ t. first_some (number_at (take i rows) word f o) (cond (t && ((r.file == f) && (r.head.offset == o))) (Some i) None)) (sym is)
     ∙ sym (first_more (is_at word f o) i rows r at)
+
+-- for the text of a keyword, where it has one
+pub with_word : (k : Keyword) {P Q : List ℕ → Type 0} → IfSome (written k) P → ((word : List ℕ) → P word → Q word) → IfSome (written k) Q
+with_word k {P} {Q} h f = by (written k) h
+  where
+    by : (o : Option (List ℕ)) → IfSome o P → IfSome o Q
+    by None u = tt
+    by (Some word) p = f word p

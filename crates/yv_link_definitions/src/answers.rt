@@ -9,6 +9,7 @@ use crate::references::{DefRef, add_definition, add_place};
 use std::alloc::{AllocError, Global};
 use std::collections::BTreeMap;
 use yv_link_scopes::Entry;
+use yv_statement::Keyword;
 
 /// What each statement means, and where definitions, types and uses are. All are read in one pass,
 /// since statements are far apart in memory.
@@ -49,8 +50,8 @@ impl Answers {
         let meaning = draft.meaning(number, entry);
         self.meanings.push(narrow(meaning))?;
         add_definition(&mut self.definitions, number, entry)?;
-        add_place(&mut self.types, "type", number, entry)?;
-        add_place(&mut self.uses, "uses", number, entry)?;
+        add_place(&mut self.types, Keyword::Type, number, entry)?;
+        add_place(&mut self.uses, Keyword::Uses, number, entry)?;
         Ok(())
     }
 

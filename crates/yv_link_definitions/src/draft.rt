@@ -5,6 +5,7 @@ ghost use Rattle.yv_link_definitions.specs.Duplicates.{kind_defined, is_of};
 
 use std::alloc::{AllocError, Global};
 use yv_link_scopes::{Entry, NameKind, NamePlaces, Rows, definition_places};
+use yv_statement::Keyword;
 
 /// The statements, and where a name of each kind occurs first in each block.
 #[derive(Drop)]
@@ -60,14 +61,14 @@ impl<'r, 'a, 'b> Draft<'r, 'a, 'b> {
 pub(crate) fn is_of(kind: NameKind, entry: &Entry<'_, '_>) -> bool
     ensures { result ≡ is_of kind (row entry.now) }
 {
-    let keyword = entry.statement.keyword();
+    let statement = entry.statement;
     match kind {
-        NameKind::Prefix => keyword == "prefix",
-        NameKind::Include => keyword == "include",
-        NameKind::Typedef => keyword == "typedef",
-        NameKind::Grouping => keyword == "grouping",
-        NameKind::Feature => keyword == "feature",
-        NameKind::Identity => keyword == "identity",
-        NameKind::Extension => keyword == "extension",
+        NameKind::Prefix => statement.is(Keyword::Prefix),
+        NameKind::Include => statement.is(Keyword::Include),
+        NameKind::Typedef => statement.is(Keyword::Typedef),
+        NameKind::Grouping => statement.is(Keyword::Grouping),
+        NameKind::Feature => statement.is(Keyword::Feature),
+        NameKind::Identity => statement.is(Keyword::Identity),
+        NameKind::Extension => statement.is(Keyword::Extension),
     }
 }

@@ -4,25 +4,21 @@ ghost use Rattle.yv_link_scopes.specs.{Rows.{row}, Views.{rows_in}, declared.kin
 ghost use Rattle.yv_link_definitions.specs.{Duplicates.{IsTaken, kind_defined, is_scoped}, InnerDuplicates.{HasAround, HasBefore}};
 
 use crate::built_in::is_built_in;
-use crate::draft::{Draft, is_of};
+use crate::draft::Draft;
 use yv_link_scopes::{Entry, NameKind, name_of};
+use yv_statement::Keyword;
 
 // What a statement defines.
 fn kind_defined(entry: &Entry<'_, '_>) -> Option<NameKind>
     ensures { result ≡ kind_defined (row entry.now) }
 {
-    if is_of(NameKind::Feature, entry) {
-        Some(NameKind::Feature)
-    } else if is_of(NameKind::Identity, entry) {
-        Some(NameKind::Identity)
-    } else if is_of(NameKind::Extension, entry) {
-        Some(NameKind::Extension)
-    } else if is_of(NameKind::Typedef, entry) {
-        Some(NameKind::Typedef)
-    } else if is_of(NameKind::Grouping, entry) {
-        Some(NameKind::Grouping)
-    } else {
-        None
+    match entry.statement.kind() {
+        Keyword::Feature => Some(NameKind::Feature),
+        Keyword::Identity => Some(NameKind::Identity),
+        Keyword::Extension => Some(NameKind::Extension),
+        Keyword::Typedef => Some(NameKind::Typedef),
+        Keyword::Grouping => Some(NameKind::Grouping),
+        _ => None,
     }
 }
 

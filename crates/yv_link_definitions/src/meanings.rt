@@ -6,19 +6,20 @@ ghost use Rattle.yv_link_definitions.specs.{Refers.{IsUnknown, RefersTo, is_type
 use crate::built_in::is_built_in;
 use crate::draft::Draft;
 use yv_link_scopes::{Entry, NameKind, name_of};
+use yv_statement::Keyword;
 
 /// Whether a statement is a type.
 pub(crate) fn is_type(entry: &Entry<'_, '_>) -> bool
     ensures { result ≡ is_type (row entry.now) }
 {
-    entry.statement.keyword() == "type"
+    entry.statement.is(Keyword::Type)
 }
 
 // Whether a statement is a uses.
 fn is_uses(entry: &Entry<'_, '_>) -> bool
     ensures { result ≡ is_uses (row entry.now) }
 {
-    entry.statement.keyword() == "uses"
+    entry.statement.is(Keyword::Uses)
 }
 
 // Whether a statement names a definition of the kind.

@@ -1,6 +1,7 @@
 //! References to definitions, and where statements are.
-ghost use Rattle.std.specs.Prelude.{◌≡◌, ◌+◌, ◌<◌, ℕ, List, take, Some, OnOk, slice_get};
-ghost use Rattle.yv_link_scopes.specs.{Rows.{Row, row}, Files.{has_word}};
+ghost use Rattle.std.specs.Prelude.{◌≡◌, ◌+◌, ◌<◌, ℕ, List, take, Some, OnOk, IfSome, slice_get};
+ghost use Rattle.yv_statement.specs.Keywords.{written};
+ghost use Rattle.yv_link_scopes.specs.{Rows.{Row, row}};
 ghost use Rattle.yv_link_definitions.specs.{References.{number_at, ref_of}, Places.{placed_in}, InnerPlaces.{ReferToFirst, is_definition}};
 
 use crate::draft::is_of;
@@ -9,6 +10,7 @@ use crate::place_list::PlaceList;
 use std::alloc::AllocError;
 use std::collections::BTreeMap;
 use yv_link_scopes::{Entry, NameKind};
+use yv_statement::Keyword;
 
 /// A typedef or a grouping, by its statement's file and offset.
 #[derive(Clone, Copy, Debug, PartialEq, Eq)]
@@ -40,27 +42,21 @@ fn place_of(number: usize, entry: &Entry<'_, '_>) -> Place
     }
 }
 
-// Whether a statement has this keyword.
-fn has_word(entry: &Entry<'_, '_>, word: &str) -> bool
-    ensures { result ≡ has_word word.now (row entry.now).head }
-{
-    entry.statement.keyword() == word
-}
-
 /// Keeps the place of the next statement, where it has the keyword.
 pub(crate) fn add_place(
     list: &mut PlaceList,
-    word: &str,
+    keyword: Keyword,
     number: usize,
     entry: &Entry<'_, '_>,
 ) -> Result<(), AllocError>
     requires { number < 4294967296 }
-    ensures { (rows : List Row) → slice_get rows number ≡ Some (row entry.now)
-        → ((f o : ℕ) → placed_in list.old f o ≡ number_at (take number rows) word.now f o)
+    ensures { IfSome (written keyword) (λ word. (rows : List Row)
+        → slice_get rows number ≡ Some (row entry.now)
+        → ((f o : ℕ) → placed_in list.old f o ≡ number_at (take number rows) word f o)
         → OnOk result ((f o : ℕ)
-        → placed_in list.new f o ≡ number_at (take (number + 1) rows) word.now f o) }
+        → placed_in list.new f o ≡ number_at (take (number + 1) rows) word f o)) }
 {
-    if has_word(entry, word) {
+    if entry.statement.is(keyword) {
         list.add(place_of(number, entry))?;
     }
     Ok(())

@@ -2,11 +2,11 @@
 ghost use Rattle.std.specs.Prelude.{◌≡◌, ◌↔◌, ◌||◌, IsTrue, false, if◌then◌else◌, Some, None, slice_get, slice_index_or};
 ghost use Rattle.yv_statement.specs.Order.{IsLeast, refusal_at};
 ghost use Rattle.yv_link_scopes.specs.{Rows.{row}, Views.{files_in, rows_in}};
-ghost use Rattle.yv_link_definitions.specs.{Refusals.{BadIn, BadRow, IsOnCycle}, InnerGraph.{AreDefinitionCycles}, InnerAnswers.{AreMeant}};
+ghost use Rattle.yv_link_definitions.specs.{Duplicates.{kind_defined}, Refers.{is_type, is_uses}, Refusals.{BadIn, BadRow, IsOnCycle}, InnerGraph.{AreDefinitionCycles}, InnerAnswers.{AreMeant}};
 
 use crate::draft::{Draft, is_of};
 use yv_link_scopes::{Entry, NameKind};
-use yv_statement::{Code, Refusal, lesser, refusal_if};
+use yv_statement::{Code, Keyword, Refusal, lesser, refusal_if};
 
 // Whether a number is marked.
 fn is_marked(marks: &[bool], number: usize) -> bool
@@ -20,6 +20,20 @@ fn any(first: bool, second: bool, third: bool, fourth: bool, fifth: bool) -> boo
     ensures { result ≡ (first || (second || (third || (fourth || fifth)))) }
 {
     first || second || third || fourth || fifth
+}
+
+// Whether a statement may define something, or mean a definition. Most statements don't.
+fn has_definition(entry: &Entry<'_, '_>) -> bool
+    ensures defines { result ≡ false → kind_defined (row entry.now) ≡ None }
+    ensures types { result ≡ false → is_type (row entry.now) ≡ false }
+    ensures uses { result ≡ false → is_uses (row entry.now) ≡ false }
+{
+    match entry.statement.kind() {
+        Keyword::Type | Keyword::Uses => true,
+        Keyword::Feature | Keyword::Identity | Keyword::Extension => true,
+        Keyword::Typedef | Keyword::Grouping => true,
+        _ => false,
+    }
 }
 
 // The refusal of a statement, where it is bad.
@@ -48,8 +62,8 @@ impl<'a, 'b> Draft<'_, 'a, 'b> {
         is_marked(cycles, number) && is_of(kind, entry)
     }
 
-    // What is wrong with a statement.
-    fn row_refusal(
+    // What is wrong with a statement that defines or means something.
+    fn name_refusal(
         &self,
         meanings: &[Option<u32>],
         cycles: &[bool],
@@ -87,6 +101,29 @@ impl<'a, 'b> Draft<'_, 'a, 'b> {
         let cycles = lesser(typedef_cycle, groupings);
         let types = lesser(typedef, cycles);
         lesser(taken, types)
+    }
+
+    // What is wrong with a statement.
+    fn row_refusal(
+        &self,
+        meanings: &[Option<u32>],
+        cycles: &[bool],
+        number: usize,
+        entry: &Entry<'a, 'b>,
+    ) -> Option<Refusal>
+        requires at { slice_get (rows_in self.now.rows.now) number ≡ Some (row entry.now) }
+        requires meant { let rows = self.now.rows.now
+            in AreMeant (files_in rows) (rows_in rows) meanings.now }
+        requires cycles { let rows = self.now.rows.now
+            in AreDefinitionCycles (files_in rows) (rows_in rows) cycles.now }
+        ensures { let rows = self.now.rows.now
+            in IsLeast (BadRow (files_in rows) (rows_in rows) number (row entry.now)) result }
+    {
+        if has_definition(entry) {
+            self.name_refusal(meanings, cycles, number, entry)
+        } else {
+            None
+        }
     }
 
     /// The least that is wrong, the meanings being known, and those definitions being marked that

@@ -7,6 +7,7 @@ use crate::place_list::PlaceList;
 use crate::references::add_place;
 use std::alloc::{AllocError, Global};
 use yv_link_scopes::Rows;
+use yv_statement::Keyword;
 
 /// The places of the type statements, in time linear in statements.
 pub fn places_of_types(alloc: Global, rows: &Rows<'_, '_>) -> Result<PlaceList, AllocError>
@@ -18,7 +19,7 @@ pub fn places_of_types(alloc: Global, rows: &Rows<'_, '_>) -> Result<PlaceList, 
     let _few = rows.len();
     let entries = rows.entries();
     for (number, entry) in entries.iter().enumerate() {
-        add_place(&mut places, "type", number, entry)?;
+        add_place(&mut places, Keyword::Type, number, entry)?;
     }
     Ok(places)
 }

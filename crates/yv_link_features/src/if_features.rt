@@ -6,12 +6,13 @@ ghost use Rattle.yv_link_features.specs.{InnerGraph.{AreLists, meant_from, numbe
 use crate::names::FeatureNames;
 use std::alloc::{AllocError, Global};
 use yv_link_scopes::{Entry, Rows, name_of};
+use yv_statement::Keyword;
 
 /// Whether a statement is a condition.
 pub(crate) fn is_if_feature(entry: &Entry<'_, '_>) -> bool
     ensures { result ≡ is_if_feature (row entry.now) }
 {
-    entry.statement.keyword() == "if-feature"
+    entry.statement.is(Keyword::IfFeature)
 }
 
 // As many empty lists.

@@ -7,13 +7,13 @@ ghost use Rattle.yv_link_features.specs.{Features.{from_marks}, InnerGraph.{AllT
 use crate::names::{FeatureNames, both};
 use std::alloc::{AllocError, Global};
 use yv_link_scopes::{Entry, name_of};
-use yv_statement::Selection;
+use yv_statement::{Keyword, Selection};
 
 // Whether a statement is a feature.
 fn is_feature(entry: &Entry<'_, '_>) -> bool
     ensures { result ≡ is_feature (row entry.now) }
 {
-    entry.statement.keyword() == "feature"
+    entry.statement.is(Keyword::Feature)
 }
 
 impl<'a, 'b> FeatureNames<'_, 'a, 'b> {

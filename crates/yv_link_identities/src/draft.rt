@@ -6,6 +6,7 @@ ghost use Rattle.yv_link_identities.specs.{Names.{is_base, identity_meant}, Inne
 use crate::numbers::Numbers;
 use std::alloc::{AllocError, Global};
 use yv_link_scopes::{Entry, NameKind, NamePlaces, Rows, first_places, local, name_of};
+use yv_statement::Keyword;
 
 /// The statements, the names of the identities, and their numbers.
 #[derive(Drop)]
@@ -50,5 +51,5 @@ impl<'r, 'a, 'b> Draft<'r, 'a, 'b> {
 pub(crate) fn is_base(entry: &Entry<'_, '_>) -> bool
     ensures { result ≡ is_base (row entry.now) }
 {
-    entry.statement.keyword() == "base"
+    entry.statement.is(Keyword::Base)
 }

@@ -6,6 +6,7 @@ ghost use Rattle.yv_link_identities.specs.{Names.{is_identity}, InnerIdentityNum
 use crate::references::{IdentityRef, reference};
 use std::alloc::{AllocError, Global};
 use yv_link_scopes::{Entry, Rows};
+use yv_statement::Keyword;
 
 /// The identities, and for each statement its number among them.
 #[derive(Drop)]
@@ -18,7 +19,7 @@ pub(crate) struct Numbers {
 fn is_identity(entry: &Entry<'_, '_>) -> bool
     ensures { result ≡ is_identity (row entry.now) }
 {
-    entry.statement.keyword() == "identity"
+    entry.statement.is(Keyword::Identity)
 }
 
 impl Numbers {

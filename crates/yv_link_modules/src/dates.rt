@@ -7,6 +7,7 @@ use std::alloc::{AllocError, Global};
 use std::cmp::Ordering;
 use yv_link_scopes::laws::roots_come_first;
 use yv_link_scopes::{Entry, Rows, name_of};
+use yv_statement::Keyword;
 
 // The greater of two dates.
 fn later<'a>(first: Option<&'a str>, second: &'a str) -> &'a str
@@ -37,7 +38,7 @@ fn keep_date<'a>(dates: &mut Vec<Option<&'a str>>, file: usize, date: &'a str)
 fn is_revision(entry: &Entry<'_, '_>) -> bool
     ensures { result ≡ has_word (codes "revision") (row entry.now).head }
 {
-    entry.statement.keyword() == "revision"
+    entry.statement.is(Keyword::Revision)
 }
 
 /// The greatest date of each file's revision statements.
@@ -79,7 +80,7 @@ fn dated_file(rows: &Rows<'_, '_>, number: usize) -> Option<usize>
 fn takes_date(entry: &Entry<'_, '_>) -> bool
     ensures { result ≡ takes_date (row entry.now).head }
 {
-    matches!(entry.statement.keyword(), "import" | "include")
+    entry.statement.is(Keyword::Import) || entry.statement.is(Keyword::Include)
 }
 
 // Whether this date is kept for a file.
@@ -102,7 +103,7 @@ pub(crate) fn is_other_date(
     ensures { result
         ≡ is_other_date (files_in rows.now) (rows_in rows.now) dates.now (row entry.now) }
 {
-    if entry.statement.keyword() != "revision-date" {
+    if !entry.statement.is(Keyword::RevisionDate) {
         return false;
     }
     match dated_file(rows, entry.scope) {

@@ -1,5 +1,5 @@
 //! The first of all that is wrong with modules.
-ghost use Rattle.std.specs.Prelude.{◌≡◌, ◌<◌, length, map, IfOk};
+ghost use Rattle.std.specs.Prelude.{◌≡◌, ◌<◌, ◌||◌, length, map, IfOk};
 ghost use Rattle.yv_statement.specs.Order.{IsLeast};
 ghost use Rattle.yv_link_scopes.specs.{Files.{brief}, Rows.{row}, Tables.{table_of, first_of}, Views.{files_in, rows_in}, declared.kind.NameKind.TheVariants.{Prefix, Include}};
 ghost use Rattle.yv_link_modules.specs.{Modules.{BadFile, BadFiles, BadModules, BadRow, BadRows}, InnerDates.{AreGreatest}, InnerImports.{AreLeads}};
@@ -12,6 +12,13 @@ use std::alloc::{AllocError, Global};
 use yv_link_scopes::laws::modules_are_files;
 use yv_link_scopes::{Entry, File, NameKind, NamePlaces, Rows, first_places};
 use yv_statement::{Code, Refusal, lesser, refusal_if};
+
+// Whether one of five holds.
+fn any(first: bool, second: bool, third: bool, fourth: bool, fifth: bool) -> bool
+    ensures { result ≡ (first || (second || (third || (fourth || fifth)))) }
+{
+    first || second || third || fourth || fifth
+}
 
 /// What is known of the statements before they are judged one by one.
 #[derive(Drop)]
@@ -79,6 +86,9 @@ impl<'r, 'a, 'b> Tables<'r, 'a, 'b> {
         let cyclic = is_import_cycle(self.rows, &self.leads, entry);
         let foreign = is_foreign(&self.prefixes, number, entry);
         let wrong = is_wrong_link(self.rows, entry);
+        if !any(missing, dated, cyclic, foreign, wrong) {
+            return None;
+        }
         let absent = refusal_if(missing, Code::MissingModule, entry.file, entry.statement);
         let other = refusal_if(dated, Code::Revision, entry.file, entry.statement);
         let cycle = refusal_if(cyclic, Code::ImportCycle, entry.file, entry.statement);
@@ -115,7 +125,9 @@ impl<'r, 'a, 'b> Tables<'r, 'a, 'b> {
         let mut least = None;
         for (number, entry) in self.rows.entries().iter().enumerate() {
             let fault = self.row_refusal(number, entry);
-            least = lesser(least, fault);
+            if fault.is_some() {
+                least = lesser(least, fault);
+            }
         }
         least
     }

@@ -9,12 +9,13 @@ use std::alloc::{AllocError, Global};
 use yv_base_graph::reachable_from;
 use yv_link_scopes::laws::{modules_are_files, roots_come_first};
 use yv_link_scopes::{Entry, Rows, name_of};
+use yv_statement::Keyword;
 
 // The number of the module that an import names.
 fn imported_module<'a>(rows: &Rows<'a, '_>, entry: &Entry<'a, '_>) -> Option<usize>
     ensures { result ≡ imported_module (files_in rows.now) (row entry.now) }
 {
-    if entry.statement.keyword() != "import" {
+    if !entry.statement.is(Keyword::Import) {
         return None;
     }
     let number = rows.file_named(name_of(entry.statement))?;

@@ -4,6 +4,7 @@ ghost use Rattle.yv_link_scopes.specs.{Files.{brief}, Rows.{row}, Tables.{table_
 ghost use Rattle.yv_link_modules.specs.Links.{is_at, is_not_included, is_link, is_missing, is_module_at, is_wrong, is_wrong_link};
 
 use yv_link_scopes::{Entry, File, NamePlaces, Rows, name_of};
+use yv_statement::Keyword;
 
 /// Whether an import, an include or a belongs-to names no file.
 pub(crate) fn is_missing<'a>(rows: &Rows<'a, '_>, entry: &Entry<'a, '_>) -> bool
@@ -16,17 +17,17 @@ pub(crate) fn is_missing<'a>(rows: &Rows<'a, '_>, entry: &Entry<'a, '_>) -> bool
 fn is_link(entry: &Entry<'_, '_>) -> bool
     ensures { result ≡ is_link (row entry.now).head }
 {
-    matches!(
-        entry.statement.keyword(),
-        "import" | "include" | "belongs-to"
-    )
+    let statement = entry.statement;
+    statement.is(Keyword::Import)
+        || statement.is(Keyword::Include)
+        || statement.is(Keyword::BelongsTo)
 }
 
 // Whether a statement in a file of this module names a file of the wrong kind.
 fn is_wrong(entry: &Entry<'_, '_>, own: &str, file: &File<'_, '_>) -> bool
     ensures { result ≡ is_wrong (row entry.now).head own.now (brief file.now) }
 {
-    if entry.statement.keyword() == "include" {
+    if entry.statement.is(Keyword::Include) {
         file.is_module || file.module_file != own
     } else {
         is_link(entry) && !file.is_module
@@ -37,6 +38,9 @@ fn is_wrong(entry: &Entry<'_, '_>, own: &str, file: &File<'_, '_>) -> bool
 pub(crate) fn is_wrong_link<'a>(rows: &Rows<'a, '_>, entry: &Entry<'a, '_>) -> bool
     ensures { result ≡ is_wrong_link (files_in rows.now) (row entry.now) }
 {
+    if !is_link(entry) {
+        return false;
+    }
     let Some(number) = rows.file_named(name_of(entry.statement)) else {
         return false;
     };

@@ -5,6 +5,7 @@ ghost use Rattle.yv_link_modules.specs.Prefixes.{has_names, has_undeclared, is_c
 
 use crate::links::is_at;
 use yv_link_scopes::{Entry, NamePlaces, name_of};
+use yv_statement::Keyword;
 
 // What stands before the first colon of a word.
 fn prefix_of(word: &[u8]) -> Option<&[u8]>
@@ -52,21 +53,35 @@ fn has_undeclared<'a>(prefixes: &NamePlaces<'a>, file: usize, text: &'a [u8]) ->
 fn has_names(entry: &Entry<'_, '_>) -> bool
     ensures { result ≡ has_names (row entry.now).head }
 {
-    matches!(
-        entry.statement.keyword(),
-        "type" | "uses" | "base" | "if-feature" | "augment" | "refine" | "key" | "unique" | "path"
-    )
+    match entry.statement.kind() {
+        Keyword::Type | Keyword::Uses | Keyword::Base => true,
+        Keyword::IfFeature | Keyword::Augment | Keyword::Refine => true,
+        Keyword::Key | Keyword::Unique | Keyword::Path => true,
+        _ => false,
+    }
+}
+
+// Whether a statement's keyword has a prefix that its file doesn't declare. Only an extension's has
+// one.
+fn has_unknown_keyword<'a>(prefixes: &NamePlaces<'a>, entry: &Entry<'a, '_>) -> bool
+    ensures { let r = row entry.now
+        in result ≡ is_undeclared (table_of prefixes.now) r.file (prefix_at r.head.keyword) }
+{
+    if !entry.statement.is(Keyword::Extended) {
+        return false;
+    }
+    let keyword = entry.statement.keyword();
+    is_undeclared(prefixes, entry.file as usize, keyword.as_bytes())
 }
 
 // Whether a statement has a prefix that its file doesn't declare.
 fn is_unknown<'a>(prefixes: &NamePlaces<'a>, entry: &Entry<'a, '_>) -> bool
     ensures { result ≡ is_unknown (table_of prefixes.now) (row entry.now) }
 {
-    let file = entry.file as usize;
-    let keyword = entry.statement.keyword();
-    if is_undeclared(prefixes, file, keyword.as_bytes()) {
+    if has_unknown_keyword(prefixes, entry) {
         return true;
     }
+    let file = entry.file as usize;
     let name = name_of(entry.statement);
     has_names(entry) && has_undeclared(prefixes, file, name.as_bytes())
 }
@@ -76,7 +91,7 @@ fn is_second<'a>(prefixes: &NamePlaces<'a>, number: usize, entry: &Entry<'a, '_>
     ensures { result ≡ is_second (table_of prefixes.now) number (row entry.now) }
 {
     let name = name_of(entry.statement);
-    entry.statement.keyword() == "prefix" && !is_at(number, prefixes.get(entry.file as usize, name))
+    entry.statement.is(Keyword::Prefix) && !is_at(number, prefixes.get(entry.file as usize, name))
 }
 
 /// Whether a statement has a prefix that its file doesn't declare, or declares one again.
