@@ -1,12 +1,10 @@
 -- What stands in the block of a leaf, leaf-list, anydata or anyxml gives no schema node.
-use Rattle.std.proofs.Common.{inl, inr, ◌⊎◌, ◌≡◌, ◌≢◌, ℕ, ◌<◌, ◌≤◌, ◌||◌, ◌&&◌, not, Bool, true, false, if◌then◌else◌, List, [], ◌∷◌, map, length, Option, Some, None, refl, sym, ap, ◌∙◌, arith}
+use Rattle.std.proofs.Common.{inl, inr, ◌⊎◌, ◌≡◌, ◌≢◌, ℕ, ◌<◌, ◌≤◌, ◌||◌, not, Bool, true, false, if◌then◌else◌, List, [], ◌∷◌, map, length, Option, Some, None, refl, sym, ap, ◌∙◌, arith}
 use Rattle.std.specs.List.{list_all, slice_get}
 use Rattle.std.specs.Option.{option_map}
-use Rattle.std.specs.Str.{bytes_eq}
 use Rattle.std.proofs.lemmas.Bool.{cases_lt, false≢true, false_from_ne_true}
 use Rattle.std.proofs.lemmas.List.{length-map}
 use Rattle.std.proofs.lemmas.Option.{same_Some, slice_get_cases, slice_get_within, slice_get-map}
-use Rattle.std.proofs.lemmas.Slice.Eq.{bytes_eq-Decides}
 use Rattle.yv_statement.specs.Tree.{Head, Tree, trees}
 use Rattle.yv_statement.specs.declared.keyword.Keyword.{Keyword}
 use Rattle.yv_statement.specs.declared.keyword.Keyword.TheVariants as word
@@ -24,24 +22,8 @@ use Rattle.yv_link_scopes.specs.RowList.{rows_of, statements_of}
 use Rattle.yv_link_scopes.specs.Rows.{Row}
 use Rattle.yv_expand.specs.Units.{nodes, operations}
 use Rattle.yv_expand.specs.Conformance.{Conform, gives_nodes, is_lowest, lowest}
+use Rattle.yv_expand.proofs.Words.{among_all, and_first, and_second}
 use Rattle.yv_expand.proofs.Fitting.{statement_fits}
-
-and_first : (a b : Bool) → (a && b) ≡ true → a ≡ true
-and_first true b h = refl
-and_first false b h = absurd (false≢true h)
-
-and_second : (a b : Bool) → (a && b) ≡ true → b ≡ true
-and_second true b h = h
-and_second false b h = absurd (false≢true h)
-
--- what passes for all words passes for one of them
-among_all : (P : List ℕ → Bool) (ws : List (List ℕ)) (w : List ℕ) → list_all P ws ≡ true → is_among ws w ≡ true → P w ≡ true
-among_all P [] w all is = absurd (false≢true is)
-among_all P (x ∷ ws) w all is = by (bytes_eq x w) refl is (among_all P ws w (and_second (P x) (list_all P ws) all))
-  where
-    by : (b : Bool) → bytes_eq x w ≡ b → (b || is_among ws w) ≡ true → (is_among ws w ≡ true → P w ≡ true) → P w ≡ true
-    by true e h others = ap P (sym ((bytes_eq-Decides x w).0 e)) ∙ and_first (P x) (list_all P ws) all
-    by false e h others = others h
 
 -- the keywords of what gives schema nodes, and of what has none below it
 abbrev is_given : Keyword → Bool

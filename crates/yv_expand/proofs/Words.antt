@@ -1,6 +1,6 @@
 -- Keywords, and the statements as they are read.
-use Rattle.std.proofs.Common.{◌≡◌, ℕ, ◌<◌, ◌⊎◌, inl, inr, Bool, true, false, ◌||◌, List, length, map, get_or, refl, sym, ◌∙◌, ap, codes, if◌then◌else◌, Some, None}
-use Rattle.std.specs.List.{slice_get}
+use Rattle.std.proofs.Common.{◌≡◌, ℕ, ◌<◌, ◌⊎◌, inl, inr, Bool, true, false, ◌||◌, ◌&&◌, List, [], ◌∷◌, length, map, get_or, refl, sym, ◌∙◌, ap, codes, if◌then◌else◌, Some, None}
+use Rattle.std.specs.List.{list_all, slice_get}
 use Rattle.std.specs.Option.{option_map}
 use Rattle.std.specs.Str.{bytes_eq}
 use Rattle.std.proofs.lemmas.List.{length-map}
@@ -20,6 +20,23 @@ word_is head u h = (bytes_eq-Decides head.keyword u).0 h
 
 pub false_true : false ≡ true → ⊥
 false_true h = cc
+
+pub and_first : (a b : Bool) → (a && b) ≡ true → a ≡ true
+and_first true b h = refl
+and_first false b h = absurd (false_true h)
+
+pub and_second : (a b : Bool) → (a && b) ≡ true → b ≡ true
+and_second true b h = h
+and_second false b h = absurd (false_true h)
+
+-- what passes for all words passes for one of them
+pub among_all : (P : List ℕ → Bool) (ws : List (List ℕ)) (w : List ℕ) → list_all P ws ≡ true → is_among ws w ≡ true → P w ≡ true
+among_all P [] w all is = absurd (false_true is)
+among_all P (x ∷ ws) w all is = by (bytes_eq x w) refl is (among_all P ws w (and_second (P x) (list_all P ws) all))
+  where
+    by : (b : Bool) → bytes_eq x w ≡ b → (b || is_among ws w) ≡ true → (is_among ws w ≡ true → P w ≡ true) → P w ≡ true
+    by true e h others = ap P (sym ((bytes_eq-Decides x w).0 e)) ∙ and_first (P x) (list_all P ws) all
+    by false e h others = others h
 
 -- what is an input, an output or an augment is no item
 pub input_no_item : (r : Row) → is_input r ≡ true → is_node_or_uses r ≡ false

@@ -24,6 +24,7 @@ pub(crate) struct Blocks {
 }
 
 // The items in the blocks of augments, augment by augment.
+#[inline(always)]
 fn given_by(alloc: Global, own: &[Vec<usize>], augments: &[usize]) -> Result<Vec<usize>, AllocError>
     ensures { IfOk result (λ given. given.items ≡ flat_map (numbers_at own.now) augments.now) }
 {

@@ -7,6 +7,7 @@ use crate::own::is_node_or_uses;
 use crate::unit_keywords::own_units;
 use std::alloc::{AllocError, Global};
 use yv_link_scopes::{Entry, Rows};
+use yv_statement::Keyword;
 
 // So many empty lists.
 fn no_lists(alloc: Global, count: usize) -> Result<Vec<Vec<usize>>, AllocError>
@@ -32,19 +33,21 @@ pub(crate) enum WantedFiles {
 }
 
 // Whether a statement is one of those that are wanted.
+#[inline(always)]
 fn is_wanted(wanted: WantedFiles, entry: &Entry<'_, '_>) -> bool
     ensures { result ≡ is_wanted wanted (row entry.now) }
 {
     match wanted {
         WantedFiles::Items => is_node_or_uses(entry),
-        WantedFiles::Inputs => entry.statement.keyword() == "input",
-        WantedFiles::Outputs => entry.statement.keyword() == "output",
-        WantedFiles::Augments => entry.statement.keyword() == "augment",
+        WantedFiles::Inputs => entry.statement.is(Keyword::Input),
+        WantedFiles::Outputs => entry.statement.is(Keyword::Output),
+        WantedFiles::Augments => entry.statement.is(Keyword::Augment),
         WantedFiles::Counted => own_units(entry).is_some(),
     }
 }
 
 // The block in which a wanted statement is.
+#[inline(always)]
 fn block_place(wanted: WantedFiles, number: usize, entry: &Entry<'_, '_>) -> Option<usize>
     ensures { result ≡ block_place (is_wanted wanted) number (row entry.now) }
 {
@@ -56,6 +59,7 @@ fn block_place(wanted: WantedFiles, number: usize, entry: &Entry<'_, '_>) -> Opt
 }
 
 // The file at whose top a wanted statement is.
+#[inline(always)]
 fn top_place(
     rows: &Rows<'_, '_>,
     wanted: WantedFiles,

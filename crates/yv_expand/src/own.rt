@@ -1,32 +1,15 @@
 //! Which statements are items.
 ghost use Rattle.std.specs.Prelude.{◌≡◌};
 ghost use Rattle.yv_link_scopes.specs.Rows.{row};
-ghost use Rattle.yv_expand.specs.{Units.{nodes, operations}, StatementBlocks.{is_node_or_uses, is_operation}, InnerKeywords.{may_count}};
+ghost use Rattle.yv_expand.specs.{StatementBlocks.{is_node_or_uses, is_operation}, InnerKeywords.{is_item_keyword, is_node_keyword, is_operation_keyword}};
 
 use yv_link_scopes::Entry;
-use yv_statement::{Keyword, is_among};
+use yv_statement::Keyword;
 
-/// The keywords of statements that give a schema node, but for operations, and `uses`.
-pub(crate) static NODES: [&str; 10] = [
-    "container",
-    "leaf",
-    "leaf-list",
-    "list",
-    "choice",
-    "case",
-    "anydata",
-    "anyxml",
-    "notification",
-    "uses",
-];
-
-/// The keywords of operations.
-pub(crate) static OPERATIONS: [&str; 2] = ["rpc", "action"];
-
-/// Whether a statement of this keyword counts units, by itself or with what is in it. Most don't,
-/// and then the text of their keyword isn't compared.
-pub(crate) fn may_count(keyword: Keyword) -> bool
-    ensures { result ≡ may_count keyword }
+/// Whether a statement of this keyword gives a schema node, but for operations, or is a uses.
+#[inline(always)]
+pub(crate) fn is_node_keyword(keyword: Keyword) -> bool
+    ensures { result ≡ is_node_keyword keyword }
 {
     matches!(
         keyword,
@@ -40,28 +23,37 @@ pub(crate) fn may_count(keyword: Keyword) -> bool
             | Keyword::Anyxml
             | Keyword::Notification
             | Keyword::Uses
-            | Keyword::Rpc
-            | Keyword::Action
-            | Keyword::Input
-            | Keyword::Output
-            | Keyword::Augment
     )
 }
 
+/// Whether a statement of this keyword is an rpc or an action.
+#[inline(always)]
+pub(crate) fn is_operation_keyword(keyword: Keyword) -> bool
+    ensures { result ≡ is_operation_keyword keyword }
+{
+    matches!(keyword, Keyword::Rpc | Keyword::Action)
+}
+
 /// Whether a statement is an rpc or an action.
-#[tactic(auto, unfolding(crate::specs::StatementBlocks::is_operation))]
+#[inline(always)]
 pub(crate) fn is_operation(entry: &Entry<'_, '_>) -> bool
     ensures { result ≡ is_operation (row entry.now) }
 {
-    is_among(&OPERATIONS, entry.statement.keyword())
+    is_operation_keyword(entry.statement.kind())
+}
+
+// Whether a statement of this keyword is an item.
+#[inline(always)]
+fn is_item_keyword(keyword: Keyword) -> bool
+    ensures { result ≡ is_item_keyword keyword }
+{
+    is_node_keyword(keyword) || is_operation_keyword(keyword)
 }
 
 /// Whether a statement is an item: one that gives a schema node, or a uses.
-#[tactic(auto, unfolding(crate::specs::StatementBlocks::is_node_or_uses))]
+#[inline(always)]
 pub(crate) fn is_node_or_uses(entry: &Entry<'_, '_>) -> bool
     ensures { result ≡ is_node_or_uses (row entry.now) }
 {
-    let keyword = entry.statement.keyword();
-    may_count(entry.statement.kind())
-        && (is_among(&NODES, keyword) || is_among(&OPERATIONS, keyword))
+    is_item_keyword(entry.statement.kind())
 }

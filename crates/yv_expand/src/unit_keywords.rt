@@ -1,24 +1,30 @@
 //! What statements count by themselves.
 ghost use Rattle.std.specs.Prelude.{◌≡◌};
 ghost use Rattle.yv_link_scopes.specs.Rows.{row};
-ghost use Rattle.yv_expand.specs.Units.{units_of};
+ghost use Rattle.yv_expand.specs.{Units.{units_of}, InnerKeywords.{is_passed_keyword, units_by}};
 
-use crate::own::{NODES, OPERATIONS, may_count};
+use crate::own::{is_node_keyword, is_operation_keyword};
 use yv_link_scopes::Entry;
-use yv_statement::is_among;
+use yv_statement::Keyword;
 
-static PASSED: [&str; 3] = ["input", "output", "augment"];
+// Whether what is in a statement of this keyword counts, but not the statement.
+#[inline(always)]
+fn is_passed_keyword(keyword: Keyword) -> bool
+    ensures { result ≡ is_passed_keyword keyword }
+{
+    matches!(keyword, Keyword::Input | Keyword::Output | Keyword::Augment)
+}
 
 // What a statement of a keyword counts by itself.
-#[tactic(auto, unfolding(crate::specs::Units::units_of))]
-fn units_of(keyword: &str) -> Option<u64>
-    ensures { result ≡ units_of keyword.now }
+#[inline(always)]
+fn units_by(keyword: Keyword) -> Option<u64>
+    ensures { result ≡ units_by keyword }
 {
-    if is_among(&NODES, keyword) {
+    if is_node_keyword(keyword) {
         Some(1)
-    } else if is_among(&OPERATIONS, keyword) {
+    } else if is_operation_keyword(keyword) {
         Some(3)
-    } else if is_among(&PASSED, keyword) {
+    } else if is_passed_keyword(keyword) {
         Some(0)
     } else {
         None
@@ -26,12 +32,9 @@ fn units_of(keyword: &str) -> Option<u64>
 }
 
 /// What a statement counts by itself; None where neither it nor what is in it counts.
+#[inline(always)]
 pub(crate) fn own_units(entry: &Entry<'_, '_>) -> Option<u64>
     ensures { result ≡ units_of (row entry.now).head.keyword }
 {
-    if may_count(entry.statement.kind()) {
-        units_of(entry.statement.keyword())
-    } else {
-        None
-    }
+    units_by(entry.statement.kind())
 }

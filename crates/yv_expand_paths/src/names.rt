@@ -6,16 +6,15 @@ ghost use Rattle.yv_expand_paths.specs.{Names.{node_name}, InnerNameNumbers.{own
 use crate::table::Table;
 use std::alloc::{AllocError, Global};
 use yv_link_scopes::{Rows, name_of};
-use yv_statement::Statement;
+use yv_statement::{Keyword, Statement};
 
 /// The name of the node that a statement gives: its argument, or of an input or output, which has
 /// none, its keyword (RFC 7950, section 7.14).
 pub fn node_name<'a>(statement: &'a Statement<'_>) -> &'a str
     ensures { result.now ≡ node_name statement.now.head }
 {
-    let keyword = statement.keyword();
-    if keyword == "input" || keyword == "output" {
-        keyword
+    if statement.is(Keyword::Input) || statement.is(Keyword::Output) {
+        statement.keyword()
     } else {
         name_of(statement)
     }

@@ -7,6 +7,7 @@ use crate::names::NodeNames;
 use crate::step::SchemaStep;
 use std::alloc::{AllocError, Global};
 use yv_link_scopes::{Entry, PrefixTable, Rows, local, name_of, prefix_of};
+use yv_statement::Keyword;
 
 // A step whose name has this number.
 fn named_step<'a>(
@@ -66,8 +67,7 @@ fn steps(alloc: Global, text: &str) -> Result<Vec<&str>, AllocError>
 fn has_path(entry: &Entry<'_, '_>) -> bool
     ensures { result ≡ has_path (row entry.now) }
 {
-    let keyword = entry.statement.keyword();
-    keyword == "refine" || keyword == "augment"
+    entry.statement.is(Keyword::Refine) || entry.statement.is(Keyword::Augment)
 }
 
 // The steps of a statement's path.

@@ -8,3 +8,4 @@ pub mod Leading
 pub mod Aiming
 pub mod Keeping
 pub mod Deciding
+pub mod KeywordKinds

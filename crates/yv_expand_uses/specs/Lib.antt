@@ -12,3 +12,4 @@ pub mod InnerEnds
 pub mod InnerPaths
 pub mod InnerLeadingPaths
 pub mod InnerRefineTargets
+pub mod InnerKinds

@@ -6,17 +6,18 @@ ghost use Rattle.yv_expand_uses.specs.{InnerCounts.{count_at, count_more}, Augme
 ghost use Rattle.yv_expand.specs.StatementBlocks.{is_refine};
 
 use crate::if_features::is_augment;
-use crate::kinds::kind_of_keyword;
+use crate::kinds::kind_given;
 use std::alloc::{AllocError, Global};
 use yv_base_tables::Families;
 use yv_link_scopes::{Entry, Rows};
+use yv_statement::Keyword;
 
 // The block in which a statement stands that is an item.
 fn item_place(entry: &Entry<'_, '_>) -> Option<usize>
     ensures { result
         ≡ (if is_node_or_uses (row entry.now) then Some (row entry.now).scope else None) }
 {
-    if kind_of_keyword(entry.statement.keyword()).is_some() {
+    if kind_given(entry).is_some() {
         Some(entry.scope)
     } else {
         None
@@ -54,7 +55,7 @@ pub(crate) fn augment_places(
 fn refine_place(entry: &Entry<'_, '_>) -> Option<usize>
     ensures { result ≡ (if is_refine (row entry.now) then Some (row entry.now).scope else None) }
 {
-    if entry.statement.keyword() == "refine" {
+    if entry.statement.is(Keyword::Refine) {
         Some(entry.scope)
     } else {
         None
@@ -97,7 +98,7 @@ fn gives(items: &Families, number: usize, entry: &Entry<'_, '_>) -> bool
         → result ≡ gives rows number (row entry.now) }
 {
     yv_base_tables::laws::each_place_has_its_numbers();
-    entry.statement.keyword() == "augment" && !items.at(number).is_empty()
+    is_augment(entry) && !items.at(number).is_empty()
 }
 
 // The block in which such an augment stands.

@@ -9,6 +9,7 @@ use crate::spot::Spot;
 use std::alloc::{AllocError, Global};
 use yv_expand::Item;
 use yv_link_scopes::{Entry, Rows};
+use yv_statement::Keyword;
 
 /// Whether a number has a mark.
 pub fn is_marked(marks: &[bool], number: usize) -> bool
@@ -41,7 +42,7 @@ fn above_on(spots: &[Spot], marks: &[bool], parent: Option<usize>) -> bool
 pub fn is_augment(entry: &Entry<'_, '_>) -> bool
     ensures { result ≡ is_augment (row entry.now) }
 {
-    entry.statement.keyword() == "augment"
+    entry.statement.is(Keyword::Augment)
 }
 
 // Whether what stands in a block is there by the conditions of the block, if that is an augment.

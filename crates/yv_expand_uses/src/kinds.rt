@@ -1,50 +1,46 @@
 //! What items are as schema nodes.
-ghost use Rattle.std.specs.Prelude.{◌≡◌, List, map};
-ghost use Rattle.yv_link_scopes.specs.{Views.{rows_in}, Rows.{Row}};
+ghost use Rattle.std.specs.Prelude.{◌≡◌, List};
+ghost use Rattle.yv_link_scopes.specs.{Views.{rows_in}, Rows.{Row, row}};
 ghost use Rattle.yv_expand_paths.specs.PathTables.{AreNames};
-ghost use Rattle.yv_expand_rounds.specs.Kinds.{is_uses, kind_of_keyword, kind_in};
-ghost use Rattle.yv_expand_uses.specs.Kinds.{kind_of, label_of, name_number};
+ghost use Rattle.yv_expand_rounds.specs.Kinds.{is_uses, kind_of_keyword};
+ghost use Rattle.yv_expand_uses.specs.{Kinds.{kind_of, label_of, name_number}, InnerKinds.{kind_by}};
 
 use yv_expand::Origin;
 use yv_expand_paths::{NodeNames, qualified_name};
 use yv_expand_rounds::{Label, StatementKind};
-use yv_link_scopes::Rows;
+use yv_link_scopes::{Entry, Rows};
+use yv_statement::Keyword;
 
-static KINDS: [(&str, StatementKind); 14] = [
-    ("container", StatementKind::Container),
-    ("leaf", StatementKind::Leaf),
-    ("leaf-list", StatementKind::LeafList),
-    ("list", StatementKind::List),
-    ("choice", StatementKind::Choice),
-    ("case", StatementKind::Case),
-    ("anydata", StatementKind::Anydata),
-    ("anyxml", StatementKind::Anyxml),
-    ("rpc", StatementKind::Rpc),
-    ("action", StatementKind::Action),
-    ("input", StatementKind::Input),
-    ("output", StatementKind::Output),
-    ("notification", StatementKind::Notification),
-    ("uses", StatementKind::Uses),
-];
-
-// The kind that a table gives a keyword.
-fn kind_in(kinds: &[(&str, StatementKind)], keyword: &str) -> Option<StatementKind>
-    ensures { result ≡ kind_in (map (λ k. (k.0.now, k.1)) kinds.now) keyword.now }
+// The kind of the items that statements of a keyword give; others give none.
+#[inline(always)]
+fn kind_by(keyword: Keyword) -> Option<StatementKind>
+    ensures { result ≡ kind_by keyword }
 {
-    for entry in kinds {
-        if entry.0 == keyword {
-            return Some(entry.1);
-        }
+    match keyword {
+        Keyword::Container => Some(StatementKind::Container),
+        Keyword::Leaf => Some(StatementKind::Leaf),
+        Keyword::LeafList => Some(StatementKind::LeafList),
+        Keyword::List => Some(StatementKind::List),
+        Keyword::Choice => Some(StatementKind::Choice),
+        Keyword::Case => Some(StatementKind::Case),
+        Keyword::Anydata => Some(StatementKind::Anydata),
+        Keyword::Anyxml => Some(StatementKind::Anyxml),
+        Keyword::Rpc => Some(StatementKind::Rpc),
+        Keyword::Action => Some(StatementKind::Action),
+        Keyword::Input => Some(StatementKind::Input),
+        Keyword::Output => Some(StatementKind::Output),
+        Keyword::Notification => Some(StatementKind::Notification),
+        Keyword::Uses => Some(StatementKind::Uses),
+        _ => None,
     }
-    None
 }
 
-/// The kind of the items that statements of a keyword give; others give none.
-#[tactic(auto, unfolding(yv_expand_rounds::specs::Kinds::kind_of_keyword))]
-pub(crate) fn kind_of_keyword(keyword: &str) -> Option<StatementKind>
-    ensures { result ≡ kind_of_keyword keyword.now }
+/// The kind of the items that a statement gives, if it gives some.
+#[inline(always)]
+pub(crate) fn kind_given(entry: &Entry<'_, '_>) -> Option<StatementKind>
+    ensures { result ≡ kind_of_keyword (row entry.now).head.keyword }
 {
-    kind_in(&KINDS, keyword)
+    kind_by(entry.statement.kind())
 }
 
 // The kind of an item.
@@ -53,9 +49,7 @@ fn kind_of(rows: &Rows<'_, '_>, origin: Origin) -> StatementKind
 {
     match origin {
         Origin::Statement(number) => match rows.entries().get(number) {
-            Some(entry) => kind_of_keyword(entry.statement.keyword()).unwrap_or(
-                StatementKind::Uses,
-            ),
+            Some(entry) => kind_given(entry).unwrap_or(StatementKind::Uses),
             None => StatementKind::Leaf,
         },
         Origin::Input(_) => StatementKind::Input,
