@@ -39,9 +39,9 @@ fn is_wanted(wanted: WantedFiles, entry: &Entry<'_, '_>) -> bool
 {
     match wanted {
         WantedFiles::Items => is_node_or_uses(entry),
-        WantedFiles::Inputs => entry.statement.is(Keyword::Input),
-        WantedFiles::Outputs => entry.statement.is(Keyword::Output),
-        WantedFiles::Augments => entry.statement.is(Keyword::Augment),
+        WantedFiles::Inputs => entry.is(Keyword::Input),
+        WantedFiles::Outputs => entry.is(Keyword::Output),
+        WantedFiles::Augments => entry.is(Keyword::Augment),
         WantedFiles::Counted => own_units(entry).is_some(),
     }
 }

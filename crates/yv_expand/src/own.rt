@@ -39,7 +39,7 @@ pub(crate) fn is_operation_keyword(keyword: Keyword) -> bool
 pub(crate) fn is_operation(entry: &Entry<'_, '_>) -> bool
     ensures { result ≡ is_operation (row entry.now) }
 {
-    is_operation_keyword(entry.statement.kind())
+    is_operation_keyword(entry.kind())
 }
 
 // Whether a statement of this keyword is an item.
@@ -55,5 +55,5 @@ fn is_item_keyword(keyword: Keyword) -> bool
 pub(crate) fn is_node_or_uses(entry: &Entry<'_, '_>) -> bool
     ensures { result ≡ is_node_or_uses (row entry.now) }
 {
-    is_item_keyword(entry.statement.kind())
+    is_item_keyword(entry.kind())
 }

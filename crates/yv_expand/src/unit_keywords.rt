@@ -36,5 +36,5 @@ fn units_by(keyword: Keyword) -> Option<u64>
 pub(crate) fn own_units(entry: &Entry<'_, '_>) -> Option<u64>
     ensures { result ≡ units_of (row entry.now).head.keyword }
 {
-    units_by(entry.statement.kind())
+    units_by(entry.kind())
 }

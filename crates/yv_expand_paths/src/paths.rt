@@ -67,7 +67,7 @@ fn steps(alloc: Global, text: &str) -> Result<Vec<&str>, AllocError>
 fn has_path(entry: &Entry<'_, '_>) -> bool
     ensures { result ≡ has_path (row entry.now) }
 {
-    entry.statement.is(Keyword::Refine) || entry.statement.is(Keyword::Augment)
+    entry.is(Keyword::Refine) || entry.is(Keyword::Augment)
 }
 
 // The steps of a statement's path.

@@ -55,7 +55,7 @@ pub(crate) fn augment_places(
 fn refine_place(entry: &Entry<'_, '_>) -> Option<usize>
     ensures { result ≡ (if is_refine (row entry.now) then Some (row entry.now).scope else None) }
 {
-    if entry.statement.is(Keyword::Refine) {
+    if entry.is(Keyword::Refine) {
         Some(entry.scope)
     } else {
         None

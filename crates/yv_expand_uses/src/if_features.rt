@@ -42,7 +42,7 @@ fn above_on(spots: &[Spot], marks: &[bool], parent: Option<usize>) -> bool
 pub fn is_augment(entry: &Entry<'_, '_>) -> bool
     ensures { result ≡ is_augment (row entry.now) }
 {
-    entry.statement.is(Keyword::Augment)
+    entry.is(Keyword::Augment)
 }
 
 // Whether what stands in a block is there by the conditions of the block, if that is an augment.

@@ -40,7 +40,7 @@ fn kind_by(keyword: Keyword) -> Option<StatementKind>
 pub(crate) fn kind_given(entry: &Entry<'_, '_>) -> Option<StatementKind>
     ensures { result ≡ kind_of_keyword (row entry.now).head.keyword }
 {
-    kind_by(entry.statement.kind())
+    kind_by(entry.kind())
 }
 
 // The kind of an item.

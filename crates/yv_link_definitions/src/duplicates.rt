@@ -12,7 +12,7 @@ use yv_statement::Keyword;
 fn kind_defined(entry: &Entry<'_, '_>) -> Option<NameKind>
     ensures { result ≡ kind_defined (row entry.now) }
 {
-    match entry.statement.kind() {
+    match entry.kind() {
         Keyword::Feature => Some(NameKind::Feature),
         Keyword::Identity => Some(NameKind::Identity),
         Keyword::Extension => Some(NameKind::Extension),

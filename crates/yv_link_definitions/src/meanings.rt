@@ -12,14 +12,14 @@ use yv_statement::Keyword;
 pub(crate) fn is_type(entry: &Entry<'_, '_>) -> bool
     ensures { result ≡ is_type (row entry.now) }
 {
-    entry.statement.is(Keyword::Type)
+    entry.is(Keyword::Type)
 }
 
 // Whether a statement is a uses.
 fn is_uses(entry: &Entry<'_, '_>) -> bool
     ensures { result ≡ is_uses (row entry.now) }
 {
-    entry.statement.is(Keyword::Uses)
+    entry.is(Keyword::Uses)
 }
 
 // Whether a statement names a definition of the kind.

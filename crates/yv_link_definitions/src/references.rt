@@ -56,7 +56,7 @@ pub(crate) fn add_place(
         → OnOk result ((f o : ℕ)
         → placed_in list.new f o ≡ number_at (take (number + 1) rows) word f o)) }
 {
-    if entry.statement.is(keyword) {
+    if entry.is(keyword) {
         list.add(place_of(number, entry))?;
     }
     Ok(())

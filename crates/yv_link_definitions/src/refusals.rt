@@ -28,7 +28,7 @@ fn has_definition(entry: &Entry<'_, '_>) -> bool
     ensures types { result ≡ false → is_type (row entry.now) ≡ false }
     ensures uses { result ≡ false → is_uses (row entry.now) ≡ false }
 {
-    match entry.statement.kind() {
+    match entry.kind() {
         Keyword::Type | Keyword::Uses => true,
         Keyword::Feature | Keyword::Identity | Keyword::Extension => true,
         Keyword::Typedef | Keyword::Grouping => true,

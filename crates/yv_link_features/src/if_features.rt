@@ -12,7 +12,7 @@ use yv_statement::Keyword;
 pub(crate) fn is_if_feature(entry: &Entry<'_, '_>) -> bool
     ensures { result ≡ is_if_feature (row entry.now) }
 {
-    entry.statement.is(Keyword::IfFeature)
+    entry.is(Keyword::IfFeature)
 }
 
 // As many empty lists.

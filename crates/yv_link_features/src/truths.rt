@@ -13,7 +13,7 @@ use yv_statement::{Keyword, Selection};
 fn is_feature(entry: &Entry<'_, '_>) -> bool
     ensures { result ≡ is_feature (row entry.now) }
 {
-    entry.statement.is(Keyword::Feature)
+    entry.is(Keyword::Feature)
 }
 
 impl<'a, 'b> FeatureNames<'_, 'a, 'b> {

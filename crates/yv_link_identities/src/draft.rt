@@ -51,5 +51,5 @@ impl<'r, 'a, 'b> Draft<'r, 'a, 'b> {
 pub(crate) fn is_base(entry: &Entry<'_, '_>) -> bool
     ensures { result ≡ is_base (row entry.now) }
 {
-    entry.statement.is(Keyword::Base)
+    entry.is(Keyword::Base)
 }

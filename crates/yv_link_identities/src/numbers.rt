@@ -19,7 +19,7 @@ pub(crate) struct Numbers {
 fn is_identity(entry: &Entry<'_, '_>) -> bool
     ensures { result ≡ is_identity (row entry.now) }
 {
-    entry.statement.is(Keyword::Identity)
+    entry.is(Keyword::Identity)
 }
 
 impl Numbers {

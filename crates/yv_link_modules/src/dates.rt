@@ -38,7 +38,7 @@ fn keep_date<'a>(dates: &mut Vec<Option<&'a str>>, file: usize, date: &'a str)
 fn is_revision(entry: &Entry<'_, '_>) -> bool
     ensures { result ≡ has_word (codes "revision") (row entry.now).head }
 {
-    entry.statement.is(Keyword::Revision)
+    entry.is(Keyword::Revision)
 }
 
 /// The greatest date of each file's revision statements.
@@ -80,7 +80,7 @@ fn dated_file(rows: &Rows<'_, '_>, number: usize) -> Option<usize>
 fn takes_date(entry: &Entry<'_, '_>) -> bool
     ensures { result ≡ takes_date (row entry.now).head }
 {
-    entry.statement.is(Keyword::Import) || entry.statement.is(Keyword::Include)
+    entry.is(Keyword::Import) || entry.is(Keyword::Include)
 }
 
 // Whether this date is kept for a file.
@@ -103,7 +103,7 @@ pub(crate) fn is_other_date(
     ensures { result
         ≡ is_other_date (files_in rows.now) (rows_in rows.now) dates.now (row entry.now) }
 {
-    if !entry.statement.is(Keyword::RevisionDate) {
+    if !entry.is(Keyword::RevisionDate) {
         return false;
     }
     match dated_file(rows, entry.scope) {

@@ -15,7 +15,7 @@ use yv_statement::Keyword;
 fn imported_module<'a>(rows: &Rows<'a, '_>, entry: &Entry<'a, '_>) -> Option<usize>
     ensures { result ≡ imported_module (files_in rows.now) (row entry.now) }
 {
-    if !entry.statement.is(Keyword::Import) {
+    if !entry.is(Keyword::Import) {
         return None;
     }
     let number = rows.file_named(name_of(entry.statement))?;

@@ -27,7 +27,7 @@ fn is_link(entry: &Entry<'_, '_>) -> bool
 fn is_wrong(entry: &Entry<'_, '_>, own: &str, file: &File<'_, '_>) -> bool
     ensures { result ≡ is_wrong (row entry.now).head own.now (brief file.now) }
 {
-    if entry.statement.is(Keyword::Include) {
+    if entry.is(Keyword::Include) {
         file.is_module || file.module_file != own
     } else {
         is_link(entry) && !file.is_module

@@ -53,7 +53,7 @@ fn has_undeclared<'a>(prefixes: &NamePlaces<'a>, file: usize, text: &'a [u8]) ->
 fn has_names(entry: &Entry<'_, '_>) -> bool
     ensures { result ≡ has_names (row entry.now).head }
 {
-    match entry.statement.kind() {
+    match entry.kind() {
         Keyword::Type | Keyword::Uses | Keyword::Base => true,
         Keyword::IfFeature | Keyword::Augment | Keyword::Refine => true,
         Keyword::Key | Keyword::Unique | Keyword::Path => true,
@@ -67,7 +67,7 @@ fn has_unknown_keyword<'a>(prefixes: &NamePlaces<'a>, entry: &Entry<'a, '_>) -> 
     ensures { let r = row entry.now
         in result ≡ is_undeclared (table_of prefixes.now) r.file (prefix_at r.head.keyword) }
 {
-    if !entry.statement.is(Keyword::Extended) {
+    if !entry.is(Keyword::Extended) {
         return false;
     }
     let keyword = entry.statement.keyword();
@@ -91,7 +91,7 @@ fn is_second<'a>(prefixes: &NamePlaces<'a>, number: usize, entry: &Entry<'a, '_>
     ensures { result ≡ is_second (table_of prefixes.now) number (row entry.now) }
 {
     let name = name_of(entry.statement);
-    entry.statement.is(Keyword::Prefix) && !is_at(number, prefixes.get(entry.file as usize, name))
+    entry.is(Keyword::Prefix) && !is_at(number, prefixes.get(entry.file as usize, name))
 }
 
 /// Whether a statement has a prefix that its file doesn't declare, or declares one again.

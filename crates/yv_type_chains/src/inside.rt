@@ -11,7 +11,7 @@ use yv_statement::Keyword;
 pub(crate) fn is_type(entry: &Entry<'_, '_>) -> bool
     ensures { result ≡ is_type (row entry.now) }
 {
-    entry.statement.is(Keyword::Type)
+    entry.is(Keyword::Type)
 }
 
 /// Whether a statement is a type that stands in a block.
