@@ -5,6 +5,9 @@ ghost use Rattle.yv_source.specs.{Characters.{line_feed}, Legal.{most_bytes}, Pl
 
 use memchr::memrchr;
 
+// How many bytes are counted at once.
+const BLOCK: usize = 192;
+
 /// How far the lines of a text were counted. Lines are asked for from the front to the end, and
 /// each is counted from the one before it.
 #[derive(Clone, Copy)]
@@ -64,12 +67,27 @@ pub(crate) fn mark_len_of(bytes: &[u8]) -> usize
     }
 }
 
-/// How many line feeds the bytes have.
+/// How many line feeds the bytes have: first those of whole blocks, then those of the rest.
 pub(crate) fn line_feeds(bytes: &[u8]) -> usize
     ensures count { result ≡ count_by (λ b. b == line_feed) bytes.now }
     ensures bound { result ≤ length bytes.now }
 {
     let mut count = 0;
+    let mut at = 0;
+    while bytes.len() - at > BLOCK {
+        count += usize::from(block_feeds(&bytes[at..at + BLOCK]));
+        at += BLOCK;
+    }
+    count + usize::from(block_feeds(&bytes[at..]))
+}
+
+// How many line feeds a block has. A byte holds their number, so that many are compared at once.
+fn block_feeds(bytes: &[u8]) -> u8
+    requires { length bytes.now ≤ 192 }
+    ensures count { result ≡ count_by (λ b. b == line_feed) bytes.now }
+    ensures bound { result ≤ length bytes.now }
+{
+    let mut count: u8 = 0;
     for byte in bytes {
         if *byte == b'\n' {
             count += 1;

@@ -182,11 +182,12 @@ fn is_word_end(bytes: &[u8], at: usize) -> bool
     !goes_on(bytes[at]) && ends_word(&bytes[at..])
 }
 
-// Whether a byte ends no unquoted text, whatever is behind it. The ranges leave out every mark.
+// Whether a byte ends no unquoted text, whatever is behind it. The ranges leave out every mark, and
+// the one with the letters is asked for first.
 fn goes_on(byte: u8) -> bool
     ensures { (rest : List ℕ) → result ≡ true → ends_word (byte ∷ rest) ≡ false }
 {
-    matches!(byte, b'<'..=b'z' | b'+'..=b'.' | b'0'..=b':')
+    byte >= b'<' && byte <= b'z' || byte >= b'+' && byte <= b'.' || byte >= b'0' && byte <= b':'
 }
 
 fn ends_word(bytes: &[u8]) -> bool
