@@ -1,5 +1,5 @@
 -- How least refusals are joined.
-use Rattle.std.proofs.Common.{◌≡◌, ℕ, ◌+◌, ◌⊎◌, inl, inr, ⊎_elim, List, [], ◌∷◌, Bool, true, false, cond, refl, sym, ◌∙◌, ap, subst, arith, Option, Some, None}
+use Rattle.std.proofs.Common.{◌≡◌, ℕ, ◌+◌, ◌⊎◌, inl, inr, is_some, ⊎_elim, List, [], ◌∷◌, Bool, true, false, cond, refl, sym, ◌∙◌, ap, subst, arith, Option, Some, None}
 use Rattle.std.specs.List.{slice_get}
 use Rattle.std.proofs.lemmas.Option.{same_Some}
 use Rattle.std.proofs.lemmas.Bool.{cases_eq, false≢true}
@@ -54,3 +54,16 @@ module _ {X : Type 0} where
         | inr ne ↦ inl (h.0, omega (arith, h.1), h.2, h.3, h.4)
       ])
       (least_lesser (Among xs P i) (P i x) a b c l p q)
+
+-- one more with which nothing is wrong
+pub least_stays : {X : Type 0} (xs : List X) (P : ℕ → X → Refusal → Type 0) (i : ℕ) (x : X) (a b : Option Refusal) → slice_get xs i ≡ Some x → IsLeast (Among xs P i) a → is_some b ≡ false → IsLeast (P i x) b → IsLeast (Among xs P (i + 1)) a
+least_stays xs P i x a None at p none q = least_more xs P i x a None a at (by a) p q
+  where
+    by : (o : Option Refusal) → IsLesser o None o
+    by None = refl
+    by (Some r) = refl
+least_stays xs P i x a (Some r) at p none q = absurd (false≢true (sym none))
+
+-- the first refusal doesn't stand
+pub only_second : (P : Type 0) (flag : Bool) (r : Refusal) (Q : Refusal → Type 0) (b : Option Refusal) → (P → flag ≡ true) → flag ≡ false → IsLeast Q b → IsLeast (λ f. Stands P r f ⊎ Q f) b
+only_second P flag r Q b from unset q = least_lesser (Stands P r) Q None b b refl (λ s p. absurd (false≢true (sym unset ∙ from p.0))) q

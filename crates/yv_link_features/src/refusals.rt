@@ -27,13 +27,16 @@ impl<'a, 'b> FeatureNames<'_, 'a, 'b> {
             (BadRow (means_in self.now) (rows_in self.now.rows.now) number (row entry.now)) result }
     {
         let has_unknown = self.has_unknown(entry);
+        let cycle = refusal_if(is_cyclic, Code::FeatureCycle, entry.file, entry.statement);
+        if !has_unknown {
+            return cycle;
+        }
         let unknown = refusal_if(
             has_unknown,
             Code::UnknownFeature,
             entry.file,
             entry.statement,
         );
-        let cycle = refusal_if(is_cyclic, Code::FeatureCycle, entry.file, entry.statement);
         lesser(unknown, cycle)
     }
 
@@ -50,7 +53,9 @@ impl<'a, 'b> FeatureNames<'_, 'a, 'b> {
         let mut first = None;
         for (number, entry) in self.rows.entries().iter().enumerate() {
             let refusal = self.refusal(entry, cyclic[number]);
-            first = lesser(first, refusal);
+            if refusal.is_some() {
+                first = lesser(first, refusal);
+            }
         }
         first
     }

@@ -1,11 +1,12 @@
 -- What is wrong with a statement, and with all.
-use Rattle.std.proofs.Common.{◌≡◌, ℕ, ◌≤◌, ◌↔◌, inr, Bool, true, false, IsTrue, cond, List, length, get_or, refl, sym, ◌∙◌, subst, arith, Option, Some, None}
+use Rattle.std.proofs.Common.{◌≡◌, ℕ, ◌+◌, ◌≤◌, ◌↔◌, ◌⊎◌, inr, is_some, Bool, true, false, IsTrue, cond, List, length, get_or, refl, sym, ◌∙◌, subst, arith, Option, Some, None}
+use Rattle.std.specs.List.{slice_get}
 use Rattle.std.proofs.lemmas.Bool.{false≢true}
 use Rattle.std.proofs.lemmas.Option.{slice_get_within}
-use Rattle.yv_statement.specs.Order.{IsLeast, Stands, Among, refusal_at}
+use Rattle.yv_statement.specs.Order.{IsLeast, IsLesser, Stands, Among, refusal_at}
 use Rattle.yv_statement.specs.declared.refusal.Refusal.{Refusal}
 use Rattle.yv_statement.specs.declared.refusal.Code.TheVariants as code
-use Rattle.yv_statement.proofs.Least.{least_refused, least_same}
+use Rattle.yv_statement.proofs.Least.{least_lesser, least_more, least_refused, least_same}
 use Rattle.yv_link_scopes.specs.Files.{Briefs}
 use Rattle.yv_link_scopes.specs.Rows.{Row}
 use Rattle.yv_base_graph.specs.Graph.{Graph, LeadsTo, AreOnCycles, IsFirstOnCycle}
@@ -22,6 +23,19 @@ use Rattle.yv_link_identities.proofs.Deriving.{derived_numbers, leads_derived, c
 -- a refusal where what a test decides holds
 pub decided : (P : Type 0) (flag : Bool) (r : Refusal) (result : Option Refusal) → (flag ≡ true → P) → (P → flag ≡ true) → result ≡ cond flag (Some r) None → IsLeast (Stands P r) result
 decided P flag r result to from h = subst (λ (o : Option Refusal). IsLeast (Stands P r) o) (sym h) (least_refused P flag r to from)
+
+-- one more with which nothing is wrong
+pub least_stays : {X : Type 0} (xs : List X) (P : ℕ → X → Refusal → Type 0) (i : ℕ) (x : X) (a b : Option Refusal) → slice_get xs i ≡ Some x → IsLeast (Among xs P i) a → is_some b ≡ false → IsLeast (P i x) b → IsLeast (Among xs P (i + 1)) a
+least_stays xs P i x a None at p none q = least_more xs P i x a None a at (by a) p q
+  where
+    by : (o : Option Refusal) → IsLesser o None o
+    by None = refl
+    by (Some r) = refl
+least_stays xs P i x a (Some r) at p none q = absurd (false≢true (sym none))
+
+-- the first refusal doesn't stand
+pub only_second : (P : Type 0) (flag : Bool) (r : Refusal) (Q : Refusal → Type 0) (b : Option Refusal) → (P → flag ≡ true) → flag ≡ false → IsLeast Q b → IsLeast (λ f. Stands P r f ⊎ Q f) b
+only_second P flag r Q b from unset q = least_lesser (Stands P r) Q None b b refl (λ s p. absurd (false≢true (sym unset ∙ from p.0))) q
 
 -- all of them
 pub least_all : {X : Type 0} (xs : List X) (P : ℕ → X → Refusal → Type 0) (i : ℕ) (o : Option Refusal) → length xs ≤ i → IsLeast (Among xs P i) o → IsLeast (Among xs P (length xs)) o

@@ -51,8 +51,11 @@ fn row_refusal<'a, 'b>(
 {
     let unknown = is_unknown(draft, entry);
     let cyclic = is_on_cycle(draft, cycles, number);
-    let name = refusal_if(unknown, Code::UnknownIdentity, entry.file, entry.statement);
     let cycle = refusal_if(cyclic, Code::IdentityCycle, entry.file, entry.statement);
+    if !unknown {
+        return cycle;
+    }
+    let name = refusal_if(unknown, Code::UnknownIdentity, entry.file, entry.statement);
     lesser(name, cycle)
 }
 
@@ -66,7 +69,9 @@ pub(crate) fn first_refusal(draft: &Draft<'_, '_, '_>, cycles: &[bool]) -> Optio
     let mut least = None;
     for (number, entry) in draft.rows.entries().iter().enumerate() {
         let fault = row_refusal(draft, cycles, number, entry);
-        least = lesser(least, fault);
+        if fault.is_some() {
+            least = lesser(least, fault);
+        }
     }
     least
 }

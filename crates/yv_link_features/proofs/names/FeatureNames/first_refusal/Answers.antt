@@ -1,20 +1,25 @@
-use Rattle.std.proofs.Common.{◌≡◌, ℕ, length, subst, arith}
+use Rattle.std.proofs.Common.{◌≡◌, ℕ, Some, length, sym, ◌∙◌, subst, arith}
+use Rattle.std.specs.List.{slice_get}
 use Rattle.yv_statement.specs.Order.{Among, IsLeast}
 use Rattle.yv_link_scopes.specs.Views.{rows_in}
-use Rattle.yv_link_scopes.specs.Rows.{row}
+use Rattle.yv_link_scopes.specs.Rows.{Row, row}
 use Rattle.yv_link_features.specs.Refusals.{BadRow}
 use Rattle.yv_link_features.specs.InnerNames.{means_in}
-use Rattle.yv_link_features.proofs.Least.{least_more}
+use Rattle.yv_link_features.proofs.Least.{least_more, least_stays}
 use Rattle.yv_link_features.proofs.Lists.{mapped_at, mapped_len}
 use Rattle.yv_link_features.proofs.names.FeatureNames.first_refusal.Goals as goal
+use Rattle.yv_link_features.proofs.names.FeatureNames.first_refusal.Goals.{then-is_some, else-is_some}
 
 pub loop-number-preserved : goal.loop-number-preserved
 loop-number-preserved c =
     let rows = rows_in c.args.self.now.rows.now in
-    least_more rows (BadRow (means_in c.args.self.now) rows) c.loop-number.number (row c.entry-item.result) c.loop-number.first c.refusal-refusal.result c.lesser-first.result
-    (mapped_at row _ _ c.loop-number.number c.entry-item.result c.entries-entry-items.ensures c.loop-number-test.true c.entry-item.is)
-    c.lesser-first.ensures c.loop-number.invariant
-    (c.refusal-refusal.ensures c.loop-number.number (c.requires.cycles c.loop-number.number))
+    let r : Row = row c.entry-item.result in
+    let at : slice_get rows c.loop-number.number ≡ Some r = mapped_at row _ _ c.loop-number.number c.entry-item.result c.entries-entry-items.ensures c.loop-number-test.true c.entry-item.is in
+    let own = c.refusal-refusal.ensures c.loop-number.number (c.requires.cycles c.loop-number.number) in
+    elim c.if-is_some.branch [
+      | then-is_some w ↦ rw w.first-is (least_more rows (BadRow (means_in c.args.self.now) rows) c.loop-number.number r _ _ _ at w.lesser-first.ensures c.loop-number.invariant own)
+      | else-is_some w ↦ rw w.first-is (least_stays rows (BadRow (means_in c.args.self.now) rows) c.loop-number.number r _ c.refusal-refusal.result at c.loop-number.invariant (sym c.is_some.ensures ∙ w.if-is_some.false) own)
+    ]
 
 pub returns : goal.returns
 returns c =
