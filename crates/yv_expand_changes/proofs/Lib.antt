@@ -9,3 +9,4 @@ pub mod Reading
 pub mod Saying
 pub mod Known
 pub mod Following
+pub mod KeywordKinds

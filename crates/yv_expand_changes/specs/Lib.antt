@@ -12,3 +12,4 @@ pub mod InnerIfFeatures
 pub mod InnerProperties
 pub mod InnerSequences
 pub mod Truth
+pub mod InnerKeywords

@@ -1,55 +1,45 @@
 //! Which statements may refine which nodes.
 ghost use Rattle.std.specs.{Prelude.{◌≡◌, codes, count_by}, List.{list_all}};
-ghost use Rattle.yv_link_scopes.specs.{Files.{has_word}, Rows.{is_extended}, Views.{lent_in}};
-ghost use Rattle.yv_expand_changes.specs.{AllowedRefines.{is_allowed, is_fit, may_have}, InnerAlike.{is_fit_at}};
+ghost use Rattle.yv_link_scopes.specs.{Files.{has_word}, Views.{lent_in}};
+ghost use Rattle.yv_expand_changes.specs.{AllowedRefines.{is_allowed, is_fit, may_have}, InnerAlike.{is_fit_at}, InnerKeywords.{is_allowed_by}};
 
 use yv_link_scopes::Rows;
-use yv_statement::{Statement, is_among};
-
-static WITH_DEFAULT: [&str; 3] = ["leaf", "leaf-list", "choice"];
-
-static WITH_MANDATORY: [&str; 4] = ["leaf", "choice", "anydata", "anyxml"];
-
-static WITH_PRESENCE: [&str; 1] = ["container"];
-
-static WITH_ELEMENTS: [&str; 2] = ["list", "leaf-list"];
-
-static ELEMENT_LIMITS: [&str; 2] = ["min-elements", "max-elements"];
-
-static OF_ANY_NODE: [&str; 4] = ["config", "description", "reference", "if-feature"];
-
-// Whether a keyword is an extension's.
-fn is_extended(keyword: &str) -> bool
-    ensures { result ≡ is_extended keyword.now }
-{
-    keyword.as_bytes().iter().any(|byte| *byte == b':')
-}
+use yv_statement::{Keyword, Statement};
 
 // Whether a statement of a keyword may refine a node of another keyword.
-#[tactic(auto, unfolding(crate::specs::AllowedRefines::is_allowed))]
-fn is_allowed(word: &str, target: &str) -> bool
-    ensures { result ≡ is_allowed word.now target.now }
+fn is_allowed_by(keyword: Keyword, target: Keyword) -> bool
+    ensures { result ≡ is_allowed_by keyword target }
 {
-    if word == "default" {
-        is_among(&WITH_DEFAULT, target)
-    } else if word == "mandatory" {
-        is_among(&WITH_MANDATORY, target)
-    } else if word == "presence" {
-        is_among(&WITH_PRESENCE, target)
-    } else if is_among(&ELEMENT_LIMITS, word) {
-        is_among(&WITH_ELEMENTS, target)
-    } else {
-        is_among(&OF_ANY_NODE, word) || is_extended(word)
+    match keyword {
+        Keyword::Default => matches!(target, Keyword::Leaf | Keyword::LeafList | Keyword::Choice),
+        Keyword::Mandatory => matches!(
+            target,
+            Keyword::Leaf | Keyword::Choice | Keyword::Anydata | Keyword::Anyxml
+        ),
+        Keyword::Presence => matches!(target, Keyword::Container),
+        Keyword::MinElements | Keyword::MaxElements => matches!(
+            target,
+            Keyword::List | Keyword::LeafList
+        ),
+        Keyword::Config | Keyword::Description | Keyword::Reference => true,
+        Keyword::IfFeature | Keyword::Extended => true,
+        _ => false,
     }
 }
 
-// Whether each of these statements may refine a node of a keyword.
-fn is_each_allowed(target: &str, children: &[Statement<'_>]) -> bool
-    ensures { result ≡ list_all (λ c. is_allowed c.head.keyword target.now) children.now }
+// Whether a statement may refine a node that another gives.
+fn is_allowed(statement: &Statement<'_>, target: &Statement<'_>) -> bool
+    ensures { result ≡ is_allowed statement.now.head.keyword target.now.head.keyword }
 {
-    children
-        .iter()
-        .all(|child| is_allowed(child.keyword(), target))
+    is_allowed_by(statement.kind(), target.kind())
+}
+
+// Whether each of these statements may refine a node that a statement gives.
+fn is_each_allowed(target: &Statement<'_>, children: &[Statement<'_>]) -> bool
+    ensures { result
+        ≡ list_all (λ c. is_allowed c.head.keyword target.now.head.keyword) children.now }
+{
+    children.iter().all(|child| is_allowed(child, target))
 }
 
 // How many of these statements are defaults.
@@ -58,20 +48,20 @@ fn defaults(children: &[Statement<'_>]) -> usize
 {
     children
         .iter()
-        .filter(|child| child.keyword() == "default")
+        .filter(|child| child.is(Keyword::Default))
         .count()
 }
 
-// Whether a node of a keyword may have so many defaults.
-fn may_have(target: &str, defaults: usize) -> bool
-    ensures { result ≡ may_have target.now defaults }
+// Whether a node that a statement gives may have so many defaults.
+fn may_have(target: &Statement<'_>, defaults: usize) -> bool
+    ensures { result ≡ may_have target.now.head.keyword defaults }
 {
-    target == "leaf-list" || defaults <= 1
+    target.is(Keyword::LeafList) || defaults <= 1
 }
 
-// Whether a refine is fit for a node of a keyword.
-fn is_fit(target: &str, refine: &Statement<'_>) -> bool
-    ensures { result ≡ is_fit target.now refine.now }
+// Whether a refine is fit for a node that a statement gives.
+fn is_fit(target: &Statement<'_>, refine: &Statement<'_>) -> bool
+    ensures { result ≡ is_fit target.now.head.keyword refine.now }
 {
     let children = refine.children();
     is_each_allowed(target, children) && may_have(target, defaults(children))
@@ -85,7 +75,7 @@ pub(crate) fn is_fit_at(rows: &Rows<'_, '_>, statement: Option<usize>, refine: u
         return false;
     };
     match (rows.entries().get(number), rows.statement(refine)) {
-        (Some(entry), Some(statement)) => is_fit(entry.statement.keyword(), statement),
+        (Some(entry), Some(statement)) => is_fit(entry.statement, statement),
         _ => false,
     }
 }

@@ -13,14 +13,14 @@ use yv_expand_refines::Changes;
 use yv_expand_uses::Spot;
 use yv_link::Linked;
 use yv_link_scopes::{Rows, name_of};
-use yv_statement::Statement;
+use yv_statement::{Keyword, Statement};
 
 // Whether a statement is no condition, or holds in the file.
 fn holds<'a, 'b>(linked: &Linked<'a, 'b>, file: u32, statement: &'a Statement<'b>) -> bool
     ensures { result ≡ (not (has_word (codes "if-feature") statement.now.head)
         || truth_in linked.now file (name_at statement.now.head)) }
 {
-    statement.keyword() != "if-feature" || linked.holds(file, name_of(statement))
+    !statement.is(Keyword::IfFeature) || linked.holds(file, name_of(statement))
 }
 
 // Whether each condition of a statement of a file holds.

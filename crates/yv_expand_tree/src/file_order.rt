@@ -7,7 +7,7 @@ ghost use Rattle.yv_expand_tree.specs.FileOrder.{is_given, marks_of, order_of, p
 use std::alloc::{AllocError, Global};
 use yv_base_tables::Families;
 use yv_link_scopes::Rows;
-use yv_statement::{Selection, Statement};
+use yv_statement::{Keyword, Selection, Statement};
 
 /// A mark for each file that belongs to a module that is implemented.
 pub(crate) fn marks(
@@ -54,7 +54,7 @@ fn part_places(alloc: Global, rows: &Rows<'_, '_>) -> Result<Vec<Option<usize>>,
 fn is_given(selection: &Selection, root: &Statement<'_>) -> bool
     ensures { result ≡ is_given (selected_of selection.now) root.now }
 {
-    root.keyword() == "module" && selection.is_implemented(root.argument().unwrap_or(""))
+    root.is(Keyword::Module) && selection.is_implemented(root.argument().unwrap_or(""))
 }
 
 /// The files of the implemented modules in the order of the schema: module by module, the module's
