@@ -61,14 +61,13 @@ impl<'r, 'a, 'b> Draft<'r, 'a, 'b> {
 pub(crate) fn is_of(kind: NameKind, entry: &Entry<'_, '_>) -> bool
     ensures { result ≡ is_of kind (row entry.now) }
 {
-    let statement = entry.statement;
     match kind {
-        NameKind::Prefix => statement.is(Keyword::Prefix),
-        NameKind::Include => statement.is(Keyword::Include),
-        NameKind::Typedef => statement.is(Keyword::Typedef),
-        NameKind::Grouping => statement.is(Keyword::Grouping),
-        NameKind::Feature => statement.is(Keyword::Feature),
-        NameKind::Identity => statement.is(Keyword::Identity),
-        NameKind::Extension => statement.is(Keyword::Extension),
+        NameKind::Prefix => entry.is(Keyword::Prefix),
+        NameKind::Include => entry.is(Keyword::Include),
+        NameKind::Typedef => entry.is(Keyword::Typedef),
+        NameKind::Grouping => entry.is(Keyword::Grouping),
+        NameKind::Feature => entry.is(Keyword::Feature),
+        NameKind::Identity => entry.is(Keyword::Identity),
+        NameKind::Extension => entry.is(Keyword::Extension),
     }
 }

@@ -17,10 +17,7 @@ pub(crate) fn is_missing<'a>(rows: &Rows<'a, '_>, entry: &Entry<'a, '_>) -> bool
 fn is_link(entry: &Entry<'_, '_>) -> bool
     ensures { result ≡ is_link (row entry.now).head }
 {
-    let statement = entry.statement;
-    statement.is(Keyword::Import)
-        || statement.is(Keyword::Include)
-        || statement.is(Keyword::BelongsTo)
+    entry.is(Keyword::Import) || entry.is(Keyword::Include) || entry.is(Keyword::BelongsTo)
 }
 
 // Whether a statement in a file of this module names a file of the wrong kind.
