@@ -1,14 +1,14 @@
 // Statements from tokens, one at a time.
 
 ghost use Rattle.std.specs.{Prelude.{◌≡◌, ◌≤◌, length, IfOk, reverse, MatchResult}, Cow.{cow_str_bytes}};
-ghost use Rattle.yv_source.specs.{Inner.Machine.{Next, step_at, between_at, start_at, after_keyword, after_argument, after_quoted, after_plus, give_word, give_quoted, close, finish}, Inner.Steps.{Gives, piece_of}, Inner.Place.{AreCounted, place_of}, Legal.{most_bytes}, Outcome.{most_deep}};
+ghost use Rattle.yv_source.specs.{Inner.Machine.{Next, is_keyword, step_at, between_at, start_at, after_keyword, after_argument, after_quoted, after_plus, give_word, give_quoted, close, finish}, Inner.Steps.{Gives, piece_of}, Inner.Place.{AreCounted, place_of}, Legal.{most_bytes}, Outcome.{most_deep}};
 
 use crate::double_quotes::read_quoted;
 use crate::identifier::is_keyword;
 use crate::place::Lines;
 use std::alloc::{AllocError, AllocFailed, Global};
 use std::borrow::CowStr;
-use yv_statement::Statement;
+use yv_statement::{Keyword, Statement};
 
 /// How deep a statement may be, the outermost having depth 1.
 const MOST_DEEP: usize = 64;
@@ -122,15 +122,27 @@ fn start<'a>(
         (start_at most_deep (reverse stack.old.items) (place_of front.now) keyword.now) }
     ensures counts { AreCounted lines.new front.now }
 {
-    if !is_keyword(keyword.as_bytes()) {
+    let line = lines.line_after(front);
+    let statement = Statement::new(alloc, keyword, line as u64, front.len() as u64);
+    if !has_keyword(&statement) {
         return Err(Halt::Wrong);
     }
     if stack.len() >= MOST_DEEP {
         return Err(Halt::Deep);
     }
-    let line = lines.line_after(front);
-    stack.push(Statement::new(alloc, keyword, line as u64, front.len() as u64))?;
+    stack.push(statement)?;
     Ok(Phase::Named)
+}
+
+// Whether a statement's keyword is one. Those that the statement knows are, and need no look at
+// their characters.
+fn has_keyword(statement: &Statement<'_>) -> bool
+    ensures { result ≡ is_keyword statement.now.head.keyword }
+{
+    if statement.is(Keyword::Unknown) || statement.is(Keyword::Extended) {
+        return is_keyword(statement.keyword().as_bytes());
+    }
+    true
 }
 
 // Gives the innermost statement its argument.
