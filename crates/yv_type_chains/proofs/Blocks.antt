@@ -1,93 +1,11 @@
--- The types in each block, as they are listed statement by statement.
-use Rattle.std.proofs.Common.{◌≡◌, ℕ, ◌+◌, ◌<◌, ◌==◌, ◌&&◌, inl, inr, zero, suc, Bool, true, false, cond, List, [], ◌∷◌, ◌++◌, length, take, set, get_or, refl, sym, ◌∙◌, ap, subst, arith, Option, Some, append_assoc, add-one, length-set, get_or-set_same, eqb-true, eq-eqb}
+-- The types in each block.
+use Rattle.std.proofs.Common.{◌≡◌, ℕ, ◌+◌, ◌<◌, inl, inr, zero, suc, Bool, true, false, cond, List, [], ◌∷◌, length, refl, sym, ◌∙◌, ap, subst, arith, Some}
 use Rattle.std.specs.List.{slice_get, Contains}
-use Rattle.std.specs.Option.{option_map, unwrap_or}
-use Rattle.std.specs.declared.vec.Vec.{Vec}
-use Rattle.std.specs.declared.alloc.Global.{Global}
-use Rattle.std.proofs.lemmas.Bool.{cases_eq, false≢true}
-use Rattle.std.proofs.lemmas.List.{append-nil}
+use Rattle.std.proofs.lemmas.Bool.{false≢true}
 use Rattle.std.proofs.lemmas.List.Elements.{Contains-append_left, Contains-append_right, Contains-append_cases}
-use Rattle.std.proofs.lemmas.Option.{same_Some, slice_get_within, slice_get_read}
+use Rattle.std.proofs.lemmas.Option.{same_Some, slice_get_within}
 use Rattle.yv_link_scopes.specs.Rows.{Row}
-use Rattle.yv_type_chains.specs.Types.{is_inner, is_type_in, types_from, types_in}
-use Rattle.yv_type_chains.specs.InnerTables.{items_at}
-
-module _ (block : ℕ) where
-  abbrev entry_of : ℕ → Row → List ℕ
-  entry_of n r = cond (is_type_in block n r) (n ∷ []) []
-
-  types_next : (n i : ℕ) (rows : List Row) (r : Row) → slice_get rows i ≡ Some r → types_from block n (take (suc i) rows) ≡ types_from block n (take i rows) ++ entry_of (n + i) r
-  types_next n i [] r at = cc
-  types_next n zero (s ∷ rows) r at =
-      let k : n ≡ n + 0 = omega arith in
-      append-nil (entry_of n s) ∙ ap (entry_of n) (same_Some s r at) ∙ ap (λ m. entry_of m r) k
-  types_next n (suc i) (s ∷ rows) r at =
-      let k : n + 1 + i ≡ n + suc i = omega arith in
-      ap (λ xs. entry_of n s ++ xs) (types_next (n + 1) i rows r at)
-      ∙ sym (append_assoc (entry_of n s) (types_from block (n + 1) (take i rows)) (entry_of (n + 1 + i) r))
-      ∙ ap (λ m. (entry_of n s ++ types_from block (n + 1) (take i rows)) ++ entry_of m r) k
-
-  pub types_more : (i : ℕ) (rows : List Row) (r : Row) → slice_get rows i ≡ Some r → types_in (take (i + 1) rows) block ≡ types_in (take i rows) block ++ entry_of i r
-  types_more i rows r at =
-      let k : 0 + i ≡ i = omega arith in
-      ap (λ m. types_in (take m rows) block) (add-one i) ∙ types_next 0 i rows r at ∙ ap (λ m. types_in (take i rows) block ++ entry_of m r) k
-
--- a list at a place is another one
-pub items_of : (g : List (Vec ℕ Global)) (k : ℕ) (v : Vec ℕ Global) → k < length g → v ≡ get_or g k v → items_at g k ≡ v.items
-items_of g k v h e = ap (λ (o : Option (Vec ℕ Global)). unwrap_or (option_map (λ (x : Vec ℕ Global). x.items) o) []) (slice_get_read g (length g) k v refl h e)
-
-items_here : (g : List (Vec ℕ Global)) (own : ℕ) (v : Vec ℕ Global) → own < length g → items_at (set g own v) own ≡ v.items
-items_here g own v h = items_of (set g own v) own v (rw length-set h) (sym (get_or-set_same g own v v h))
-
-items_else : (g : List (Vec ℕ Global)) (own k : ℕ) (v d : Vec ℕ Global) → ((k ≡ own) → ⊥) → items_at (set g own v) k ≡ items_at g k
-items_else [] own k v d ne = refl
-items_else (x ∷ g) zero zero v d ne = absurd (ne refl)
-items_else (x ∷ g) zero (suc k) v d ne = refl
-items_else (x ∷ g) (suc own) zero v d ne = refl
-items_else (x ∷ g) (suc own) (suc k) v d ne = items_else g own k v d (λ e. ne (ap suc e))
-
-abbrev pub Listed : List Row → ℕ → List (Vec ℕ Global) → Type 0
-Listed rows n g = (block : ℕ) → items_at g block ≡ types_in (take n rows) block
-
-plain_end : (b : Bool) (xs : List ℕ) (i : ℕ) → b ≡ false → xs ≡ xs ++ cond b (i ∷ []) []
-plain_end b xs i e = sym (append-nil xs) ∙ ap (λ c. xs ++ cond c (i ∷ []) []) (sym e)
-
-other_block : (s block : ℕ) → ((s ≡ block) → ⊥) → (s == block) ≡ false
-other_block s block ne = by (s == block) refl
-  where
-    by : (b : Bool) → (s == block) ≡ b → (s == block) ≡ false
-    by true e = absurd (ne (eqb-true s block e))
-    by false e = e
-
-and_false : (a b : Bool) → b ≡ false → (a && b) ≡ false
-and_false true b h = h
-and_false false b h = refl
-
--- one more statement, which is no type
-pub listed_other : (rows : List Row) (n : ℕ) (g : List (Vec ℕ Global)) (r : Row) → slice_get rows n ≡ Some r → is_inner n r ≡ false → Listed rows n g → Listed rows (n + 1) g
-listed_other rows n g r at out old block =
-    old block
-    ∙ plain_end (is_type_in block n r) (types_in (take n rows) block) n (ap (λ b. b && (r.scope == block)) out)
-    ∙ sym (types_more block n rows r at)
-
--- one more type
-pub listed_type : (rows : List Row) (n : ℕ) (g g' : List (Vec ℕ Global)) (r : Row) (v v' : Vec ℕ Global) → slice_get rows n ≡ Some r → is_inner n r ≡ true → r.scope < length g → v ≡ get_or g r.scope v → v'.items ≡ v.items ++ n ∷ [] → g' ≡ set g r.scope v' → Listed rows n g → Listed rows (n + 1) g'
-listed_type rows n g g' r v v' at is h e more now old block = elim (cases_eq r.scope block) [
-  | inl same ↦
-      ap (λ (x : List (Vec ℕ Global)). items_at x block) now
-      ∙ ap (items_at (set g r.scope v')) (sym same)
-      ∙ items_here g r.scope v' h
-      ∙ more
-      ∙ ap (λ xs. xs ++ n ∷ []) (sym (items_of g r.scope v h e) ∙ ap (items_at g) same ∙ old block)
-      ∙ ap (λ b. types_in (take n rows) block ++ cond b (n ∷ []) []) (sym (ap (λ b. b && (r.scope == block)) is ∙ eq-eqb r.scope block same))
-      ∙ sym (types_more block n rows r at)
-  | inr ne ↦
-      ap (λ (x : List (Vec ℕ Global)). items_at x block) now
-      ∙ items_else g r.scope block v' v' (λ b. ne (sym b))
-      ∙ old block
-      ∙ plain_end (is_type_in block n r) (types_in (take n rows) block) n (and_false (is_inner n r) (r.scope == block) (other_block r.scope block ne))
-      ∙ sym (types_more block n rows r at)
-]
+use Rattle.yv_type_chains.specs.Types.{is_type_in, types_from, types_in}
 
 nothing_in : (m : ℕ) → Contains [] m → ⊥
 nothing_in m c = omega (arith, c.1)
@@ -103,6 +21,9 @@ perhaps_in false n m c = absurd (nothing_in m c)
 is_in : (b : Bool) (n : ℕ) → b ≡ true → Contains (cond b (n ∷ []) []) n
 is_in true n e = (0, omega arith, refl)
 is_in false n e = absurd (false≢true e)
+
+abbrev entry_of : ℕ → ℕ → Row → List ℕ
+entry_of block n r = cond (is_type_in block n r) (n ∷ []) []
 
 module _ (block : ℕ) where
   -- a listed type is a type in the block

@@ -13,3 +13,4 @@ pub mod Judging
 pub mod Once
 pub mod Sifting
 pub mod Families
+pub mod Pairing

@@ -10,6 +10,7 @@ use crate::slots::get;
 use crate::steps::is_kind;
 use yv_link_definitions::is_built_in;
 use yv_link_scopes::{Entry, name_of};
+use yv_statement::Statement;
 
 // Whether a statement is a type that names a typedef.
 fn is_derived(entry: &Entry<'_, '_>) -> bool
@@ -31,13 +32,14 @@ impl<'a, 'b> Draft<'_, 'a, 'b> {
     }
 
     // Whether a restriction is none of the built-in type to which a type leads.
-    fn is_foreign(&self, bases: &[Option<usize>], number: usize, word: &str) -> bool
+    fn is_foreign(&self, bases: &[Option<usize>], number: usize, statement: &Statement<'_>) -> bool
         ensures { AreBased (files_in self.now.rows.now) (rows_in self.now.rows.now) bases.now
             → IsTrue result
-            ↔ IsForeign (files_in self.now.rows.now) (rows_in self.now.rows.now) number word.now }
+            ↔ IsForeign (files_in self.now.rows.now) (rows_in self.now.rows.now) number
+            statement.now.head.keyword }
     {
         match self.kind(bases, number) {
-            Some(kind) => is_foreign(kind, word),
+            Some(kind) => is_foreign(kind, statement),
             None => false,
         }
     }
@@ -53,10 +55,11 @@ impl<'a, 'b> Draft<'_, 'a, 'b> {
     }
 
     // Whether a type names a typedef, and a substatement is one that no derived type takes.
-    fn is_inherited(&self, number: usize, word: &str) -> bool
-        ensures { IsTrue result ↔ IsInherited (rows_in self.now.rows.now) number word.now }
+    fn is_inherited(&self, number: usize, statement: &Statement<'_>) -> bool
+        ensures { IsTrue result
+            ↔ IsInherited (rows_in self.now.rows.now) number statement.now.head.keyword }
     {
-        self.is_derived_at(number) && is_of_built_in(word)
+        self.is_derived_at(number) && is_of_built_in(statement)
     }
 
     // Whether a statement is a union.
@@ -81,9 +84,8 @@ impl<'a, 'b> Draft<'_, 'a, 'b> {
             ↔ IsMisfit (files_in self.now.rows.now) (rows_in self.now.rows.now) number
             (row entry.now) }
     {
-        let word = entry.statement.keyword();
-        let inherited = self.is_inherited(number, word);
-        let foreign = self.is_foreign(bases, number, word);
+        let inherited = self.is_inherited(number, entry.statement);
+        let foreign = self.is_foreign(bases, number, entry.statement);
         inherited || foreign
     }
 
@@ -92,7 +94,7 @@ impl<'a, 'b> Draft<'_, 'a, 'b> {
         ensures { IsTrue result ↔ Meets (rows_in self.now.rows.now) number (row entry.now) }
     {
         match self.rows.entries().get(number) {
-            Some(outer) => needs(name_of(outer.statement), entry.statement.keyword()),
+            Some(outer) => needs(name_of(outer.statement), entry.statement),
             None => false,
         }
     }
@@ -123,7 +125,6 @@ impl<'a, 'b> Draft<'_, 'a, 'b> {
             (row entry.now) }
     {
         let leafref = self.is_leafref(bases, number);
-        let union = self.is_union_at(entry.scope);
-        leafref && union
+        leafref && self.is_union_at(entry.scope)
     }
 }

@@ -1,9 +1,8 @@
-use Rattle.std.proofs.Common.{List, inl, inr, sym, ◌∙◌, subst}
+use Rattle.std.proofs.Common.{List, inl, inr, sym, ◌∙◌}
 use Rattle.std.proofs.lemmas.Bool.{false≢true}
 use Rattle.yv_link_scopes.specs.Files.{Briefs}
 use Rattle.yv_link_scopes.specs.Rows.{Row, row}
 use Rattle.yv_link_scopes.specs.Views.{files_in, rows_in}
-use Rattle.yv_type_chains.specs.InnerMarks.{IsForeign, IsInherited}
 use Rattle.yv_type_chains.proofs.Fitting.{misfit_by, misfit_of}
 use Rattle.yv_type_chains.proofs.draft.Draft.is_misfit.Goals as goal
 
@@ -11,7 +10,7 @@ pub returns-then-inherited : goal.returns-then-inherited
 returns-then-inherited c = λ based.
     let files : Briefs = files_in c.args.self.now.rows.now in
     let rows : List Row = rows_in c.args.self.now.rows.now in (
-      λ h. misfit_of files rows c.args.number (row c.args.entry.now) (inl (subst (λ word. IsInherited rows c.args.number word) c.keyword-word.ensures (c.is_inherited-inherited.ensures.0 h))),
+      λ h. misfit_of files rows c.args.number (row c.args.entry.now) (inl (c.is_inherited-inherited.ensures.0 h)),
       λ m. c.if-inherited.true,
     )
 
@@ -19,9 +18,9 @@ pub returns-else-inherited : goal.returns-else-inherited
 returns-else-inherited c = λ based.
     let files : Briefs = files_in c.args.self.now.rows.now in
     let rows : List Row = rows_in c.args.self.now.rows.now in (
-      λ h. misfit_of files rows c.args.number (row c.args.entry.now) (inr (subst (λ word. IsForeign files rows c.args.number word) c.keyword-word.ensures ((c.is_foreign-foreign.ensures based).0 h))),
+      λ h. misfit_of files rows c.args.number (row c.args.entry.now) (inr ((c.is_foreign-foreign.ensures based).0 h)),
       λ m. elim (misfit_by files rows c.args.number (row c.args.entry.now) m) [
-        | inl p ↦ absurd (false≢true (sym c.if-inherited.false ∙ c.is_inherited-inherited.ensures.1 (subst (λ word. IsInherited rows c.args.number word) (sym c.keyword-word.ensures) p)))
-        | inr p ↦ (c.is_foreign-foreign.ensures based).1 (subst (λ word. IsForeign files rows c.args.number word) (sym c.keyword-word.ensures) p)
+        | inl p ↦ absurd (false≢true (sym c.if-inherited.false ∙ c.is_inherited-inherited.ensures.1 p))
+        | inr p ↦ (c.is_foreign-foreign.ensures based).1 p
       ],
     )

@@ -11,7 +11,7 @@ pub returns-in-Some : goal.returns-in-Some
 returns-in-Some c =
     let rows : List Row = rows_in c.args.self.now.rows.now in
     let at : slice_get rows c.args.number ≡ Some (row c.in-Some.outer.now) = row_read row _ rows c.args.number c.in-Some.outer.now c.entries.ensures c.in-Some.ensures.lookup.3.0 c.in-Some.ensures.lookup.1 in
-    passes_here (λ r. needs (name_in r) (row c.args.entry.now).head.keyword) rows c.args.number (row c.in-Some.outer.now) c.needs.result at (c.needs.ensures ∙ ap (λ kind. needs kind c.keyword.result.now) c.name_of.ensures ∙ ap (needs (name_in (row c.in-Some.outer.now))) c.keyword.ensures)
+    passes_here (λ r. needs (name_in r) (row c.args.entry.now).head.keyword) rows c.args.number (row c.in-Some.outer.now) c.needs.result at (c.needs.ensures ∙ ap (λ kind. needs kind (row c.args.entry.now).head.keyword) c.name_of.ensures)
 
 pub returns-in-None : goal.returns-in-None
 returns-in-None c =
