@@ -1,14 +1,14 @@
 -- The base of a type.
-use Rattle.std.proofs.Common.{◌≡◌, ℕ, ◌<◌, ◌↔◌, ◌⊎◌, inl, inr, not, Bool, true, false, List, length, refl, sym, ◌∙◌, ap, subst, Option, Some, None}
+use Rattle.std.proofs.Common.{◌≡◌, ℕ, ◌↔◌, ◌⊎◌, inl, inr, not, Bool, true, false, List, refl, sym, ◌∙◌, ap, subst, Option, Some, None}
 use Rattle.std.proofs.lemmas.Bool.{false≢true}
-use Rattle.std.proofs.lemmas.Option.{same_Some, slice_get_within}
+use Rattle.std.proofs.lemmas.Option.{same_Some}
 use Rattle.yv_link_scopes.specs.Files.{Briefs}
 use Rattle.yv_link_scopes.specs.Rows.{Row, name_in}
 use Rattle.yv_link_definitions.specs.BuiltIn.{is_built_in}
-use Rattle.yv_type_chains.specs.Types.{Follows, HasBase, built_in, through_typedef}
+use Rattle.yv_type_chains.specs.Types.{Follows, HasBase, IsTypeAt, built_in, through_typedef}
 use Rattle.yv_type_chains.specs.InnerBase.{NamesBuiltIn}
 use Rattle.yv_type_chains.specs.InnerTables.{AreFollowed, at}
-use Rattle.yv_type_chains.proofs.Following.{follower_within, names_type}
+use Rattle.yv_type_chains.proofs.Following.{names_type}
 
 not_both : (b : Bool) → b ≡ true → not b ≡ true → ⊥
 not_both true h g = false≢true g
@@ -22,9 +22,9 @@ module _ (files : Briefs) (rows : List Row) where
   base_by (built_in {r = r} here is named) = inl (record { statement = r; at = here; is = is; named = named }, refl)
   base_by (through_typedef {j = j} f h) = inr (j, f, h)
 
-  pub base_within : {k b : ℕ} → HasBase files rows k b → k < length rows
-  base_within {k} (built_in {r = r} here is named) = slice_get_within rows k r here
-  base_within {k} (through_typedef {j = j} f h) = follower_within files rows k j f
+  pub base_type : {k b : ℕ} → HasBase files rows k b → IsTypeAt rows k
+  base_type {k} (built_in {r = r} here is named) = (r, here, is)
+  base_type {k} (through_typedef {j = j} f h) = (f.refers.statement, f.refers.at, (names_type files rows k f.definition f.refers.statement f.refers.at f.refers).0)
 
   -- what names a built-in type follows none
   pub apart : (k j : ℕ) → NamesBuiltIn rows k → Follows files rows k j → ⊥

@@ -1,12 +1,12 @@
 -- How many plain types the values of a type may have.
-use Rattle.std.proofs.Common.{◌≡◌, ℕ, ◌+◌, ◌<◌, ◌⊎◌, inl, inr, suc, true, false, List, [], ◌∷◌, length, refl, sym, ◌∙◌, ap, subst, arith, Option, Some, None, codes}
+use Rattle.std.proofs.Common.{◌≡◌, ℕ, ◌+◌, ◌⊎◌, inl, inr, suc, true, false, List, [], ◌∷◌, refl, sym, ◌∙◌, ap, subst, arith, Option, Some, None, codes}
 use Rattle.std.specs.List.{slice_get, Contains}
 use Rattle.std.specs.Option.{option_and_then}
 use Rattle.std.proofs.lemmas.Bool.{false≢true}
-use Rattle.std.proofs.lemmas.Option.{same_Some, slice_get_within}
+use Rattle.std.proofs.lemmas.Option.{same_Some}
 use Rattle.yv_link_scopes.specs.Files.{Briefs}
 use Rattle.yv_link_scopes.specs.Rows.{Row, name_in}
-use Rattle.yv_type_chains.specs.Types.{Follows, RestsOn, is_leafref, is_union, types_in}
+use Rattle.yv_type_chains.specs.Types.{Follows, IsTypeAt, RestsOn, is_leafref, is_union, types_in}
 use Rattle.yv_type_chains.specs.Counts.{Counts, CountAll, leafref, union, plain, through_typedef, none, more}
 use Rattle.yv_type_chains.specs.InnerBase.{NamesBuiltIn}
 use Rattle.yv_type_chains.specs.InnerCounts.{IsCount, cap, total_from}
@@ -18,7 +18,7 @@ use Rattle.std.proofs.lemmas.Slice.Eq.{bytes_eq-Decides}
 use Rattle.yv_type_chains.proofs.Words.{both_true}
 use Rattle.yv_type_chains.proofs.Blocks.{type_in}
 use Rattle.yv_type_chains.proofs.Basing.{apart, no_number}
-use Rattle.yv_type_chains.proofs.Following.{follower_within}
+use Rattle.yv_type_chains.proofs.Following.{names_type}
 use Rattle.yv_type_chains.proofs.Ordering.{union_built_in}
 
 pub leafref_built_in : (r : Row) → is_leafref r ≡ true → is_built_in (name_in r) ≡ true
@@ -35,11 +35,11 @@ one_kind r h g =
     ∙ (bytes_eq-Decides (name_in r) (codes "union")).0 (both_true (is_type r) (bytes_eq (name_in r) (codes "union")) g).1)
 
 module _ (files : Briefs) (rows : List Row) where
-  pub count_within : {k n : ℕ} → Counts files rows k n → k < length rows
-  count_within {k} (leafref {r = r} here is) = slice_get_within rows k r here
-  count_within {k} (union {r = r} here is all) = slice_get_within rows k r here
-  count_within {k} (plain {r = r} here is named out apart) = slice_get_within rows k r here
-  count_within {k} (through_typedef {j = j} f h) = follower_within files rows k j f
+  pub count_type : {k n : ℕ} → Counts files rows k n → IsTypeAt rows k
+  count_type {k} (leafref {r = r} here is) = (r, here, (both_true (is_type r) (bytes_eq (name_in r) (codes "leafref")) is).0)
+  count_type {k} (union {r = r} here is all) = (r, here, (both_true (is_type r) (bytes_eq (name_in r) (codes "union")) is).0)
+  count_type {k} (plain {r = r} here is named out apart) = (r, here, is)
+  count_type {k} (through_typedef {j = j} f h) = (f.refers.statement, f.refers.at, (names_type files rows k f.definition f.refers.statement f.refers.at f.refers).0)
 
   behind_head : (m j : ℕ) (ms : List ℕ) → Contains ms j → Contains (m ∷ ms) j
   behind_head m j ms c = (suc c.0, let l = c.1 in omega (arith, l), c.2)

@@ -1,7 +1,7 @@
 //! The built-in types to which types lead.
 ghost use Rattle.std.specs.Prelude.{◌≡◌, ◌↔◌, ℕ, Some, IfOk, IsTrue};
 ghost use Rattle.yv_link_scopes.specs.Views.{files_in, rows_in};
-ghost use Rattle.yv_type_chains.specs.{Types.{Follows, HasBase}, InnerOrder.{IsOrderOfAll}, InnerBase.{NamesBuiltIn}, InnerTables.{AreBased, AreFollowed, at}};
+ghost use Rattle.yv_type_chains.specs.{Types.{Follows, HasBase, IsOrderOfTypes}, InnerBase.{NamesBuiltIn}, InnerTables.{AreBased, AreFollowed, at}};
 
 use crate::draft::Draft;
 use crate::inside::is_type;
@@ -49,7 +49,7 @@ impl Draft<'_, '_, '_> {
         ensures { IfOk result
             (λ bases. AreFollowed (files_in self.now.rows.now) (rows_in self.now.rows.now)
             self.now.follows.items
-            → IsOrderOfAll (files_in self.now.rows.now) (rows_in self.now.rows.now) order.now
+            → IsOrderOfTypes (files_in self.now.rows.now) (rows_in self.now.rows.now) order.now
             → AreBased (files_in self.now.rows.now) (rows_in self.now.rows.now) bases.items) }
     {
         let mut bases = no_numbers(alloc, self.rows.entries().len())?;

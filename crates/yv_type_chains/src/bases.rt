@@ -33,9 +33,9 @@ impl Bases {
     {
         let draft = Draft::read(alloc, rows, names)?;
         let all = draft.order(alloc)?;
-        let found = Findings::read(alloc, &draft, &all)?;
-        let fault = draft.first_refusal(&found);
         let order = draft.types_only(alloc, &all)?;
+        let found = Findings::read(alloc, &draft, &order)?;
+        let fault = draft.first_refusal(&found);
         let bases = found.bases;
         let follows = draft.follows;
         Ok(Bases {

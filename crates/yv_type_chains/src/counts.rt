@@ -1,7 +1,7 @@
 //! How many plain types the values of a type may have.
 ghost use Rattle.std.specs.Prelude.{◌≡◌, ◌+◌, ℕ, IfOk};
 ghost use Rattle.yv_link_scopes.specs.Views.{files_in, rows_in};
-ghost use Rattle.yv_type_chains.specs.{Types.{RestsOn}, InnerOrder.{IsOrderOfAll}, InnerTables.{AreFollowed, at}, InnerCounts.{AreCounts, IsCount, cap, total_from}};
+ghost use Rattle.yv_type_chains.specs.{Types.{IsOrderOfTypes, RestsOn}, InnerTables.{AreFollowed, at}, InnerCounts.{AreCounts, IsCount, cap, total_from}};
 
 use crate::draft::Draft;
 use crate::slots::{get, no_numbers, put};
@@ -69,7 +69,7 @@ impl Draft<'_, '_, '_> {
         ensures { IfOk result
             (λ counts. AreFollowed (files_in self.now.rows.now) (rows_in self.now.rows.now)
             self.now.follows.items
-            → IsOrderOfAll (files_in self.now.rows.now) (rows_in self.now.rows.now) order.now
+            → IsOrderOfTypes (files_in self.now.rows.now) (rows_in self.now.rows.now) order.now
             → AreCounts (files_in self.now.rows.now) (rows_in self.now.rows.now) counts.items) }
     {
         let mut counts = no_numbers(alloc, self.rows.entries().len())?;

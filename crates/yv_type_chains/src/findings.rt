@@ -1,7 +1,7 @@
 //! What is found on the types before they are judged.
 ghost use Rattle.std.specs.Prelude.{◌≡◌, IfOk};
 ghost use Rattle.yv_link_scopes.specs.Views.{files_in, rows_in};
-ghost use Rattle.yv_type_chains.specs.{InnerOrder.{IsOrderOfAll}, InnerTables.{AreFollowed}, InnerFindings.{AreFound}};
+ghost use Rattle.yv_type_chains.specs.{Types.{IsOrderOfTypes}, InnerTables.{AreFollowed}, InnerFindings.{AreFound}};
 
 use crate::draft::Draft;
 use std::alloc::{AllocError, Global};
@@ -26,7 +26,7 @@ impl Findings {
         ensures { IfOk result
             (λ found. AreFollowed (files_in draft.now.rows.now) (rows_in draft.now.rows.now)
             draft.now.follows.items
-            → IsOrderOfAll (files_in draft.now.rows.now) (rows_in draft.now.rows.now) order.now
+            → IsOrderOfTypes (files_in draft.now.rows.now) (rows_in draft.now.rows.now) order.now
             → AreFound (files_in draft.now.rows.now) (rows_in draft.now.rows.now) found) }
     {
         let bases = draft.bases(alloc, order)?;

@@ -20,10 +20,10 @@ returns c files is given =
     let followed : AreFollowed (files_in own) (rows_in own) c.in_ok-draft.draft.follows.items =
     subst (λ (x : Rows). AreFollowed (files_in x) (rows_in x) c.in_ok-draft.draft.follows.items) (sym same) (c.in_ok-draft.ensures.follows lent) in
     let every : IsOrderOfAll (files_in own) (rows_in own) c.in_ok-all.all.items = c.in_ok-all.ensures c.args.names.now names followed in
-    let found : AreFound (files_in own) (rows_in own) c.in_ok-found.found =
-    c.in_ok-found.ensures followed (subst (λ xs. IsOrderOfAll (files_in own) (rows_in own) xs) (sym c.deref.ensures.value) every) in
     let order : IsOrderOfTypes (files_in own) (rows_in own) c.in_ok-order.order.items =
-    c.in_ok-order.ensures (subst (λ xs. IsOrderOfAll (files_in own) (rows_in own) xs) (sym c.deref-2.ensures.value) every) in
+    c.in_ok-order.ensures (subst (λ xs. IsOrderOfAll (files_in own) (rows_in own) xs) (sym c.deref.ensures.value) every) in
+    let found : AreFound (files_in own) (rows_in own) c.in_ok-found.found =
+    c.in_ok-found.ensures followed (subst (λ xs. IsOrderOfTypes (files_in own) (rows_in own) xs) (sym c.deref-2.ensures.value) order) in
     let bases : Bases = record { bases = c.in_ok-found.found.bases; follows = c.in_ok-draft.draft.follows; order = c.in_ok-order.order; fault = c.first_refusal-fault.result } in
     let all : AreBases (lent_in own) bases = record { based = found.based; followed = followed; order = order; least = c.first_refusal-fault.ensures found } in
     subst (λ (fs : Files). AreBases fs bases) (ap lent_in same ∙ is) all

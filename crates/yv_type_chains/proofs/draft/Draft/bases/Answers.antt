@@ -5,8 +5,8 @@ use Rattle.yv_link_scopes.specs.Files.{Briefs}
 use Rattle.yv_link_scopes.specs.Views.{files_in, rows_in}
 use Rattle.yv_type_chains.specs.Types.{Follows, HasBase}
 use Rattle.yv_type_chains.specs.InnerTables.{at}
-use Rattle.yv_type_chains.proofs.Basing.{base_within, no_number}
-use Rattle.yv_type_chains.proofs.Walking.{walk_all, walk_more}
+use Rattle.yv_type_chains.proofs.Basing.{base_type, no_number}
+use Rattle.yv_type_chains.proofs.Walking.{keep_empty, order_within, walk_more, walk_types}
 use Rattle.yv_type_chains.proofs.draft.Draft.bases.Goals as goal
 
 pub loop-number-preserved : goal.loop-number-preserved
@@ -16,8 +16,9 @@ loop-number-preserved c =
     let n : ℕ = slice_index c.args.order.now c.loop-number.number-index in
     record {
       each = c.put.ensures.each ∙ c.loop-number.invariant.each;
+      empty = keep_empty c.args.order.now c.loop-number.number-index n (at c.loop-number.bases.items) (at c.put.new.slots.items) c.loop-number-test.true refl c.put.ensures.elsewhere c.loop-number.invariant.empty;
       told = λ told order.
-          let within : n < length c.loop-number.bases.items = let w = order.within c.loop-number.number-index 0 c.loop-number-test.true in omega (arith, w, c.loop-number.invariant.each) in
+          let within : n < length c.loop-number.bases.items = let w = order_within rows c.args.order.now order.exact c.loop-number.number-index c.loop-number-test.true in omega (arith, w, c.loop-number.invariant.each) in
           let known : (j : ℕ) → Follows files rows n j → (b : ℕ) → (at c.loop-number.bases.items j ≡ Some b) ↔ HasBase files rows j b =
           λ j f. c.loop-number.invariant.told told order j (order.behind c.loop-number.number-index j c.loop-number-test.true (inl f)) in
           let here : (b : ℕ) → (at c.put.new.slots.items n ≡ Some b) ↔ HasBase files rows n b =
@@ -29,4 +30,4 @@ pub returns : goal.returns
 returns c = λ told order.
     let files : Briefs = files_in c.args.self.now.rows.now in
     let rows : List Row = rows_in c.args.self.now.rows.now in
-    walk_all (λ k o. (b : ℕ) → (o ≡ Some b) ↔ HasBase files rows k b) (length rows) c.args.order.now c.loop-number.number-index c.loop-number.bases.items c.loop-number-test.false c.loop-number.invariant.each order.stands (λ k past b. (λ e. absurd (no_number b e), λ h. let w = base_within files rows h in absurd (omega (arith, w, past)))) (c.loop-number.invariant.told told order)
+    walk_types (λ k o. (b : ℕ) → (o ≡ Some b) ↔ HasBase files rows k b) rows c.args.order.now c.loop-number.number-index c.loop-number.bases.items c.loop-number-test.false order.exact (λ k out b. (λ e. absurd (no_number b e), λ h. absurd (out (base_type files rows h)))) c.loop-number.invariant.empty (c.loop-number.invariant.told told order)

@@ -7,8 +7,8 @@ use Rattle.yv_type_chains.specs.Types.{RestsOn}
 use Rattle.yv_type_chains.specs.InnerCounts.{IsCount}
 use Rattle.yv_type_chains.specs.InnerTables.{at}
 use Rattle.yv_type_chains.proofs.Basing.{no_number}
-use Rattle.yv_type_chains.proofs.Counting.{count_within}
-use Rattle.yv_type_chains.proofs.Walking.{walk_all, walk_more}
+use Rattle.yv_type_chains.proofs.Counting.{count_type}
+use Rattle.yv_type_chains.proofs.Walking.{keep_empty, order_within, walk_more, walk_types}
 use Rattle.yv_type_chains.proofs.draft.Draft.counts.Goals as goal
 
 pub loop-number-preserved : goal.loop-number-preserved
@@ -18,8 +18,9 @@ loop-number-preserved c =
     let n : ℕ = slice_index c.args.order.now c.loop-number.number-index in
     record {
       each = c.put.ensures.each ∙ c.loop-number.invariant.each;
+      empty = keep_empty c.args.order.now c.loop-number.number-index n (at c.loop-number.counts.items) (at c.put.new.slots.items) c.loop-number-test.true refl c.put.ensures.elsewhere c.loop-number.invariant.empty;
       told = λ told order.
-          let within : n < length c.loop-number.counts.items = let w = order.within c.loop-number.number-index 0 c.loop-number-test.true in omega (arith, w, c.loop-number.invariant.each) in
+          let within : n < length c.loop-number.counts.items = let w = order_within rows c.args.order.now order.exact c.loop-number.number-index c.loop-number-test.true in omega (arith, w, c.loop-number.invariant.each) in
           let known : (j : ℕ) → RestsOn files rows n j → IsCount files rows j (at c.loop-number.counts.items j) =
           λ j f. c.loop-number.invariant.told told order j (order.behind c.loop-number.number-index j c.loop-number-test.true f) in
           let here : IsCount files rows n (at c.put.new.slots.items n) =
@@ -31,4 +32,4 @@ pub returns : goal.returns
 returns c = λ told order.
     let files : Briefs = files_in c.args.self.now.rows.now in
     let rows : List Row = rows_in c.args.self.now.rows.now in
-    walk_all (IsCount files rows) (length rows) c.args.order.now c.loop-number.number-index c.loop-number.counts.items c.loop-number-test.false c.loop-number.invariant.each order.stands (λ k past. record { exists = λ n e. absurd (no_number n e); all = λ n h. let w = count_within files rows h in absurd (omega (arith, w, past)) }) (c.loop-number.invariant.told told order)
+    walk_types (IsCount files rows) rows c.args.order.now c.loop-number.number-index c.loop-number.counts.items c.loop-number-test.false order.exact (λ k out. record { exists = λ n e. absurd (no_number n e); all = λ n h. absurd (out (count_type files rows h)) }) c.loop-number.invariant.empty (c.loop-number.invariant.told told order)
