@@ -7,7 +7,7 @@ ghost use Rattle.yv_note_patterns.specs.PatternFailure.{AreNoPatterns, IsOfDiale
 use std::alloc::{AllocError, Global};
 use yv_link_scopes::{Entry, Rows, name_of};
 use yv_pattern::Patterns;
-use yv_statement::{Statement, Stop};
+use yv_statement::{Keyword, Statement, Stop};
 
 // Whether a text is a pattern of the dialect that isn't built in the room that is left.
 fn is_unbuilt_text(alloc: Global, patterns: &mut Patterns, text: &str) -> Result<bool, AllocError>
@@ -42,7 +42,7 @@ fn is_pattern(alloc: Global, statement: &Statement<'_>) -> Result<bool, AllocErr
         (λ is. is ≡ false → bytes_eq statement.now.head.keyword (codes "pattern") ≡ true
         → IsOfDialect (name_at statement.now.head) → ⊥) }
 {
-    if statement.keyword() != "pattern" {
+    if !statement.is(Keyword::Pattern) {
         return Ok(false);
     }
     is_of_dialect(alloc, name_of(statement))
@@ -59,7 +59,7 @@ fn is_unbuilt(
     ensures dialect { IfOk result
         (λ unbuilt. unbuilt ≡ true → IsOfDialect (name_at statement.now.head)) }
 {
-    if statement.keyword() != "pattern" {
+    if !statement.is(Keyword::Pattern) {
         return Ok(false);
     }
     is_unbuilt_text(alloc, patterns, name_of(statement))

@@ -3,14 +3,14 @@ ghost use Rattle.std.specs.{Prelude.{◌≡◌, ◌||◌, map, not, codes, IfOk,
 ghost use Rattle.yv_statement.specs.Tree.{name_of as name_at, trees};
 ghost use Rattle.yv_link_scopes.specs.Files.{has_word};
 ghost use Rattle.yv_link.specs.LinkedFiles.{truth_in};
-ghost use Rattle.yv_type_enums.specs.Entries.{entry_of, is_on, listing, number_text};
+ghost use Rattle.yv_type_enums.specs.Entries.{entry_of, is_on, listing, number_text, number_word};
 
-use crate::kind::{entry_word, number_word};
+use crate::kind::{is_entry, states_number};
 use std::alloc::{AllocError, Global};
 use yv_base_numbers::{ListedEntry, NumberKind};
 use yv_link::Linked;
 use yv_link_scopes::name_of;
-use yv_statement::Statement;
+use yv_statement::{Keyword, Statement};
 
 /// The statements that list names, in order.
 pub(crate) fn listing<'a, 'b>(
@@ -21,10 +21,9 @@ pub(crate) fn listing<'a, 'b>(
     ensures { IfOk result
         (λ lines. map (λ line. line.now) lines.items ≡ listing kind statement.now) }
 {
-    let word = entry_word(kind);
     let mut lines = Vec::new(alloc);
     for child in statement.children() {
-        if child.keyword() == word {
+        if is_entry(kind, child) {
             lines.push(child)?;
         }
     }
@@ -54,17 +53,17 @@ pub(crate) fn entries<'a>(
 fn number_text<'a>(kind: NumberKind, line: &'a Statement<'_>) -> Option<&'a str>
     ensures { option_map (λ text. text.now) result ≡ number_text kind line.now }
 {
-    let found = first(line, number_word(kind))?;
+    let found = first_number(kind, line)?;
     Some(name_of(found))
 }
 
-// The first substatement of a keyword.
-fn first<'a, 'b>(statement: &'a Statement<'b>, word: &str) -> Option<&'a Statement<'b>>
+// The first substatement that says it.
+fn first_number<'a, 'b>(kind: NumberKind, line: &'a Statement<'b>) -> Option<&'a Statement<'b>>
     ensures { option_map (λ found. found.now) result
-        ≡ find (λ c. has_word word.now c.head) (trees statement.now.children) }
+        ≡ find (λ c. has_word (number_word kind) c.head) (trees line.now.children) }
 {
-    for child in statement.children() {
-        if child.keyword() == word {
+    for child in line.children() {
+        if states_number(kind, child) {
             return Some(child);
         }
     }
@@ -88,5 +87,5 @@ fn holds<'a>(linked: &Linked<'a, '_>, file: u32, statement: &'a Statement<'_>) -
     ensures { result ≡ (not (has_word (codes "if-feature") statement.now.head)
         || truth_in linked.now file (name_at statement.now.head)) }
 {
-    statement.keyword() != "if-feature" || linked.holds(file, name_of(statement))
+    !statement.is(Keyword::IfFeature) || linked.holds(file, name_of(statement))
 }

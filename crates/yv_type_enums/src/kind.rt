@@ -1,25 +1,27 @@
 //! The keywords of enumerations and bits.
 ghost use Rattle.std.specs.Prelude.{◌≡◌};
+ghost use Rattle.yv_link_scopes.specs.Files.{has_word};
 ghost use Rattle.yv_type_enums.specs.Entries.{entry_word, number_word};
 
 use yv_base_numbers::NumberKind;
+use yv_statement::{Keyword, Statement};
 
-/// The keyword of what is listed.
-pub(crate) fn entry_word(kind: NumberKind) -> &'static str
-    ensures { result.now ≡ entry_word kind }
+/// Whether a statement is one of what is listed.
+pub(crate) fn is_entry(kind: NumberKind, statement: &Statement<'_>) -> bool
+    ensures { result ≡ has_word (entry_word kind) statement.now.head }
 {
     match kind {
-        NumberKind::Enumeration => "enum",
-        NumberKind::Bits => "bit",
+        NumberKind::Enumeration => statement.is(Keyword::Enum),
+        NumberKind::Bits => statement.is(Keyword::Bit),
     }
 }
 
-/// The keyword of the substatement that states a number.
-pub(crate) fn number_word(kind: NumberKind) -> &'static str
-    ensures { result.now ≡ number_word kind }
+/// Whether a substatement of an entry states its number.
+pub(crate) fn states_number(kind: NumberKind, statement: &Statement<'_>) -> bool
+    ensures { result ≡ has_word (number_word kind) statement.now.head }
 {
     match kind {
-        NumberKind::Enumeration => "value",
-        NumberKind::Bits => "position",
+        NumberKind::Enumeration => statement.is(Keyword::Value),
+        NumberKind::Bits => statement.is(Keyword::Position),
     }
 }

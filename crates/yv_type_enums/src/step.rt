@@ -12,7 +12,7 @@ use yv_base_numbers::NumberKind;
 use yv_base_tables::Table;
 use yv_link::Linked;
 use yv_link_scopes::{Entry, Rows, name_of};
-use yv_statement::{Refusal, Statement};
+use yv_statement::{Keyword, Refusal, Statement};
 use yv_type_chains::Bases;
 
 /// The names of a statement, if it has some, and the refusal of its first wrong entry.
@@ -37,7 +37,7 @@ fn nothing<'a>() -> Step<'a>
 fn is_kind(name: &str, entry: &Entry<'_, '_>) -> bool
     ensures { result ≡ is_kind name.now (row entry.now) }
 {
-    entry.statement.keyword() == "type" && name_of(entry.statement) == name
+    entry.is(Keyword::Type) && name_of(entry.statement) == name
 }
 
 // The kind of a type that names `enumeration` or `bits`.

@@ -13,6 +13,7 @@ use std::collections::BTreeSet;
 use std::rc::RcStr;
 use yv_link::{IdentityRef, Linked};
 use yv_link_scopes::{Entry, name_of};
+use yv_statement::Keyword;
 use yv_values::Member;
 
 /// An identity with its module, and where it is.
@@ -35,7 +36,7 @@ struct Draft<'r, 'a, 'b> {
 pub(crate) fn is_identity(entry: &Entry<'_, '_>) -> bool
     ensures { result ≡ is_identity (row entry.now) }
 {
-    entry.statement.keyword() == "identity"
+    entry.is(Keyword::Identity)
 }
 
 /// The reference to a statement.

@@ -10,6 +10,7 @@ use std::alloc::{AllocError, Global};
 use std::collections::BTreeSet;
 use yv_link::Linked;
 use yv_link_scopes::{Entry, name_of};
+use yv_statement::Keyword;
 
 // Whether a statement is a condition that doesn't hold.
 fn is_false<'a, 'b>(linked: &Linked<'a, 'b>, entry: &Entry<'a, 'b>) -> bool
@@ -17,7 +18,7 @@ fn is_false<'a, 'b>(linked: &Linked<'a, 'b>, entry: &Entry<'a, 'b>) -> bool
         ≡ (is_if_feature (row entry.now)
         && not (truth_in linked.now entry.now.file (name_in (row entry.now)))) }
 {
-    entry.statement.keyword() == "if-feature" && !linked.holds(entry.file, name_of(entry.statement))
+    entry.is(Keyword::IfFeature) && !linked.holds(entry.file, name_of(entry.statement))
 }
 
 /// The numbers of the statements that have a false `if-feature` in their block.

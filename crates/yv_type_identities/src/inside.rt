@@ -9,13 +9,14 @@ ghost use Rattle.yv_type_identities.specs.{Bases.{NamesBase}, InnerBases.{base_o
 use std::alloc::{AllocError, Global};
 use yv_link::{IdentityRef, Linked};
 use yv_link_scopes::{Entry, name_of};
+use yv_statement::Keyword;
 
 /// The base that a statement gives the type or the identity in whose block it stands.
 pub(crate) fn base_of<'a, 'b>(linked: &Linked<'a, 'b>, entry: &Entry<'a, 'b>) -> Option<IdentityRef>
     ensures { (files : Files) (choice : Selected) → AreLinked files choice linked.now
         → result ≡ base_of (map brief_of files) (rows_of files) (row entry.now) }
 {
-    if entry.statement.keyword() == "base" {
+    if entry.is(Keyword::Base) {
         linked.identity(entry.file, name_of(entry.statement))
     } else {
         None

@@ -4,3 +4,4 @@ pub mod Wider
 pub mod Naming
 pub mod Stepping
 pub mod Walking
+pub mod Children

@@ -1,23 +1,12 @@
 //! The digits that a type states.
-ghost use Rattle.std.specs.{Prelude.{◌≡◌}, Option.{option_copied}};
-ghost use Rattle.yv_type_restrictions.specs.{Facets.{child}, Types.{digits_of_type, few_digits, stated_digits}};
+ghost use Rattle.std.specs.Prelude.{◌≡◌};
+ghost use Rattle.yv_type_restrictions.specs.Types.{digits_of_type, few_digits, stated_digits};
 ghost use Rattle.yv_base_numbers.specs.Numbers.{integer_of};
 
+use crate::restriction::child;
 use yv_base_numbers::{Integer, integer_of};
 use yv_link_scopes::name_of;
-use yv_statement::Statement;
-
-// The first substatement with a keyword.
-fn child<'a, 'b>(word: &str, statement: &'a Statement<'b>) -> Option<&'a Statement<'b>>
-    ensures { option_copied result ≡ child word.now statement.now }
-{
-    for child in statement.children() {
-        if child.keyword() == word {
-            return Some(child);
-        }
-    }
-    None
-}
+use yv_statement::{Keyword, Statement};
 
 // The number that a text writes, where decimal64 may have so many digits.
 fn few_digits(text: &[u8]) -> Option<u32>
@@ -39,7 +28,7 @@ fn few_digits(text: &[u8]) -> Option<u32>
 fn stated_digits(statement: &Statement<'_>) -> Option<u32>
     ensures { result ≡ stated_digits statement.now }
 {
-    match child("fraction-digits", statement) {
+    match child(Keyword::FractionDigits, statement) {
         Some(stated) => few_digits(name_of(stated).as_bytes()),
         None => None,
     }

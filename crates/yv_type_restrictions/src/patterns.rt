@@ -7,7 +7,7 @@ ghost use Rattle.yv_type_restrictions.specs.{Facets.{AreTests, IsTest}, FacetRef
 use crate::restriction::{child, text_of};
 use std::alloc::{AllocError, Global};
 use yv_pattern::Patterns;
-use yv_statement::{Code, Refusal, Statement, Stop, lesser, refusal_if};
+use yv_statement::{Code, Keyword, Refusal, Statement, Stop, lesser, refusal_if};
 use yv_values::PatternTest;
 
 // The test that a statement is, and its refusal where it is a pattern outside the dialect.
@@ -68,7 +68,7 @@ fn read_test(
     ensures fault { IfOk result (λ r. IsLeast (BadPattern file statement.now) r.fault) }
     ensures stops { IfErr result (StopsWhere (IsPattern statement.now)) }
 {
-    if statement.keyword() != "pattern" {
+    if !statement.is(Keyword::Pattern) {
         return Ok(Reading {
             test: None,
             fault: None,
@@ -78,7 +78,7 @@ fn read_test(
         Ok(pattern) => Ok(Reading {
             test: Some(PatternTest {
                 pattern,
-                is_inverted: child("modifier", statement).is_some(),
+                is_inverted: child(Keyword::Modifier, statement).is_some(),
             }),
             fault: None,
         }),

@@ -9,7 +9,7 @@ use crate::restriction::{child, restrict_intervals};
 use std::alloc::{AllocError, Global};
 use yv_base_numbers::Intervals;
 use yv_pattern::Patterns;
-use yv_statement::{Refusal, Statement, Stop, lesser};
+use yv_statement::{Keyword, Refusal, Statement, Stop, lesser};
 use yv_values::{DecimalType, PlainType, TextType, WholeType};
 
 /// What a type statement leaves of a type, and the least that is wrong with its restrictions.
@@ -31,7 +31,13 @@ pub(crate) fn whole(
     ensures fault { IfOk result (λ n.
         IsLeast (BadFacets file statement.now (wholes base.now.is_text base.now.spans)) n.fault) }
 {
-    let left = restrict_intervals(alloc, file, child("range", statement), &base.spans, None)?;
+    let left = restrict_intervals(
+        alloc,
+        file,
+        child(Keyword::Range, statement),
+        &base.spans,
+        None,
+    )?;
     Ok(NarrowedType {
         plain: PlainType::Whole(WholeType {
             is_text: base.is_text,
@@ -53,7 +59,7 @@ pub(crate) fn decimal(
     ensures fault { IfOk result (λ n.
         IsLeast (BadFacets file statement.now (decimals base.now.digits base.now.spans)) n.fault) }
 {
-    let range = child("range", statement);
+    let range = child(Keyword::Range, statement);
     let left = restrict_intervals(alloc, file, range, &base.spans, Some(base.digits))?;
     Ok(NarrowedType {
         plain: PlainType::Decimal(DecimalType {
@@ -76,7 +82,7 @@ pub(crate) fn binary(
     ensures fault { IfOk result
         (λ n. IsLeast (BadFacets file statement.now (octets base.now)) n.fault) }
 {
-    let left = restrict_intervals(alloc, file, child("length", statement), base, None)?;
+    let left = restrict_intervals(alloc, file, child(Keyword::Length, statement), base, None)?;
     Ok(NarrowedType {
         plain: PlainType::Binary(left.spans),
         fault: left.fault,
@@ -97,7 +103,7 @@ pub(crate) fn text(
         (strings base.now.lengths base.now.patterns)) n.fault) }
     ensures stops { IfErr result (StopsWhere (HasPattern (trees statement.now.children))) }
 {
-    let length = child("length", statement);
+    let length = child(Keyword::Length, statement);
     let left = restrict_intervals(alloc, file, length, &base.lengths, None)?;
     let read = match read_tests(alloc, patterns, file, statement.children()) {
         Ok(read) => read,

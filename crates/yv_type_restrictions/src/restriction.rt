@@ -1,11 +1,11 @@
 //! Restrictions by `range` and by `length`.
-ghost use Rattle.std.specs.{Prelude.{◌≡◌, IfOk}, Option.{option_copied}};
-ghost use Rattle.yv_statement.specs.{Order.{IsLeast}, Tree.{name_of as text_of}};
+ghost use Rattle.std.specs.{Prelude.{◌≡◌, IfOk, IfSome}, List.{find}, Option.{option_copied}};
+ghost use Rattle.yv_statement.specs.{Keywords.{keyword_of, same, written}, Order.{IsLeast}, Tree.{name_of as text_of, trees}};
 ghost use Rattle.yv_type_restrictions.specs.{Facets.{child, Leaves}, FacetRefusals.{BadRestriction}};
 
 use std::alloc::{AllocError, Global};
 use yv_base_numbers::{Intervals, restrict};
-use yv_statement::{Code, Refusal, Statement, refusal_if};
+use yv_statement::{Code, Keyword, Refusal, Statement, refusal_if};
 
 /// The statement's argument, or no text where it has none.
 pub fn text_of<'a>(statement: &'a Statement<'_>) -> &'a str
@@ -14,16 +14,19 @@ pub fn text_of<'a>(statement: &'a Statement<'_>) -> &'a str
     statement.argument().unwrap_or("")
 }
 
-/// The first substatement with a keyword.
-pub fn child<'a, 'b>(word: &str, statement: &'a Statement<'b>) -> Option<&'a Statement<'b>>
-    ensures { option_copied result ≡ child word.now statement.now }
+// The first substatement with a keyword, by what keywords mean.
+fn first<'a, 'b>(keyword: Keyword, statement: &'a Statement<'b>) -> Option<&'a Statement<'b>>
+    ensures { option_copied result
+        ≡ find (λ c. same (keyword_of c.head.keyword) keyword) (trees statement.now.children) }
 {
-    for child in statement.children() {
-        if child.keyword() == word {
-            return Some(child);
-        }
-    }
-    None
+    statement.children().iter().find(|child| child.is(keyword))
+}
+
+/// The first substatement with a keyword.
+pub fn child<'a, 'b>(keyword: Keyword, statement: &'a Statement<'b>) -> Option<&'a Statement<'b>>
+    ensures { IfSome (written keyword) (λ word. option_copied result ≡ child word statement.now) }
+{
+    first(keyword, statement)
 }
 
 /// What a restriction leaves of a type's intervals, and its refusal where it doesn't restrict them.

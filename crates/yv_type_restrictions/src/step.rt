@@ -14,7 +14,7 @@ use std::alloc::{AllocError, Global};
 use yv_base_tables::Table;
 use yv_link_scopes::{Rows, name_of};
 use yv_pattern::Patterns;
-use yv_statement::{Refusal, Statement, Stop};
+use yv_statement::{Keyword, Refusal, Statement, Stop};
 use yv_type_chains::Bases;
 use yv_values::PlainType;
 
@@ -40,7 +40,7 @@ fn nothing() -> Step
 fn is_type(statement: &Statement<'_>) -> bool
     ensures { result ≡ has_word (codes "type") statement.now }
 {
-    statement.keyword() == "type"
+    statement.is(Keyword::Type)
 }
 
 // What a type statement leaves of the type that it narrows.

@@ -1,8 +1,0 @@
-use Rattle.std.proofs.Common.{◌≡◌, drop}
-use Rattle.std.specs.List.{find}
-use Rattle.yv_statement.specs.Tree.{trees}
-use Rattle.yv_link_scopes.specs.Files.{has_word}
-use Rattle.yv_type_enums.proofs.entries.first.Given as goal
-
-abbrev pub invariant-loop-child : goal.invariant-loop-child
-invariant-loop-child l = find (λ c. has_word l.word c.head) (drop l.child-index (trees l.statement.children)) ≡ find (λ c. has_word l.word c.head) (trees l.statement.children)
