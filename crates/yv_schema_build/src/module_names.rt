@@ -10,7 +10,7 @@ use std::alloc::{AllocError, Global};
 use std::rc::RcStr;
 use yv_link_scopes::Rows;
 use yv_schema_tables::Module;
-use yv_statement::{Selection, Statement};
+use yv_statement::{Keyword, Selection, Statement};
 
 /// The name of each file, which the nodes of its module share.
 #[derive(Drop)]
@@ -49,7 +49,7 @@ impl ModuleNames {
 fn is_given(selection: &Selection, root: &Statement<'_>) -> bool
     ensures { result ≡ is_given (selected_of selection.now) root.now }
 {
-    root.keyword() == "module" && selection.is_implemented(name_of(root))
+    root.is(Keyword::Module) && selection.is_implemented(name_of(root))
 }
 
 /// The modules that are implemented, by file.
