@@ -5,9 +5,9 @@ use Rattle.std.specs.Str.{bytes_eq}
 use Rattle.std.proofs.lemmas.Slice.Eq.{bytes_eq-Decides}
 use Rattle.yv_statement.specs.declared.keyword.Keyword.{Keyword}
 use Rattle.yv_statement.specs.declared.keyword.Keyword.TheVariants as word
-use Rattle.yv_statement.specs.Keywords.{keyword_in, keyword_of, names, same}
+use Rattle.yv_statement.specs.Keywords.{keyword_in, keyword_of, names}
 use Rattle.yv_statement.specs.Words.{is_among}
-use Rattle.yv_link_scopes.specs.Rows.{Row, is_extended}
+use Rattle.yv_link_scopes.specs.Rows.{Row}
 use Rattle.yv_expand.specs.Units.{units_of, nodes, operations, keywords_passed}
 use Rattle.yv_expand.specs.StatementBlocks.{is_node_or_uses, is_operation}
 use Rattle.yv_expand.specs.InnerKeywords.{is_item_keyword, is_node_keyword, is_operation_keyword, is_passed_keyword, units_by}
@@ -48,22 +48,6 @@ among_by_kind P words text pass none extended unknown = by (is_among words text)
     by false false e f = refl
     by true false e f = sym (among_all (λ w. P (keyword_of w)) words text pass e) ∙ f
     by false true e f = sym e ∙ found (list_any (λ b. nat_eq b 58) text) f
-
--- a keyword has a colon exactly where it is an extension's
-pub extended_by_kind : (text : List ℕ) → is_extended text ≡ same (keyword_of text) word.Extended
-unfolding keyword_of
-extended_by_kind text = by (list_any (λ b. nat_eq b 58) text)
-  where
-    is_one : Keyword → Bool
-    is_one k = same k word.Extended
-
-    none : (b : Bool) → is_one (keyword_in names text) ≡ b → false ≡ b
-    none true e = absurd (false_true (word_of is_one [] names text refl refl e))
-    none false e = refl
-
-    by : (b : Bool) → b ≡ same (if b then word.Extended else keyword_in names text) word.Extended
-    by true = refl
-    by false = none (is_one (keyword_in names text)) refl
 
 node_words : (text : List ℕ) → is_among nodes text ≡ is_node_keyword (keyword_of text)
 unfolding keyword_of

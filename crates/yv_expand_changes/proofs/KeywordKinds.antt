@@ -5,7 +5,8 @@ use Rattle.yv_statement.specs.declared.keyword.Keyword.TheVariants as word
 use Rattle.yv_statement.specs.Keywords.{keyword_of, same}
 use Rattle.yv_statement.specs.Words.{is_among}
 use Rattle.yv_statement.proofs.Written.{is_by_text}
-use Rattle.yv_expand.proofs.KeywordKinds.{among_by_kind, extended_by_kind}
+use Rattle.yv_link_scopes.proofs.Keywords.{extended_by_colon}
+use Rattle.yv_expand.proofs.KeywordKinds.{among_by_kind}
 use Rattle.yv_expand_changes.specs.AllowedRefines.{is_allowed, with_default, with_mandatory, with_presence, with_elements, element_limits, of_any_node}
 use Rattle.yv_expand_changes.specs.InnerKeywords.{has_defaults, has_mandatory, has_presence, has_elements, is_allowed_by, is_allowed_with}
 
@@ -62,5 +63,5 @@ by_keyword _ d m p e = refl
 pub allowed_by_kind : (text target : List ℕ) → is_allowed text target ≡ is_allowed_by (keyword_of text) (keyword_of target)
 unfolding is_allowed
 allowed_by_kind text target =
-    rw (← is_by_text text (codes "default") word.Default refl, ← is_by_text text (codes "mandatory") word.Mandatory refl, ← is_by_text text (codes "presence") word.Presence refl, default_words target, mandatory_words target, presence_words target, limit_words text, elements_words target, of_any_words text, extended_by_kind text)
+    rw (← is_by_text text (codes "default") word.Default refl, ← is_by_text text (codes "mandatory") word.Mandatory refl, ← is_by_text text (codes "presence") word.Presence refl, default_words target, mandatory_words target, presence_words target, limit_words text, elements_words target, of_any_words text, ← extended_by_colon text)
     (by_keyword (keyword_of text) (has_defaults (keyword_of target)) (has_mandatory (keyword_of target)) (has_presence (keyword_of target)) (has_elements (keyword_of target)))
