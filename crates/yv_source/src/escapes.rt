@@ -5,7 +5,7 @@ ghost use Rattle.yv_statement.specs.Tree.{trees};
 ghost use Rattle.yv_source.specs.{Escapes.{begins_escape, is_escape}, Inner.Turn.{length_of}, Inner.Pairs.{bad_found, bad_pair, is_newer, is_version}};
 
 use crate::scan::{FoundPiece, first_byte};
-use yv_statement::Statement;
+use yv_statement::{Keyword, Statement};
 
 /// Where the first bad backslash pair is, of those so far and of the piece at a place.
 pub(crate) fn bad_found(
@@ -71,5 +71,5 @@ pub(crate) fn is_newer(statement: &Statement) -> bool
 fn is_version(statement: &Statement) -> bool
     ensures { result ≡ is_version statement.now }
 {
-    statement.keyword() == "yang-version" && statement.argument() == Some("1.1")
+    statement.is(Keyword::YangVersion) && statement.argument() == Some("1.1")
 }
