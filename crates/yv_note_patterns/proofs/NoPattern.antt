@@ -1,5 +1,5 @@
 -- Statements that are looked at one by one, of which none is a pattern.
-use Rattle.std.proofs.Common.{◌≡◌, ℕ, ◌+◌, ◌<◌, ◌⊎◌, inl, inr, List, [], ◌∷◌, length, map, get_or, refl, sym, ◌∙◌, ap, suc, subst, arith, Option, Some, None, Result, Ok, Err}
+use Rattle.std.proofs.Common.{◌≡◌, ℕ, ◌+◌, ◌<◌, inl, inr, List, [], ◌∷◌, length, map, get_or, refl, sym, ◌∙◌, ap, suc, subst, arith, Option, Some, None, Result, Ok, Err}
 use Rattle.std.specs.List.{slice_get, AllZip}
 use Rattle.std.specs.Prelude.{IfNone, IfOk}
 use Rattle.std.specs.Option.{option_map}

@@ -8,13 +8,14 @@ use crate::leafref_path::TypeLeafref;
 use crate::leafref_table::get;
 use crate::require_instance::required_at;
 use yv_link_scopes::{Entry, Rows, name_of};
+use yv_statement::Keyword;
 use yv_type_chains::Bases;
 
 // Whether a statement is `type leafref`.
 fn is_leafref(entry: &Entry<'_, '_>) -> bool
     ensures { result ≡ is_leafref (row entry.now) }
 {
-    entry.statement.keyword() == "type" && name_of(entry.statement) == "leafref"
+    entry.statement.is(Keyword::Type) && name_of(entry.statement) == "leafref"
 }
 
 // The numbered statement, as it is listed.

@@ -8,13 +8,14 @@ ghost use Rattle.yv_types.specs.{Scopes.{AreScopes, name_or_none, place_in}, Inn
 use crate::rows::entry_at;
 use std::alloc::{AllocError, Global};
 use yv_link_scopes::{Entry, File, Rows, name_of};
+use yv_statement::Keyword;
 use yv_values::Scope;
 
 // Whether a statement is a prefix.
 fn is_prefix(entry: &Entry<'_, '_>) -> bool
     ensures { result ≡ is_of Prefix (row entry.now) }
 {
-    entry.statement.keyword() == "prefix"
+    entry.statement.is(Keyword::Prefix)
 }
 
 // The name of the numbered statement, or no text.

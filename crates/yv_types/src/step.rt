@@ -16,6 +16,7 @@ use std::rc::RcSlice;
 use yv_base_tables::{Families, Table};
 use yv_link::Linked;
 use yv_link_scopes::{Entry, name_of};
+use yv_statement::Keyword;
 use yv_type_enums::{NumberKind, TypeNames};
 use yv_type_identities::IdentityLists;
 use yv_values::PlainType;
@@ -35,7 +36,7 @@ fn names_type(names: &TypeNames<'_>) -> Result<PlainType, AllocError>
 fn is_kind(name: &str, entry: &Entry<'_, '_>) -> bool
     ensures { result ≡ is_kind name.now (row entry.now) }
 {
-    entry.statement.keyword() == "type" && name_of(entry.statement) == name
+    entry.statement.is(Keyword::Type) && name_of(entry.statement) == name
 }
 
 // No types: a list with this number.
@@ -90,7 +91,7 @@ fn is_unrestricted(linked: &Linked<'_, '_>, number: usize) -> bool
         ≡ true → IsUnrestricted files number }
 {
     match linked.rows().statement(number) {
-        Some(statement) => statement.keyword() == "type" && statement.children().is_empty(),
+        Some(statement) => statement.is(Keyword::Type) && statement.children().is_empty(),
         None => false,
     }
 }

@@ -11,20 +11,20 @@ use std::alloc::{AllocError, Global};
 use std::rc::RcStr;
 use yv_link_scopes::{Entry, Rows, name_of};
 use yv_node_definition::WrittenText;
-use yv_statement::Statement;
+use yv_statement::{Keyword, Statement};
 
 // Whether a statement is a default.
 fn is_default(statement: &Statement<'_>) -> bool
     ensures { result ≡ is_default statement.now }
 {
-    statement.keyword() == "default"
+    statement.is(Keyword::Default)
 }
 
 // Whether a statement is a typedef.
 fn is_typedef(entry: &Entry<'_, '_>) -> bool
     ensures { result ≡ is_of Typedef (row entry.now) }
 {
-    entry.statement.keyword() == "typedef"
+    entry.statement.is(Keyword::Typedef)
 }
 
 // The first default in the block of a statement.

@@ -1,4 +1,4 @@
-use Rattle.std.proofs.Common.{◌≡◌, List, ℕ, Some}
+use Rattle.std.proofs.Common.{◌≡◌, List, Some}
 use Rattle.std.specs.List.{slice_get}
 use Rattle.yv_link_scopes.specs.Rows.{Row, row}
 use Rattle.yv_link_scopes.specs.Views.{rows_in}
