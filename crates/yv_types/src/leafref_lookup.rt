@@ -15,7 +15,7 @@ use yv_type_chains::Bases;
 fn is_leafref(entry: &Entry<'_, '_>) -> bool
     ensures { result ≡ is_leafref (row entry.now) }
 {
-    entry.statement.is(Keyword::Type) && name_of(entry.statement) == "leafref"
+    entry.is(Keyword::Type) && name_of(entry.statement) == "leafref"
 }
 
 // The numbered statement, as it is listed.

@@ -15,7 +15,7 @@ use yv_values::Scope;
 fn is_prefix(entry: &Entry<'_, '_>) -> bool
     ensures { result ≡ is_of Prefix (row entry.now) }
 {
-    entry.statement.is(Keyword::Prefix)
+    entry.is(Keyword::Prefix)
 }
 
 // The name of the numbered statement, or no text.

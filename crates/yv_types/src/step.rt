@@ -36,7 +36,7 @@ fn names_type(names: &TypeNames<'_>) -> Result<PlainType, AllocError>
 fn is_kind(name: &str, entry: &Entry<'_, '_>) -> bool
     ensures { result ≡ is_kind name.now (row entry.now) }
 {
-    entry.statement.is(Keyword::Type) && name_of(entry.statement) == name
+    entry.is(Keyword::Type) && name_of(entry.statement) == name
 }
 
 // No types: a list with this number.

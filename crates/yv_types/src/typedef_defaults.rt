@@ -24,7 +24,7 @@ fn is_default(statement: &Statement<'_>) -> bool
 fn is_typedef(entry: &Entry<'_, '_>) -> bool
     ensures { result ≡ is_of Typedef (row entry.now) }
 {
-    entry.statement.is(Keyword::Typedef)
+    entry.is(Keyword::Typedef)
 }
 
 // The first default in the block of a statement.
