@@ -38,7 +38,7 @@ fn built_in_names(alloc: Global) -> Result<Vec<RcStr>, AllocError> {
 }
 
 // The one of these names that is the text.
-fn named<'n>(names: &'n [RcStr], text: &str) -> Option<&'n RcStr>
+fn shared_name<'n>(names: &'n [RcStr], text: &str) -> Option<&'n RcStr>
     ensures { IfSome result (λ name. rc_str_bytes name.now ≡ text.now) }
 {
     names.iter().find(|name| name.as_str() == text)
@@ -83,7 +83,7 @@ impl Nothing {
     pub(crate) fn type_text(&self, alloc: Global, text: &str) -> Result<RcStr, AllocError>
         ensures { IfOk result (λ shared. rc_str_bytes shared ≡ text.now) }
     {
-        match named(&self.built_ins, text) {
+        match shared_name(&self.built_ins, text) {
             Some(name) => name.clone(),
             None => self.or_text(alloc, text),
         }
