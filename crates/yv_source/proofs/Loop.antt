@@ -1,10 +1,8 @@
 -- The reader's loop, over plain values.
-use Rattle.std.proofs.Common.{◌≡◌, ℕ, zero, suc, get_or, ◌+◌, ◌<◌, ◌≤◌, ◌==◌, ◌&&◌, Bool, true, false, cond, List, [], ◌∷◌, ◌++◌, length, take, drop, Option, Some, None, refl, sym, ◌∙◌, ap, subst, arith, append_assoc, length-append, length-drop, Result, Ok, Err}
+use Rattle.std.proofs.Common.{◌≡◌, ℕ, ◌+◌, ◌<◌, ◌≤◌, ◌==◌, ◌&&◌, Bool, true, false, cond, List, [], ◌∷◌, ◌++◌, length, take, drop, Option, Some, None, refl, sym, ◌∙◌, ap, subst, arith, append_assoc, length-append, length-drop, Result, Ok, Err}
 use Rattle.std.specs.Prelude.{IsUtf8, IsCharBoundary, IfSome, reverse}
 use Rattle.std.proofs.Math.Seq.{take-append_seam, drop-append_seam}
-use Rattle.std.proofs.lemmas.List.{take-append-drop, length-take, drop_more}
-use Rattle.std.specs.Prelude.{count_by}
-use Rattle.std.specs.List.{list_all}
+use Rattle.std.proofs.lemmas.List.{take-append-drop, length-take}
 use Rattle.std.proofs.lemmas.Str.{IsCharBoundary-past_char, IsUtf8-drop}
 use Rattle.std.proofs.lemmas.Bool.{eqb-true}
 use lib.Utf8.{encode}
@@ -13,11 +11,11 @@ use Rattle.yv_statement.specs.declared.refusal.Code.{Code}
 use Rattle.yv_statement.specs.declared.refusal.Code.TheVariants as code
 use Rattle.yv_statement.specs.declared.refusal.Stop.{Stop}
 use Rattle.yv_statement.specs.declared.refusal.Stop.TheVariants.{Fault}
-use Rattle.yv_source.specs.Pieces.{Piece, Blank, LineComment, BlockComment, Word, Single, Double, Semicolon, Open, Close, Plus, slice, is_blank, Before, Apart, UnquotedWord, QuotedText, past_gap, MayStand}
-use Rattle.yv_source.specs.Place.{mark_len, line_of, columns, column_past, column_of}
+use Rattle.yv_source.specs.Pieces.{Piece, Blank, LineComment, BlockComment, Word, Single, Double, Semicolon, Open, Close, Plus, slice, Before, Apart, MayStand}
+use Rattle.yv_source.specs.Place.{mark_len, line_of, columns, column_of}
 use Rattle.yv_source.specs.Outcome.{Outcome, ComesTo, BadToken, BadSyntax, TooDeep, BadEscape, Statement}
 use Rattle.yv_source.specs.Answer.{refusal_in, IsRefusalOf}
-use Rattle.yv_source.specs.Inner.Place.{Place, place_of, place_at, IsPastGap}
+use Rattle.yv_source.specs.Inner.Place.{Place, place_of, place_at}
 use Rattle.yv_source.specs.Inner.Machine.{Step, Next, Wrong, Deep}
 use Rattle.yv_source.specs.Inner.Scan.{before_of, ahead_in}
 use Rattle.yv_source.specs.Inner.Turn.{opener, inner, length_of, past_found, turn}
@@ -33,10 +31,9 @@ use Rattle.yv_source.specs.declared.scan.Before.TheVariants as left
 use Rattle.yv_source.specs.declared.scan.Ahead.{Ahead}
 use Rattle.yv_source.specs.declared.scan.Ahead.TheVariants as ahead
 use Rattle.yv_source.specs.declared.scan.FoundPiece.{FoundPiece}
-use Rattle.yv_source.specs.declared.scan.FoundPiece.TheVariants as found
 use Rattle.yv_source.proofs.Keyword.{and_first, and_second}
 use Rattle.yv_source.proofs.Meaning.{MeansAhead, means}
-use Rattle.yv_source.proofs.Reading.{place_after, ReadsTo, spelling, spelled_by, HasMark, count-cons}
+use Rattle.yv_source.proofs.Reading.{place_after, ReadsTo, spelling, spelled_by, HasMark}
 use Rattle.yv_source.proofs.Turns.{Looks, looks}
 use Rattle.yv_source.proofs.Outcomes as outcomes
 
@@ -254,68 +251,3 @@ starts text start stack u start_is stack_is =
     let P : ℕ × List Tree → Type 0 = λ x. Reads text (first_place x.0) None left.Apart (reverse x.1) Between in
     let first = subst P (λ i. (sym start_is i, sym stack_is i)) (record { reads = begins_text text u; bound = tt }) in
     settled refl first start refl
-
--- ---- blanks in a row
-passed_none : (p : Place) → place_after p [] ≡ p
-passed_none p = let a : p.at + 0 ≡ p.at = omega arith in let l : p.line + 0 ≡ p.line = omega arith in λ i. record { at = a i; line = l i; column = p.column }
-
-pub passed_on : (p : Place) (x : ℕ) (ys : List ℕ) → place_after (place_after p (x ∷ [])) ys ≡ place_after p (x ∷ ys)
-passed_on p x ys =
-    let a : p.at + length (x ∷ []) + length ys ≡ p.at + length (x ∷ ys) = omega arith in
-    let l : p.line + count_by (λ b. b == 10) (x ∷ []) + count_by (λ b. b == 10) ys ≡ p.line + count_by (λ b. b == 10) (x ∷ ys) =
-    omega (arith, count-cons x ys, count-cons x [])
-    in
-    λ i. record { at = a i; line = l i; column = columns (column_past p.column x) ys }
-
-blank_ahead : (before : Before) (x : ℕ) (rest : List ℕ) → is_blank x ≡ true → ahead.Piece found.Blank ≡ ahead_in before (x ∷ rest)
-blank_ahead before x rest e = rw e refl
-
-stays_apart : (left : Left) → (before_of left ≡ UnquotedWord → ⊥) → before_of left ≡ past_gap (before_of left)
-stays_apart left.Apart n = refl
-stays_apart left.Unquoted n = absurd (n refl)
-stays_apart left.Quoted n = refl
-
-pub blanks_read : (n : ℕ) {text bytes : List ℕ} {place : Place} {bad : Option ℕ} {left : Left} {stack : List Tree} {phase : Phase} → bytes ≡ text → Reads text place bad left stack phase → (before_of left ≡ UnquotedWord → ⊥) → n ≤ length (drop place.at bytes) → list_all is_blank (take n (drop place.at bytes)) ≡ true → Reads text (place_after place (take n (drop place.at bytes))) bad left stack phase
-blanks_read zero {text} {bytes} {place} {bad} {left} {stack} {phase} same so_far apart le h =
-    let P : Place → Type 0 = λ p. Reads text p bad left stack phase in
-    subst P (sym (passed_none place)) so_far
-blanks_read (suc n) {text} {bytes} {place} {bad} {left} {stack} {phase} same so_far apart le h =
-    let x : ℕ = get_or bytes place.at 0 in
-    let more : List ℕ = drop (place.at + 1) bytes in
-    let lt : place.at < length bytes = omega (arith, le, length-drop place.at bytes) in
-    let cut : drop place.at bytes ≡ x ∷ more = drop_more bytes place.at 0 lt in
-    let H : List ℕ → Type 0 = λ l. (suc n ≤ length l) × (list_all is_blank (take (suc n) l) ≡ true) in
-    let hs = subst H cut (le, h) in
-    let here : is_blank x ≡ true = and_first (is_blank x) (list_all is_blank (take n more)) hs.1 in
-    let others : list_all is_blank (take n more) ≡ true = and_second (is_blank x) (list_all is_blank (take n more)) hs.1 in
-    let one = read_on same so_far (blank_ahead (before_of left) x more here ∙ ap (ahead_in (before_of left)) (sym cut)) refl
-    (place_after place (x ∷ [])) bad left stack phase (ap (λ l. place_after place (take 1 l)) (sym cut)) refl (bad_bound same so_far) (stays_apart left apart) refl
-    in
-    let room : n ≤ length more = omega (arith, hs.0) in
-    let all = blanks_read n same one apart room others in
-    let P : Place → Type 0 = λ p. Reads text p bad left stack phase in
-    subst P (passed_on place x (take n more) ∙ ap (λ l. place_after place (take (suc n) l)) (sym cut)) all
-
-apart_not : Apart ≡ UnquotedWord → ⊥
-apart_not h = cc
-
-quoted_not : QuotedText ≡ UnquotedWord → ⊥
-quoted_not h = cc
-
--- behind the blanks, where there may be more than one
-gap_to : (left : Left) {text bytes : List ℕ} {at : ℕ} {bad : Option ℕ} {stack : List Tree} {phase : Phase} → bytes ≡ text → Reads text (place_at text at) bad left stack phase → (before_of left ≡ UnquotedWord → ⊥) → (n : ℕ) → n ≤ length (drop at bytes) → list_all is_blank (take n (drop at bytes)) ≡ true → Reads text (place_at text (at + n)) bad left stack phase
-gap_to left {text} {bytes} {at} {bad} {stack} {phase} same so_far apart n le h =
-    let e : at + length (take n (drop at bytes)) ≡ at + n = omega (arith, le, length-take n (drop at bytes)) in
-    settled same (blanks_read n same so_far apart le h) (at + n) e
-
-gap_by : (left : Left) {text bytes : List ℕ} {at : ℕ} {bad : Option ℕ} {stack : List Tree} {phase : Phase} → bytes ≡ text → Reads text (place_at text at) bad left stack phase → (before_of left ≡ UnquotedWord → ⊥) → (end n : ℕ) → n ≤ length (drop at bytes) → list_all is_blank (take n (drop at bytes)) ≡ true → end ≡ at + n → Reads text (place_at text end) bad left stack phase × (at ≤ end)
-gap_by left {text} {bytes} {at} {bad} {stack} {phase} same so_far apart end n le h e =
-    let P : ℕ → Type 0 = λ k. Reads text (place_at text k) bad left stack phase in
-    (subst P (sym e) (gap_to left same so_far apart n le h), omega (arith, e))
-
-pub gap_read : (left : Left) {text bytes : List ℕ} {at : ℕ} {bad : Option ℕ} {stack : List Tree} {phase : Phase} → bytes ≡ text → Reads text (place_at text at) bad left stack phase → (end : ℕ) → IsPastGap (before_of left) at (drop at bytes) end → Reads text (place_at text end) bad left stack phase × (at ≤ end)
-gap_read left.Unquoted {text} {bytes} {at} {bad} {stack} {phase} same so_far end e =
-    let P : ℕ → Type 0 = λ k. Reads text (place_at text k) bad left.Unquoted stack phase in
-    (subst P (sym e) so_far, omega (arith, e))
-gap_read left.Apart same so_far end (n, le, h, e) = gap_by left.Apart same so_far apart_not end n le h e
-gap_read left.Quoted same so_far end (n, le, h, e) = gap_by left.Quoted same so_far quoted_not end n le h e

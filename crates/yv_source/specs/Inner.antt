@@ -1,5 +1,6 @@
 -- What private clauses cite: the states and answers of the code, and no meaning of a text.
 pub mod End
+pub mod Gap
 pub mod Machine
 pub mod Pairs
 pub mod Plain

@@ -5,6 +5,7 @@
 mod double_quotes;
 mod escapes;
 mod fault;
+mod gap;
 mod identifier;
 pub mod laws;
 mod machine;

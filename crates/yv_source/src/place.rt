@@ -1,7 +1,7 @@
-// Lines, columns and blanks of a text.
+// Lines and columns of a text.
 
-ghost use Rattle.std.specs.{Prelude.{◌≡◌, ◌≤◌, ◌<◌, ◌*◌, ◌^◌, ◌+◌, ◌==◌, count_by, length, take, IsTrue}, List.{list_all}};
-ghost use Rattle.yv_source.specs.{Characters.{line_feed}, Legal.{most_bytes}, Place.{mark_len, columns, column_of, column_past, line_of}, Pieces.{is_blank}, Inner.Place.{AreCounted}};
+ghost use Rattle.std.specs.{Prelude.{◌≡◌, ◌≤◌, ◌<◌, ◌*◌, ◌^◌, ◌+◌, ◌==◌, count_by, length, take}};
+ghost use Rattle.yv_source.specs.{Characters.{line_feed}, Legal.{most_bytes}, Place.{mark_len, columns, column_of, column_past, line_of}, Inner.Place.{AreCounted}};
 
 use memchr::memrchr;
 
@@ -36,25 +36,6 @@ impl Lines {
         self.at = front.len();
         self.line
     }
-}
-
-/// How many blanks a text begins with.
-pub(crate) fn blank_len(bytes: &[u8]) -> usize
-    ensures within { result ≤ length bytes.now }
-    ensures blank { IsTrue (list_all is_blank (take result bytes.now)) }
-{
-    for i in 0..bytes.len() {
-        if !is_blank(bytes[i]) {
-            return i;
-        }
-    }
-    bytes.len()
-}
-
-fn is_blank(byte: u8) -> bool
-    ensures { result ≡ is_blank byte }
-{
-    byte == b' ' || byte == b'\t' || byte == b'\r' || byte == b'\n'
 }
 
 /// How many bytes at the front of a text are a byte order mark.

@@ -2,12 +2,13 @@
 
 ghost use Rattle.std.specs.Prelude.{◌≡◌, ◌≤◌, ◌+◌, ◌*◌, ◌⊎◌, None, IfOk, IfSome, drop, length, reverse};
 ghost use Rattle.yv_statement.specs.{Tree.{Tree}, declared.refusal.Refusal.{Refusal}};
-ghost use Rattle.yv_source.specs.{Answer.{IsSpelled, IsRefused}, Legal.{IsLegalFile, most_bytes}, Order.{IsInOrder}, Place.{mark_len}, Inner.Place.{IsPastGap}, Inner.Scan.{before_of}, Inner.End.{Comes, ended_in, refusal_of_halt, IsChecked, IsEnd}};
+ghost use Rattle.yv_source.specs.{Answer.{IsSpelled, IsRefused}, Legal.{IsLegalFile, most_bytes}, Order.{IsInOrder}, Place.{mark_len}, Inner.End.{Comes, ended_in, refusal_of_halt, IsChecked, IsEnd}};
 
 use crate::escapes::{bad_found, is_newer};
 use crate::fault::refuse;
+use crate::gap::past_gap;
 use crate::machine::{Halt, Phase};
-use crate::place::{Lines, blank_len, mark_len_of};
+use crate::place::{Lines, mark_len_of};
 use crate::scan::{Ahead, Before, look_ahead};
 use crate::source::Source;
 use crate::turn::turn;
@@ -72,17 +73,6 @@ fn read<'a>(alloc: Global, text: &'a str, start: usize) -> Result<Statement<'a>,
         before = before.past(found);
         let end = at + found.length();
         at = past_gap(before, bytes, end);
-    }
-}
-
-// The offset after the blanks at one, unless an unquoted text is right before it.
-fn past_gap(before: Before, bytes: &[u8], at: usize) -> usize
-    requires { at ≤ length bytes.now }
-    ensures { IsPastGap (before_of before) at (drop at bytes.now) result }
-{
-    match before {
-        Before::Unquoted => at,
-        Before::Apart | Before::Quoted => at + blank_len(&bytes[at..]),
     }
 }
 

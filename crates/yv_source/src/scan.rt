@@ -289,8 +289,8 @@ fn single(before: Before, rest: &[u8]) -> Ahead
     }
 }
 
-// A comment, from behind its first two bytes.
-fn block_comment(rest: &[u8]) -> Ahead
+/// A comment between marks, from behind its first two bytes.
+pub(crate) fn block_comment(rest: &[u8]) -> Ahead
     ensures { let piece = Piece.BlockComment (until (begins_two asterisk slash) rest.now) in
         result ≡ ahead_of (closed_by_two piece (from (begins_two asterisk slash) rest.now)) }
 {

@@ -1,7 +1,5 @@
 -- Places as the reader counts them; cited by private clauses alone.
-use Rattle.std.specs.Prelude.{◌≡◌, ℕ, ◌+◌, ◌≤◌, IsTrue, List, length, take}
-use Rattle.std.specs.List.{list_all}
-use Rattle.yv_source.specs.Pieces.{is_blank, Before, UnquotedWord}
+use Rattle.std.specs.Prelude.{◌≡◌, ℕ, ◌≤◌, List, length, take}
 use Rattle.yv_source.specs.Place.{line_of, column_of}
 use Rattle.yv_source.specs.declared.place.Lines.{Lines}
 
@@ -23,12 +21,3 @@ place_at text at = record { at = at; line = line_of (take at text); column = col
 pub record AreCounted (lines : Lines) (front : List ℕ) : Type 0 where
   pub within : lines.at ≤ length front
   pub line : lines.line ≡ line_of (take lines.at front)
-
--- behind blanks at an offset, which a text begins with
-abbrev pub IsPastBlanks : ℕ → List ℕ → ℕ → Type 0
-IsPastBlanks at rest end = (n : ℕ) × (n ≤ length rest) × IsTrue (list_all is_blank (take n rest)) × (end ≡ at + n)
-
--- the same, but behind an unquoted text the offset stays
-abbrev pub IsPastGap : Before → ℕ → List ℕ → ℕ → Type 0
-IsPastGap UnquotedWord at rest end = end ≡ at
-IsPastGap _ at rest end = IsPastBlanks at rest end

@@ -1,6 +1,7 @@
 use Rattle.std.proofs.Common.{◌+◌, arith, ap, length}
 use Rattle.std.specs.Prelude.{reverse}
 use Rattle.yv_source.proofs.Counting.{counted_start, counted_on}
+use Rattle.yv_source.proofs.Gaps.{gap_read}
 use Rattle.yv_source.proofs.Loop as loop
 use Rattle.yv_source.proofs.reader.read.Goals as goal
 
@@ -76,7 +77,7 @@ loop-stack-smaller c =
     let f = loop.fits_in c.as_bytes-bytes.ensures.value c.loop-stack.invariant.0 c.look_ahead.ensures c.in-Piece.is in
     let g = loop.goes_on c.as_bytes-bytes.ensures.value c.loop-stack.invariant.0 c.look_ahead.ensures c.in-Piece.is in
     let e = ap length c.as_bytes-bytes.ensures.value in
-    let q = loop.gap_read _ c.as_bytes-bytes.ensures.value end _ c.past_gap-at.ensures in
+    let q = gap_read _ c.as_bytes-bytes.ensures.value end _ c.past_gap-at.ensures in
     omega (arith, f, g, e, c.length.ensures, q.1)
 
 pub loop-stack-preserved : goal.loop-stack-preserved
@@ -84,5 +85,5 @@ loop-stack-preserved c =
     let end = loop.read_to c.as_bytes-bytes.ensures.value c.loop-stack.invariant.0 c.look_ahead.ensures c.in-Piece.is
     (c.loop-stack.at + c.length.result) _ _ (reverse c.turn.new.stack.items) _ (ap (λ n. c.loop-stack.at + n) c.length.ensures) c.bad_found-bad.ensures.place c.bad_found-bad.ensures.within c.past-before.ensures c.in-Ok.ensures.gives
     in
-    let q = loop.gap_read _ c.as_bytes-bytes.ensures.value end _ c.past_gap-at.ensures in
+    let q = gap_read _ c.as_bytes-bytes.ensures.value end _ c.past_gap-at.ensures in
     (q.0, counted_on c.args.text.now _ c.loop-stack.at _ (omega (arith, q.1)) c.in-Ok.ensures.counts)
