@@ -2,27 +2,21 @@
 use Rattle.std.proofs.Common.{◌≡◌, ℕ, ◌+◌, ◌<◌, ◌⊎◌, ◌++◌, Bool, true, false, cond, List, [], ◌∷◌, length, Option, Some, None, IsSome, is_some, unwrap_or, Result, Ok, Err, OnOk, OnErr, if◌then◌else◌, Ordering, refl, sym, ◌∙◌, ap, subst, inl, inr, arith}
 use Rattle.std.specs.Bool.{Decides}
 use Rattle.std.specs.BTreeMap.{insert_entry}
-use Rattle.std.specs.Cmp.Lexicographic.{slice_cmp}
 use Rattle.std.specs.Map.{keys_of, lookup, set_value}
 use Rattle.std.specs.Ordering.{is_eq, match_ordering}
 use Rattle.std.proofs.lemmas.Map.Steps.{set_value_same}
 use Rattle.std.specs.declared.cmp.Ordering.TheVariants.{Less, Equal, Greater}
 use Rattle.yv_values.specs.declared.key.Key.{Key}
-use Rattle.yv_values.specs.contracts.value.AtomOrd.TheImpl.{cmp-value}
-use Rattle.yv_values.specs.InnerKeys.{atoms_of, key_of}
+use Rattle.yv_values.specs.InnerKeys.{atoms_of, key_of, key_cmp}
 use Rattle.yv_values.specs.InnerPlaces.{pairs_at, pairs_of, AreApart}
 use Rattle.yv_values.specs.Pairs.{Pair, Keeps, IsLeast, IsWithin, Adds}
 use Rattle.yv_values.specs.Places.{IsPlace, AddsPlace, IsLeastPlace, HasBetween}
 use Rattle.yv_values.specs.Values.{Val}
-use Rattle.yv_values.proofs.Same.{same_keys}
-
--- the order of keys
-abbrev pub order : Key → Key → Ordering
-order x y = slice_cmp cmp-value.it (atoms_of x) (atoms_of y)
+use Rattle.yv_values.proofs.KeyOrder.{same_rows}
 
 -- the test by which a map finds this key
 abbrev pub finds : Key → Key → Bool
-finds key other = is_eq (order key other)
+finds key other = is_eq (key_cmp key other)
 
 at_split : (key : List Val) (ps : List ℕ) (rest : List Pair) (k : List Val) (p : ℕ) → Keeps (pairs_at key ps ++ rest) k p → ((key ≡ k) × IsPlace ps p) ⊎ Keeps rest k p
 at_split key [] rest k p h = inr h
@@ -90,13 +84,13 @@ placed P Greater x y z f g h = h
 
 module _ (key : Key) where
   differs : (other : Key) → finds key other ≡ false → key_of other ≡ key_of key → ⊥
-  differs other f e = let t : true ≡ false = sym ((same_keys (atoms_of key) (atoms_of other)).1 (sym e)) ∙ f in cc
+  differs other f e = let t : true ≡ false = sym ((same_rows (atoms_of key) (atoms_of other)).1 (sym e)) ∙ f in cc
 
   -- the places of the key that is found are kept at it
   pub found_keeps : (es : List (Key × List ℕ)) (ps : List ℕ) (p : ℕ) → lookup (finds key) es ≡ Some ps → IsPlace ps p → Keeps (pairs_of es) (key_of key) p
   found_keeps [] ps p f h = absurd (cc)
   found_keeps (e ∷ es) ps p f h = elim (if_found (finds key e.0) e.1 ps (lookup (finds key) es) f) [
-    | inl t ↦ at_join (key_of e.0) e.1 (pairs_of es) _ p (inl (sym ((same_keys (atoms_of key) (atoms_of e.0)).0 t.0), subst (λ (xs : List ℕ). IsPlace xs p) (sym t.1) h))
+    | inl t ↦ at_join (key_of e.0) e.1 (pairs_of es) _ p (inl (sym ((same_rows (atoms_of key) (atoms_of e.0)).0 t.0), subst (λ (xs : List ℕ). IsPlace xs p) (sym t.1) h))
     | inr g ↦ at_join (key_of e.0) e.1 (pairs_of es) _ p (inr (found_keeps es ps p g.1 h))
   ]
 
@@ -106,7 +100,7 @@ module _ (key : Key) where
   keeps_found (e ∷ es) ps p a f h = elim (if_found (finds key e.0) e.1 ps (lookup (finds key) es) f) [
     | inl t ↦ elim (at_split (key_of e.0) e.1 (pairs_of es) _ p h) [
       | inl here ↦ subst (λ (xs : List ℕ). IsPlace xs p) t.1 here.1
-      | inr later ↦ absurd (a.1 p (subst (λ (k : List Val). Keeps (pairs_of es) k p) ((same_keys (atoms_of key) (atoms_of e.0)).0 t.0) later))
+      | inr later ↦ absurd (a.1 p (subst (λ (k : List Val). Keeps (pairs_of es) k p) ((same_rows (atoms_of key) (atoms_of e.0)).0 t.0) later))
     ]
     | inr g ↦ elim (at_split (key_of e.0) e.1 (pairs_of es) _ p h) [
       | inl here ↦ absurd (differs e.0 g.0 here.0)
@@ -131,7 +125,7 @@ module _ (key : Key) where
       by : (b : Bool) → finds key e.0 ≡ b → (((p : ℕ) → Keeps (pairs_of es) (key_of key) p → ⊥) → lookup (finds key) es ≡ None) → cond b (Some e.1) (lookup (finds key) es) ≡ None
       by true t later =
           let one = place_of e.1 a.0 in
-          absurd (none one.0 (at_join (key_of e.0) e.1 (pairs_of es) _ one.0 (inl (sym ((same_keys (atoms_of key) (atoms_of e.0)).0 t), one.1))))
+          absurd (none one.0 (at_join (key_of e.0) e.1 (pairs_of es) _ one.0 (inl (sym ((same_rows (atoms_of key) (atoms_of e.0)).0 t), one.1))))
       by false t later = later (λ p h. none p (at_join (key_of e.0) e.1 (pairs_of es) _ p (inr h)))
 
   pub within_found : (es : List (Key × List ℕ)) (ps : List ℕ) (b : Bool) (first last : ℕ) → AreApart es → lookup (finds key) es ≡ Some ps → Decides b (HasBetween ps first last) → Decides b (IsWithin (pairs_of es) (key_of key) first last)
@@ -145,7 +139,7 @@ module _ (key : Key) where
   set_adds [] ps new p f h = absurd (cc)
   set_adds (e ∷ es) ps new p f h = elim (if_found (finds key e.0) e.1 ps (lookup (finds key) es) f) [
     | inl t ↦ rw t.0 (
-        subst (λ (k : List Val). Adds (pairs_of (e ∷ es)) (pairs_at (key_of e.0) new ++ pairs_of es) k p) (sym ((same_keys (atoms_of key) (atoms_of e.0)).0 t.0)) (adds_here (key_of e.0) e.1 new (pairs_of es) p (subst (λ (xs : List ℕ). AddsPlace xs new p) (sym t.1) h))
+        subst (λ (k : List Val). Adds (pairs_of (e ∷ es)) (pairs_at (key_of e.0) new ++ pairs_of es) k p) (sym ((same_rows (atoms_of key) (atoms_of e.0)).0 t.0)) (adds_here (key_of e.0) e.1 new (pairs_of es) p (subst (λ (xs : List ℕ). AddsPlace xs new p) (sym t.1) h))
         )
     | inr g ↦ rw g.0 (adds_later (key_of e.0) e.1 (pairs_of es) (pairs_of (set_value (finds key) es new)) (key_of key) p (set_adds es ps new p g.1 h))
   ]
@@ -162,34 +156,34 @@ module _ (key : Key) where
   ]
 
 module _ (key : Key) (p : ℕ) where
-  pub insert_adds : (es : List (Key × List ℕ)) → lookup (finds key) es ≡ None → Adds (pairs_of es) (pairs_of (insert_entry order es key (p ∷ []))) (key_of key) p
+  pub insert_adds : (es : List (Key × List ℕ)) → lookup (finds key) es ≡ None → Adds (pairs_of es) (pairs_of (insert_entry key_cmp es key (p ∷ []))) (key_of key) p
   insert_adds [] f = adds_here (key_of key) [] (p ∷ []) [] p (one_place p)
   insert_adds (e ∷ es) f =
       let g = if_none (finds key e.0) e.1 (lookup (finds key) es) f in
-      placed (λ (xs : List (Key × List ℕ)). Adds (pairs_of (e ∷ es)) (pairs_of xs) (key_of key) p) (order key e.0) _ _ _ g.0
+      placed (λ (xs : List (Key × List ℕ)). Adds (pairs_of (e ∷ es)) (pairs_of xs) (key_of key) p) (key_cmp key e.0) _ _ _ g.0
       (adds_here (key_of key) [] (p ∷ []) (pairs_of (e ∷ es)) p (one_place p))
       (adds_later (key_of e.0) e.1 (pairs_of es) _ (key_of key) p (insert_adds es g.1))
 
-  pub insert_apart : (es : List (Key × List ℕ)) → AreApart es → lookup (finds key) es ≡ None → AreApart (insert_entry order es key (p ∷ []))
+  pub insert_apart : (es : List (Key × List ℕ)) → AreApart es → lookup (finds key) es ≡ None → AreApart (insert_entry key_cmp es key (p ∷ []))
   insert_apart [] a f = (omega arith, λ r kept. kept, tt)
   insert_apart (e ∷ es) a f =
       let g = if_none (finds key e.0) e.1 (lookup (finds key) es) f in
-      placed AreApart (order key e.0) _ _ _ g.0
+      placed AreApart (key_cmp key e.0) _ _ _ g.0
       (omega arith, λ r kept. none_kept key (e ∷ es) r f kept, a)
       (a.0, λ r kept. elim ((insert_adds es g.1 (key_of e.0) r).0 kept) [ inl k ↦ a.1 r k | inr s ↦ differs key e.0 g.0 s.0 ], insert_apart es a.2 g.1)
 
 -- an insert that leaves the keys as they are writes at the key that is found
 module _ (key : Key) (new : List ℕ) where
-  pub insert_sets : (es : List (Key × List ℕ)) → keys_of (insert_entry order es key new) ≡ keys_of es → insert_entry order es key new ≡ set_value (finds key) es new
+  pub insert_sets : (es : List (Key × List ℕ)) → keys_of (insert_entry key_cmp es key new) ≡ keys_of es → insert_entry key_cmp es key new ≡ set_value (finds key) es new
   insert_sets [] h = absurd (cc)
-  insert_sets (e ∷ es) h = by (order key e.0) h (λ g. insert_sets es g)
+  insert_sets (e ∷ es) h = by (key_cmp key e.0) h (λ g. insert_sets es g)
     where
-      by : (o : Ordering) → keys_of (match_ordering o ((key, new) ∷ e ∷ es) ((e.0, new) ∷ es) (e ∷ insert_entry order es key new)) ≡ keys_of (e ∷ es)
-          → (keys_of (insert_entry order es key new) ≡ keys_of es → insert_entry order es key new ≡ set_value (finds key) es new)
-          → match_ordering o ((key, new) ∷ e ∷ es) ((e.0, new) ∷ es) (e ∷ insert_entry order es key new) ≡ cond (is_eq o) ((e.0, new) ∷ es) (e ∷ set_value (finds key) es new)
+      by : (o : Ordering) → keys_of (match_ordering o ((key, new) ∷ e ∷ es) ((e.0, new) ∷ es) (e ∷ insert_entry key_cmp es key new)) ≡ keys_of (e ∷ es)
+          → (keys_of (insert_entry key_cmp es key new) ≡ keys_of es → insert_entry key_cmp es key new ≡ set_value (finds key) es new)
+          → match_ordering o ((key, new) ∷ e ∷ es) ((e.0, new) ∷ es) (e ∷ insert_entry key_cmp es key new) ≡ cond (is_eq o) ((e.0, new) ∷ es) (e ∷ set_value (finds key) es new)
       by Less g later = let longer = ap (λ (ks : List Key). length ks) g in absurd (omega (arith, longer))
       by Equal g later = refl
-      by Greater g later = let same : keys_of (insert_entry order es key new) ≡ keys_of es = cc in ap (λ xs. e ∷ xs) (later same)
+      by Greater g later = let same : keys_of (insert_entry key_cmp es key new) ≡ keys_of es = cc in ap (λ xs. e ∷ xs) (later same)
 
 -- after `add` at the key that is found, whether it had memory or not
 module _ {X E : Type 0} (r : Result X E) (key : Key) (es : List (Key × List ℕ)) (ps new : List ℕ) (p : ℕ) (f : lookup (finds key) es ≡ Some ps) where
@@ -207,21 +201,21 @@ same_after (Err e) key es ps new old f same is = ap pairs_of (ap (set_value (fin
 
 -- after one look-up that puts a place at the key, where it has none
 module _ (key : Key) (p : ℕ) (es new : List (Key × List ℕ)) (apart : AreApart es) where
-  stays : (ps : List ℕ) → lookup (finds key) es ≡ Some ps → new ≡ insert_entry order es key ps → keys_of new ≡ keys_of es → new ≡ es
+  stays : (ps : List ℕ) → lookup (finds key) es ≡ Some ps → new ≡ insert_entry key_cmp es key ps → keys_of new ≡ keys_of es → new ≡ es
   stays ps f is same = is ∙ insert_sets key ps es (ap keys_of (sym is) ∙ same) ∙ set_value_same (finds key) es ps f
 
-  pub looked_up_apart : (o : Option (List ℕ)) → o ≡ lookup (finds key) es → new ≡ insert_entry order es key (unwrap_or o (p ∷ [])) → (IsSome o → keys_of new ≡ keys_of es) → AreApart new
+  pub looked_up_apart : (o : Option (List ℕ)) → o ≡ lookup (finds key) es → new ≡ insert_entry key_cmp es key (unwrap_or o (p ∷ [])) → (IsSome o → keys_of new ≡ keys_of es) → AreApart new
   looked_up_apart None f is same = subst AreApart (sym is) (insert_apart key p es apart (sym f))
   looked_up_apart (Some ps) f is same = subst AreApart (sym (stays ps (sym f) is (same refl))) apart
 
   -- where there are as many entries as before, the key was known
-  pub looked_up_known : (o : Option (List ℕ)) (q : ℕ) → o ≡ lookup (finds key) es → new ≡ insert_entry order es key (unwrap_or o (p ∷ [])) → (IsSome o → keys_of new ≡ keys_of es)
+  pub looked_up_known : (o : Option (List ℕ)) (q : ℕ) → o ≡ lookup (finds key) es → new ≡ insert_entry key_cmp es key (unwrap_or o (p ∷ [])) → (IsSome o → keys_of new ≡ keys_of es)
       → length new ≡ length es + (if is_some o then 0 else 1) → length new ≡ length es → IsLeastPlace (unwrap_or o (p ∷ [])) q
       → IsLeast (pairs_of es) (key_of key) (Some q) × (pairs_of new ≡ pairs_of es)
   looked_up_known None q f is same len known least = absurd (omega (arith, len, known))
   looked_up_known (Some ps) q f is same len known least = (least_found key es ps q apart (sym f) least, ap pairs_of (stays ps (sym f) is (same refl)))
 
-  pub looked_up_new : (o : Option (List ℕ)) → o ≡ lookup (finds key) es → new ≡ insert_entry order es key (unwrap_or o (p ∷ []))
+  pub looked_up_new : (o : Option (List ℕ)) → o ≡ lookup (finds key) es → new ≡ insert_entry key_cmp es key (unwrap_or o (p ∷ []))
       → length new ≡ length es + (if is_some o then 0 else 1) → (length new ≡ length es → ⊥)
       → IsLeast (pairs_of es) (key_of key) None × Adds (pairs_of es) (pairs_of new) (key_of key) p
   looked_up_new None f is len other = (λ q k. none_kept key es q (sym f) k, subst (λ (xs : List (Key × List ℕ)). Adds (pairs_of es) (pairs_of xs) (key_of key) p) (sym is) (insert_adds key p es (sym f)))

@@ -3,6 +3,7 @@ pub mod Ascending
 pub mod Chosen
 pub mod Fewer
 pub mod Found
+pub mod KeyOrder
 pub mod Keys
 pub mod Mapped
 pub mod Numbered

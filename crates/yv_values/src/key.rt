@@ -1,7 +1,7 @@
 //! The values of a key, and their order.
-ghost use Rattle.std.specs.{Prelude.{◌≡◌, ◌∷◌, [], ◌++◌, Some, is_ok, if◌then◌else◌}, Cmp.{on_per, on_equiv, on_total, partial_order_from_agreeing_total}, Cmp.Lexicographic.{pointwise, slice_cmp, lists_per, lists_equiv, lists_total, lists_ties}};
+ghost use Rattle.std.specs.{Prelude.{◌≡◌, ◌∷◌, [], ◌++◌, Some, is_ok, if◌then◌else◌}, Cmp.{eq_by_cmp_equiv, partial_equiv_from_equiv, partial_order_from_total}, Cmp.Lexicographic.{slice_cmp}, Ordering.{eq_by_cmp, nat_cmp}};
 ghost use mathlib.Core.Path.{refl};
-ghost use Rattle.yv_values.specs.{InnerKeys.{atoms_of}, contracts.value.AtomPartialEq.TheImpl.{eq-value}, contracts.value.AtomPartialEq.TheImpl.Laws.{laws-law as atoms_per}, contracts.value.AtomEq.TheImpl.Laws.{laws-law as atoms_equiv}, contracts.value.AtomOrd.TheImpl.{cmp-value}, contracts.value.AtomOrd.TheImpl.Laws.{total-law, matches_eq-law}};
+ghost use Rattle.yv_values.specs.{InnerKeys.{atoms_of, number_of, numbers_of, row_cmp, key_cmp, key_total}};
 
 use crate::value::Atom;
 use std::alloc::{AllocError, Global};
@@ -50,23 +50,23 @@ impl Key {
 }
 
 impl PartialEq for Key {
-    ghost eq = { λ x y. pointwise eq-value.it (atoms_of x) (atoms_of y) };
+    ghost eq = { eq_by_cmp key_cmp };
 
-    ghost laws = { on_per atoms_of (lists_per atoms_per) };
+    ghost laws = { partial_equiv_from_equiv (eq_by_cmp_equiv key_total) };
 
     fn eq(&self, other: &Key) -> bool {
-        are_same(self.as_slice(), other.as_slice())
+        self.cmp(other).is_eq()
     }
 }
 
 impl Eq for Key {
-    ghost laws = { on_equiv atoms_of (lists_equiv atoms_equiv) };
+    ghost laws = { eq_by_cmp_equiv key_total };
 }
 
 impl PartialOrd for Key {
-    ghost partial_cmp = { λ x y. Some (slice_cmp cmp-value.it (atoms_of x) (atoms_of y)) };
+    ghost partial_cmp = { λ x y. Some (key_cmp x y) };
 
-    ghost laws = { partial_order_from_agreeing_total (λ x y. slice_cmp cmp-value.it (atoms_of x) (atoms_of y)) (on_total atoms_of (lists_total total-law)) (λ x y. refl) (λ x y. lists_ties cmp-value.it matches_eq-law (atoms_of x) (atoms_of y)) };
+    ghost laws = { partial_order_from_total key_total };
 
     fn partial_cmp(&self, other: &Key) -> Option<Ordering> {
         Some(self.cmp(other))
@@ -74,13 +74,13 @@ impl PartialOrd for Key {
 }
 
 impl Ord for Key {
-    ghost cmp = { λ x y. slice_cmp cmp-value.it (atoms_of x) (atoms_of y) };
+    ghost cmp = { key_cmp };
 
-    ghost total = { on_total atoms_of (lists_total total-law) };
+    ghost total = { key_total };
 
     ghost matches_partial_cmp = { λ x y. refl };
 
-    ghost matches_eq = { λ x y. lists_ties cmp-value.it matches_eq-law (atoms_of x) (atoms_of y) };
+    ghost matches_eq = { λ x y. refl };
 
     // Most keys are one number or one text. These are compared first, since a search of an index
     // compares many keys.
@@ -91,22 +91,40 @@ impl Ord for Key {
                 Key::One(Atom::Whole(Integer::Natural(another))),
             ) => one.cmp(another),
             (Key::One(Atom::Text(one)), Key::One(Atom::Text(another))) => one.cmp(another),
-            (Key::One(one), Key::One(another)) => one.cmp(another),
             _ => compare(self.as_slice(), other.as_slice()),
         }
     }
 }
 
-// Whether the values are the same.
-fn are_same<'a>(one: &'a [Atom], other: &'a [Atom]) -> bool
-    ensures { result ≡ pointwise eq-value.it one.now other.now }
+// The order of the values. Their numbers are compared first, since that costs least: they are kept
+// in the row itself.
+fn compare<'a>(one: &'a [Atom], other: &'a [Atom]) -> Ordering
+    ensures { result ≡ row_cmp one.now other.now }
 {
-    one == other
+    let order = compare_numbers(one, other);
+    if order.is_ne() {
+        return order;
+    }
+    Ord::cmp(&one, &other)
 }
 
-// The order of the values, which is that of the first two that differ.
-fn compare<'a>(one: &'a [Atom], other: &'a [Atom]) -> Ordering
-    ensures { result ≡ slice_cmp cmp-value.it one.now other.now }
+fn compare_numbers(one: &[Atom], other: &[Atom]) -> Ordering
+    ensures { result ≡ slice_cmp nat_cmp (numbers_of one.now) (numbers_of other.now) }
 {
-    Ord::cmp(&one, &other)
+    for i in 0..one.len().min(other.len()) {
+        let order = number_of(&one[i]).cmp(&number_of(&other[i]));
+        if order.is_ne() {
+            return order;
+        }
+    }
+    one.len().cmp(&other.len())
+}
+
+fn number_of(atom: &Atom) -> u64
+    ensures { result ≡ number_of atom.now }
+{
+    match atom {
+        Atom::Whole(Integer::Natural(number)) => *number,
+        _ => 0,
+    }
 }

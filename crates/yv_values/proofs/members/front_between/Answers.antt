@@ -1,4 +1,4 @@
-use Rattle.std.proofs.Common.{◌≡◌, ◌≤◌, ◌∙◌, List, length, map, arith, Bor}
+use Rattle.std.proofs.Common.{◌≡◌, List, length, map, arith, Bor}
 use Rattle.std.proofs.lemmas.List.{length-map}
 use Rattle.yv_values.specs.declared.members.Member.{Member}
 use Rattle.yv_values.specs.Identities.{Id, id_of}

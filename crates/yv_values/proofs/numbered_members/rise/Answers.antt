@@ -1,7 +1,4 @@
-use Rattle.std.proofs.Common.{◌≡◌, ◌<◌, length, get_or, arith}
-use Rattle.std.specs.List.{AllAdjacentBelow}
-use Rattle.std.specs.declared.cmp.Ordering.TheVariants.{Less}
-use Rattle.yv_values.specs.declared.numbered_members.NumberedMember.{NumberedMember}
+use Rattle.std.proofs.Common.{arith}
 use Rattle.yv_values.specs.Identities.{id_cmp}
 use Rattle.yv_values.specs.InnerMembers.{entry_id}
 use Rattle.yv_values.proofs.Found.{ids_total}
