@@ -10,16 +10,16 @@ TOP = os.path.dirname(os.path.dirname(os.path.abspath(__file__)))
 PARTS = ("src", "specs", "proofs")
 
 
-def listed():
+def listed(top=TOP):
     """The lines of crates.txt, by crate."""
-    with open(os.path.join(TOP, "crates.txt"), encoding="utf-8") as file:
+    with open(os.path.join(top, "crates.txt"), encoding="utf-8") as file:
         lines = [line for line in file if not line.startswith("#") and ":" in line]
     return {line.partition(":")[0].split()[0]: line for line in lines}
 
 
-def uses():
+def uses(top=TOP):
     """Each crate with the crates of the repository that it names."""
-    lines = listed()
+    lines = listed(top)
     return {name: [it for it in line.partition(":")[2].split() if it in lines] for name, line in lines.items()}
 
 
@@ -34,9 +34,9 @@ def below(named, name):
     return found
 
 
-def folder_of(name):
+def folder_of(name, top=TOP):
     """The folder of a crate."""
-    return os.path.join(TOP, "crates", name)
+    return os.path.join(top, "crates", name)
 
 
 def size_of(name):

@@ -12,6 +12,7 @@ Graph = List (Vec ℕ Global)
 abbrev pub IsGraph : Graph → Type 0
 IsGraph g = All (λ row. All (λ b. b < length g) row.items) g
 
+-- an edge goes from a to b
 abbrev pub HasEdge : Graph → ℕ → ℕ → Type 0
 HasEdge g a b = (row : Vec ℕ Global) × (slice_get g a ≡ Some row) × Contains row.items b
 
@@ -20,6 +21,7 @@ pub data LeadsTo (g : Graph) : ℕ → ℕ → Type 0 where
   by_edge : {a b : ℕ} → HasEdge g a b → LeadsTo g a b
   by_way : {a b c : ℕ} → HasEdge g a b → LeadsTo g b c → LeadsTo g a c
 
+-- a node is marked; none is past the end of the marks
 abbrev pub IsMarked : List Bool → ℕ → Type 0
 IsMarked marks b = slice_index_or marks b false ≡ true
 
@@ -54,17 +56,20 @@ pub record AreRanks (g : Graph) (ranks : List ℕ) : Type 0 where
   pub each : length ranks ≡ length g
   pub falls : (a b : ℕ) → HasEdge g a b → slice_index ranks b < slice_index ranks a
 
--- all nodes, each once and behind all that it leads to
+-- all nodes, each once and after all that it leads to
 pub record IsOrder (g : Graph) (order : List ℕ) : Type 0 where
   pub each : length order ≡ length g
   pub within : All (λ a. a < length g) order
   pub stands : (a : ℕ) → a < length g → Contains order a
-  pub once : (i j : ℕ) → i < length order → j < length order → slice_index order i ≡ slice_index order j → i ≡ j
-  pub behind : (i b : ℕ) → i < length order → LeadsTo g (slice_index order i) b → Contains (take i order) b
+  pub once : (i j : ℕ) → i < length order → j < length order
+      → slice_index order i ≡ slice_index order j → i ≡ j
+  pub behind : (i b : ℕ) → i < length order → LeadsTo g (slice_index order i) b
+      → Contains (take i order) b
 
 -- the rank of a node is its place in the order
 pub record ArePlaces (ranks order : List ℕ) : Type 0 where
   pub each : length order ≡ length ranks
   pub within : (i : ℕ) → i < length order → slice_index order i < length ranks
   pub placed : (i : ℕ) → i < length order → slice_index ranks (slice_index order i) ≡ i
-  pub found : (a : ℕ) → a < length ranks → (slice_index ranks a < length order) × (slice_index order (slice_index ranks a) ≡ a)
+  pub found : (a : ℕ) → a < length ranks
+      → (slice_index ranks a < length order) × (slice_index order (slice_index ranks a) ≡ a)

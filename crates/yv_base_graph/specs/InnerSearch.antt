@@ -9,7 +9,7 @@ use Rattle.yv_base_graph.specs.declared.search.State.{State}
 use Rattle.yv_base_graph.specs.declared.search.State.TheVariants.{New, Pending, Done}
 use Rattle.yv_base_graph.specs.Graph.{Graph, HasEdge, LeadsTo}
 
--- what the search keeps; each list is told at the struct's field
+-- what the search keeps; each list is known at the struct's field
 pub record Progress : Type 0 where
   pub states : List State
   pub cursors : List ℕ
@@ -63,7 +63,7 @@ pub record Skips (node next : ℕ) (old new : Progress) : Type 0 where
   pub order : new.order ≡ old.order
   pub least : new.least ≡ old.least
 
--- the groups behind a place are one with its group, since the node leads there and so to itself
+-- the groups after a place are one with its group, since the node leads there and so to itself
 pub record Joins (node place : ℕ) (old new : Progress) : Type 0 where
   pub states : new.states ≡ old.states
   pub cursors : new.cursors ≡ old.cursors
@@ -83,7 +83,7 @@ pub record Retreats (old new : Progress) : Type 0 where
   pub order : new.order ≡ old.order
   pub least : new.least ≡ old.least
 
--- a group is whole: its nodes have their rank and stand next in the order
+-- a group is whole: its nodes have their rank and are next in the order
 pub record Leaves (place : ℕ) (old new : Progress) : Type 0 where
   pub states : Closes (length old.order) (drop place old.pending) old.states new.states
   pub cursors : new.cursors ≡ old.cursors
@@ -119,18 +119,23 @@ is_new (Done r) = false
 pub record IsSearch (g : Graph) (s : Progress) : Type 0 where
   pub each : length s.states ≡ length g
   pub each_cursor : length s.cursors ≡ length g
-  pub placed : (x p : ℕ) → state_of s.states x ≡ Pending p → (p < length s.pending) × (slice_index s.pending p ≡ x)
-  pub waits : (p : ℕ) → p < length s.pending → state_of s.states (slice_index s.pending p) ≡ Pending p
+  pub placed : (x p : ℕ) → state_of s.states x ≡ Pending p
+      → (p < length s.pending) × (slice_index s.pending p ≡ x)
+  pub waits : (p : ℕ) → p < length s.pending
+      → state_of s.states (slice_index s.pending p) ≡ Pending p
   pub path_sorted : IsSorted s.path
   pub path_within : (p : ℕ) → Among p s.path → p < length s.pending
   pub heads_sorted : IsSorted s.heads
   pub heads_on_path : (h : ℕ) → Among h s.heads → Among h s.path
   pub first_head : 0 < length s.pending → Among 0 s.heads
-  pub onward : (p q : ℕ) → p ≤ q → q < length s.pending → Reaches g (slice_index s.pending p) (slice_index s.pending q)
+  pub onward : (p q : ℕ) → p ≤ q → q < length s.pending
+      → Reaches g (slice_index s.pending p) (slice_index s.pending q)
   pub back : (p q : ℕ) → q ≤ p → p < length s.pending → NoHead s.heads q p
       → Reaches g (slice_index s.pending p) (slice_index s.pending q)
-  pub followed : (x p : ℕ) → state_of s.states x ≡ Pending p → (row : Vec ℕ Global) → slice_get g x ≡ Some row
-      → (e : ℕ) → e < slice_index s.cursors x → e < length row.items → IsFollowed s x p (slice_index row.items e)
+  pub followed : (x p : ℕ) → state_of s.states x ≡ Pending p → (row : Vec ℕ Global)
+      → slice_get g x ≡ Some row
+      → (e : ℕ) → e < slice_index s.cursors x → e < length row.items
+      → IsFollowed s x p (slice_index row.items e)
   pub finished : (p : ℕ) → p < length s.pending
       → Among p s.path
       ⊎ ((row : Vec ℕ Global) → slice_get g (slice_index s.pending p) ≡ Some row
@@ -140,12 +145,15 @@ pub record IsSearch (g : Graph) (s : Progress) : Type 0 where
   pub ranked : (x r : ℕ) → state_of s.states x ≡ Done r → r < length s.order
   pub falls : (x r y : ℕ) → state_of s.states x ≡ Done r → HasEdge g x y
       → (t : ℕ) × (state_of s.states y ≡ Done t) × (t ≤ r) × (x < s.least → t < r)
-  pub same : (x y r : ℕ) → state_of s.states x ≡ Done r → state_of s.states y ≡ Done r → Reaches g x y
+  pub same : (x y r : ℕ) → state_of s.states x ≡ Done r → state_of s.states y ≡ Done r
+      → Reaches g x y
   pub bound : s.least ≤ length g
   pub cycle : s.least < length g → LeadsTo g s.least s.least
   pub alone : s.least ≡ length g → (p : ℕ) → p < length s.pending → Among p s.heads
-  pub found : s.least ≡ length g → (x r : ℕ) → state_of s.states x ≡ Done r → slice_index s.order r ≡ x
-  pub numbered : s.least ≡ length g → (i : ℕ) → i < length s.order → state_of s.states (slice_index s.order i) ≡ Done i
+  pub found : s.least ≡ length g → (x r : ℕ) → state_of s.states x ≡ Done r
+      → slice_index s.order r ≡ x
+  pub numbered : s.least ≡ length g → (i : ℕ) → i < length s.order
+      → state_of s.states (slice_index s.order i) ≡ Done i
 
 -- for the end of the search
 abbrev pub edges_left : Graph → List ℕ → ℕ

@@ -9,9 +9,13 @@ use std::alloc::{AllocError, Global};
 /// The first node that leads to itself, for a caller that needs no order of the nodes, and so not
 /// `rank`.
 pub fn first_on_cycle(alloc: Global, graph: &[Vec<usize>]) -> Result<Option<usize>, AllocError>
+    // Each edge goes to a node of the graph.
     requires graph { IsGraph graph.now }
+    // The least node that leads to itself.
     ensures first { IfOk result (λ found. IfSome found (IsFirstOnCycle graph.now)) }
+    // None is returned only if no node leads to itself.
     ensures none { IfOk result (λ found. IfNone found (HasNoCycle graph.now)) }
+    // Then there are ranks that fall along each edge.
     ensures ranks { IfOk result (λ found. IfNone found (HasRanks graph.now)) }
 {
     let search = Search::run(alloc, graph)?;
@@ -47,7 +51,9 @@ fn peers(alloc: Global, graph: &[Vec<usize>], ranks: &Vec<usize>) -> Result<Vec<
 
 /// Marks exactly the nodes that lead to themselves.
 pub fn nodes_on_cycles(alloc: Global, graph: &[Vec<usize>]) -> Result<Vec<bool>, AllocError>
+    // Each edge goes to a node of the graph.
     requires graph { IsGraph graph.now }
+    // Exactly the nodes that lead to themselves are marked.
     ensures exact { IfOk result (λ marks. AreOnCycles graph.now marks.items) }
 {
     if has_no_edge(graph) {
@@ -111,12 +117,17 @@ fn searched_ranking(alloc: Global, graph: &[Vec<usize>]) -> Result<Ranking, Allo
 
 /// Ranks the nodes, or finds the first that leads to itself.
 pub fn rank(alloc: Global, graph: &[Vec<usize>]) -> Result<Ranking, AllocError>
+    // Each edge goes to a node of the graph.
     requires graph { IsGraph graph.now }
+    // A rank for each node, which falls along each edge.
     ensures ranks { IfOk result
         (λ ranked. IfRanks ranked (λ ranks order. AreRanks graph.now ranks)) }
+    // All nodes, each once and after all that it leads to.
     ensures order { IfOk result
         (λ ranked. IfRanks ranked (λ ranks order. IsOrder graph.now order)) }
+    // The rank of a node is its place in that order.
     ensures places { IfOk result (λ ranked. IfRanks ranked ArePlaces) }
+    // Without ranks, the least node that leads to itself.
     ensures cycle { IfOk result (λ ranked. IfCycle ranked (IsFirstOnCycle graph.now)) }
 {
     if has_no_edge(graph) {

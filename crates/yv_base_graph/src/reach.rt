@@ -29,8 +29,11 @@ pub fn reachable_from(
     graph: &[Vec<usize>],
     from: usize,
 ) -> Result<Vec<bool>, AllocError>
+    // Each edge goes to a node of the graph.
     requires graph { IsGraph graph.now }
+    // `from` is one of its nodes.
     requires from { from < length graph.now }
+    // Exactly the nodes to which `from` leads by one or more edges are marked.
     ensures exact { IfOk result (λ marks. AreReached graph.now from marks.items) }
 {
     let mut marks = vec![in alloc; false; graph.len()]?;

@@ -4,14 +4,15 @@ use Rattle.std.specs.Prelude.{ℕ, ℤ, List, Option, Some, None, option_map, if
 use Rattle.std.specs.Str.Parse.{without_leading_sign, starts_with_minus}
 use Rattle.yv_base_numbers.specs.Numbers.{is_numeral, value_after, with_sign}
 
--- What an entry states: nothing, a whole number of any size, or what is no whole number. The check
--- of arguments, which comes before, refuses the last. It says no number, so that the entry is
+-- What an entry states: nothing, a whole number of any size, or what isn't a whole number. The
+-- check of arguments, which comes before, refuses the last. It says no number, so that the entry is
 -- wrong.
 pub data StatedNumber : Type 0 where
   nothing : StatedNumber
   whole : ℤ → StatedNumber
   no_number : StatedNumber
 
+-- an entry of an enumeration or bits type: its name and the number that it states
 pub record Entry : Type 0 where
   pub name : List ℕ
   pub stated : StatedNumber
@@ -23,8 +24,10 @@ decimal_number ds = if is_numeral 10 ds then Some (value_after 10 0 ds) else Non
 -- The whole number of any size that a sign, or none, and decimal digits write. That it is the one
 -- of the grammar is said by the law `whole_numbers_are_written`.
 abbrev pub whole_number : List ℕ → Option ℤ
-whole_number text = option_map (with_sign (starts_with_minus text)) (decimal_number (without_leading_sign text))
+whole_number text =
+    option_map (with_sign (starts_with_minus text)) (decimal_number (without_leading_sign text))
 
+-- a stated whole number, or that there is none
 abbrev pub number_or_none : Option ℤ → StatedNumber
 number_or_none None = no_number
 number_or_none (Some n) = whole n

@@ -1,4 +1,4 @@
--- For private clauses alone: what is kept of the entries that were passed.
+-- For private clauses only: what is kept of the entries that were passed.
 use Rattle.std.specs.Prelude.{◌≡◌, ℕ, ◌<◌, ℤ, Bool, not, ◌||◌, List, [], ◌∷◌, ◌++◌, Option, Some, None, is_some, if◌then◌else◌}
 use Rattle.std.specs.BTreeSet.{contains}
 use Rattle.std.specs.Borrow.{Bor}
@@ -12,7 +12,8 @@ use Rattle.yv_base_numbers.specs.declared.earlier_entries.EarlierEntries.{Earlie
 
 -- the name has the number, and the others have theirs
 abbrev pub Gives : Numbering → Numbering → List ℕ → ℤ → Type 0
-Gives old new name n = (s : List ℕ) → table_of new s ≡ (if bytes_eq name s then Some n else table_of old s)
+Gives old new name n =
+    (s : List ℕ) → table_of new s ≡ (if bytes_eq name s then Some n else table_of old s)
 
 -- the table of these pairs
 abbrev pub Tells : Numbering → List Pair → Type 0
@@ -26,14 +27,16 @@ pub record Keeps (seen : EarlierEntries) (ps : List Pair) : Type 0 where
 
 -- Behind the pairs that were kept it tells whether an entry isn't wrong, and then it keeps the
 -- entry's pair too.
-abbrev pub Adds : {S : Type 0} → (S → List Pair → Type 0) → (List Pair → Bool) → (List Pair → Pair) → S → S → Bool → Type 0
+abbrev pub Adds : {S : Type 0} → (S → List Pair → Type 0) → (List Pair → Bool) → (List Pair → Pair)
+    → S → S → Bool → Type 0
 Adds {S} holds wrong pair old new good =
     (ps : List Pair) → holds old ps →
     (good ≡ not (wrong ps)) × holds new (if wrong ps then ps else ps ++ pair ps ∷ [])
 
--- the number that this text states, or the next one behind the highest
+-- the number that this text states, or the next one after the highest
 abbrev pub number_behind : Option ℤ → Option (Bor (List ℕ)) → Option ℤ
-number_behind highest stated = number_from (next_number highest) (stated_number (option_map (λ t. t.now) stated))
+number_behind highest stated =
+    number_from (next_number highest) (stated_number (option_map (λ t. t.now) stated))
 
 -- the first place where an entry was wrong, with one more entry, at this place
 abbrev pub first_with : Option ℕ → ℕ → Bool → Option ℕ

@@ -9,6 +9,7 @@ pub record Interval : Type 0 where
   pub low : ℤ
   pub high : ℤ
 
+-- the interval of numbers between the two ends of a span
 abbrev pub interval : Span → Interval
 interval s = record { low = integer s.low; high = integer s.high }
 

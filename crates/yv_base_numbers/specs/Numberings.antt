@@ -30,6 +30,7 @@ number_in (p ∷ ps) s = if bytes_eq p.name s then Some p.number else number_in 
 abbrev pub is_taken : List Pair → ℤ → Bool
 is_taken ps n = list_any (λ p. int_eq p.number n) ps
 
+-- the greater of the highest so far and a number
 abbrev pub higher : Option ℤ → ℤ → ℤ
 higher None n = n
 higher (Some h) n = int_max h n
@@ -39,6 +40,7 @@ abbrev pub highest_from : Option ℤ → List Pair → Option ℤ
 highest_from h [] = h
 highest_from h (p ∷ ps) = highest_from (Some (higher h p.number)) ps
 
+-- the highest number that was assigned, if any was
 abbrev pub highest : List Pair → Option ℤ
 highest ps = highest_from None ps
 
@@ -53,11 +55,12 @@ number_from after nothing = Some after
 number_from after (whole n) = Some n
 number_from after no_number = None
 
+-- the number of an entry after those that have theirs
 abbrev pub number_of : List Pair → Entry → Option ℤ
 number_of before e = number_from (next_number (highest before)) e.stated
 
 -- the name with its number; an entry that has no number is wrong, so that it doesn't matter which
--- one stands here
+-- one is here
 abbrev pub pair_of : List Pair → Entry → Pair
 pair_of before e = record { name = e.name; number = unwrap_or (number_of before e) (pos 0) }
 
@@ -71,10 +74,11 @@ abbrev pub is_free : NumberKind → List Pair → Option ℤ → Bool
 is_free kind before None = false
 is_free kind before (Some n) = not (is_taken before n) && is_number kind n
 
--- Behind these pairs an entry of a new type is wrong: its name or its number is taken, or it has no
+-- After these pairs an entry of a new type is wrong: its name or its number is there, or it has no
 -- number, or the kind hasn't the number.
 abbrev pub is_wrong : NumberKind → List Pair → Entry → Bool
-is_wrong kind before e = is_some (number_in before e.name) || not (is_free kind before (number_of before e))
+is_wrong kind before e =
+    is_some (number_in before e.name) || not (is_free kind before (number_of before e))
 
 -- the name with the number that the base gives it
 abbrev pub pair_in : (List ℕ → Option ℤ) → Entry → Pair
@@ -87,19 +91,22 @@ agrees nothing (Some n) = true
 agrees (whole m) (Some n) = int_eq m n
 agrees no_number (Some n) = false
 
--- Behind these pairs an entry of a derived type is wrong: its name is taken or is none of the
+-- After these pairs an entry of a derived type is wrong: its name is there, or is not one of the
 -- base's, or something other than the number is stated.
 abbrev pub is_wrong_in : (List ℕ → Option ℤ) → List Pair → Entry → Bool
 is_wrong_in base before e = is_some (number_in before e.name) || not (agrees e.stated (base e.name))
 
--- the pairs with that of one more entry, which is left out where it is wrong behind them
-abbrev pub with_entry : (List Pair → Entry → Bool) → (List Pair → Entry → Pair) → List Pair → Entry → List Pair
+-- the pairs with that of one more entry, which is left out where it is wrong after them
+abbrev pub with_entry : (List Pair → Entry → Bool) → (List Pair → Entry → Pair) → List Pair → Entry
+    → List Pair
 with_entry wrong pair before e = if wrong before e then before else before ++ pair before e ∷ []
 
 -- these pairs with those of the entries, one entry after another
-abbrev pub pairs_behind : (List Pair → Entry → Bool) → (List Pair → Entry → Pair) → List Pair → List Entry → List Pair
+abbrev pub pairs_behind : (List Pair → Entry → Bool) → (List Pair → Entry → Pair) → List Pair
+    → List Entry → List Pair
 pairs_behind wrong pair before [] = before
-pairs_behind wrong pair before (e ∷ es) = pairs_behind wrong pair (with_entry wrong pair before e) es
+pairs_behind wrong pair before (e ∷ es) =
+    pairs_behind wrong pair (with_entry wrong pair before e) es
 
 -- each name of a new type with its number; the entries that are wrong are left out
 abbrev pub number_entries : NumberKind → List Entry → List Pair
@@ -109,16 +116,20 @@ number_entries kind es = pairs_behind (is_wrong kind) pair_of [] es
 abbrev pub keep_numbers : (List ℕ → Option ℤ) → List Entry → List Pair
 keep_numbers base es = pairs_behind (is_wrong_in base) (λ before e. pair_in base e) [] es
 
--- the entry at this place is wrong behind the pairs of those before it
-abbrev pub IsWrongAt : (List Entry → List Pair) → (List Pair → Entry → Bool) → List Entry → ℕ → Type 0
-IsWrongAt pairs wrong es i = (e : Entry) × (slice_get es i ≡ Some e) × (wrong (pairs (take i es)) e ≡ true)
+-- the entry at this place is wrong after the pairs of those before it
+abbrev pub IsWrongAt : (List Entry → List Pair) → (List Pair → Entry → Bool) → List Entry → ℕ
+    → Type 0
+IsWrongAt pairs wrong es i =
+    (e : Entry) × (slice_get es i ≡ Some e) × (wrong (pairs (take i es)) e ≡ true)
 
 -- the least place where an entry is wrong, or none where no entry is
-abbrev pub IsFirstWrong : (List Entry → List Pair) → (List Pair → Entry → Bool) → List Entry → Option ℕ → Type 0
+abbrev pub IsFirstWrong : (List Entry → List Pair) → (List Pair → Entry → Bool) → List Entry
+    → Option ℕ → Type 0
 IsFirstWrong pairs wrong es None = (k : ℕ) → IsWrongAt pairs wrong es k → ⊥
 IsFirstWrong pairs wrong es (Some i) =
     IsWrongAt pairs wrong es i × ((k : ℕ) → k < i → IsWrongAt pairs wrong es k → ⊥)
 
+-- the number under a name in a map
 abbrev pub lookup_in : BTreeMap (Bor (List ℕ)) ℤ → List ℕ → Option ℤ
 lookup_in m name = get_by (λ k. slice_cmp nat_cmp name k.now) m
 

@@ -7,6 +7,7 @@ pub use Rattle.yv_base_numbers.specs.Intervals.{Interval, interval, ends_below, 
 abbrev pub lowest : List Interval → Option ℤ
 lowest is = option_map (λ i. i.low) (slice_get is 0)
 
+-- the highest number of intervals that ascend
 abbrev pub highest : List Interval → Option ℤ
 highest is = option_map (λ i. i.high) (slice_get is (length is - 1))
 

@@ -104,7 +104,7 @@ fn without_blanks(text: &[u8]) -> &[u8]
     before_blanks(behind_blanks(text))
 }
 
-// The text behind the blanks that it begins with.
+// The text after the blanks that it begins with.
 fn behind_blanks(text: &[u8]) -> &[u8]
     ensures { result.now ≡ behind_blanks text.now }
 {

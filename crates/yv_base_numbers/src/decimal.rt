@@ -76,7 +76,7 @@ fn value_with_zeros(whole: &[u8], fraction: &[u8], zeros: usize) -> Option<u64>
     with_zeros(longer, zeros)
 }
 
-// The number with so many zeros behind.
+// The number with so many zeros after.
 fn with_zeros(from: u64, count: usize) -> Option<u64>
     ensures { result ≡ within_64_bits (from * 10 ^ count) }
 {

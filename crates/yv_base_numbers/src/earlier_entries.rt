@@ -17,8 +17,10 @@ pub fn number_entries<'a>(
     kind: NumberKind,
     entries: &[ListedEntry<'a>],
 ) -> Result<NumberedEntries<'a>, AllocError>
+    // The number of each name of a new enumeration or bits type; a wrong entry is left out.
     ensures numbers { IfOk result (λ r. (name : List ℕ)
         → table_of r.numbering name ≡ number_in (number_entries kind entries.now) name) }
+    // The first wrong entry, or none if all are right.
     ensures wrong { IfOk result (λ r.
         IsFirstWrong (number_entries kind) (is_wrong kind) entries.now r.first_wrong) }
 {

@@ -38,9 +38,12 @@ impl Model for Intervals {
 impl Intervals {
     /// These intervals, or `None` where they don't ascend or one is empty. It takes linear time.
     pub fn new(spans: Vec<Span>) -> Result<Option<Intervals>, AllocError>
+        // They are these intervals.
         ensures same { IfOk result (λ found. IfSome found (λ v. v ≡ map interval spans.items)) }
+        // They ascend.
         ensures orders { IfOk result
             (λ found. IfSome found (λ v. ascend (map interval spans.items) ≡ true)) }
+        // None is returned only if they don't ascend.
         ensures refuses { IfOk result
             (λ found. IfNone found (ascend (map interval spans.items) ≡ false)) }
     {
@@ -62,7 +65,9 @@ impl Intervals {
 
     /// The intervals, in ascending order.
     pub fn spans(&self) -> &[Span]
+        // The intervals that contracts see.
         ensures same { map interval result.now ≡ self.now }
+        // They ascend.
         ensures orders { ascend self.now ≡ true }
     {
         &self.spans

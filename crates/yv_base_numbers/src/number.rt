@@ -102,7 +102,7 @@ pub fn digits(radix: u64, from: u64, text: &[u8]) -> Option<u64>
     Some(number)
 }
 
-// A digit behind a number.
+// A digit after a number.
 fn append_digit(radix: u64, number: u64, digit: u8) -> Option<u64>
     ensures { result ≡ within_64_bits (number * radix + digit_of digit) }
 {

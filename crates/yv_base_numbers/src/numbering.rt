@@ -86,9 +86,11 @@ impl<'a> Numbering<'a> {
         alloc: Global,
         entries: &[ListedEntry<'a>],
     ) -> Result<NumberedEntries<'a>, AllocError>
+        // Each name that is right keeps the number that it has here.
         ensures numbers { IfOk result (λ r. (name : List ℕ)
             → table_of r.numbering name
             ≡ number_in (keep_numbers (table_of self.now) entries.now) name) }
+        // The first wrong entry, or none if all are right.
         ensures wrong { IfOk result (λ r.
             IsFirstWrong (keep_numbers (table_of self.now)) (is_wrong_in (table_of self.now))
             entries.now r.first_wrong) }

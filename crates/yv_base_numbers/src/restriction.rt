@@ -18,7 +18,9 @@ pub fn restrict(
     base: &Intervals,
     digits: Option<u32>,
 ) -> Result<Option<Intervals>, AllocError>
+    // The intervals are those to which the text restricts the base.
     ensures restricts { IfOk result (λ found. IfSome found (Restricts digits base.now text.now)) }
+    // None is returned only if the text restricts the base to nothing.
     ensures refuses { IfOk result (λ found. IfNone found
         ((is : List Interval) → Restricts digits base.now text.now is → ⊥)) }
 {

@@ -5,11 +5,16 @@ ghost use Rattle.yv_base_numbers.specs.{Numerals.{HasSign, IsNumeral}, Assignmen
 /// No entry of a new type is wrong exactly where all have the numbers that are assigned to them,
 /// and then each name gets just this number.
 pub fn numbers_are_assigned()
+    // If all entries have the numbers that are assigned to them, none is wrong.
     ensures right { (kind : NumberKind) (es : List Entry) (ns : List ℤ) → AreNumbers kind es ns
         → IsFirstWrong (number_entries kind) (is_wrong kind) es None }
+    // Then each name has exactly its number.
     ensures same { (kind : NumberKind) (es : List Entry) (ns : List ℤ) → AreNumbers kind es ns
         → (map (λ p. p.name) (number_entries kind es) ≡ names_of es)
         × (map (λ p. p.number) (number_entries kind es) ≡ ns) }
+    // If no entry is wrong, all entries have such numbers: names and numbers differ, numbers are of
+    // the kind's 32 bits, and each is the stated one, else 0 for the first entry and one more than
+    // the highest so far for a later one.
     ensures there { (kind : NumberKind) (es : List Entry)
         → IsFirstWrong (number_entries kind) (is_wrong kind) es None
         → AreNumbers kind es (map (λ p. p.number) (number_entries kind es)) }
@@ -17,11 +22,15 @@ pub fn numbers_are_assigned()
 
 /// The same of a derived type, whose names keep the numbers of the base.
 pub fn numbers_are_kept()
+    // If names differ, each is one of the base, and nothing but the base's number is stated, no
+    // entry is wrong.
     ensures right { (base : List ℕ → Option ℤ) (es : List Entry) (ns : List ℤ) → AreKept base es ns
         → IsFirstWrong (keep_numbers base) (is_wrong_in base) es None }
+    // Then each name has the base's number.
     ensures same { (base : List ℕ → Option ℤ) (es : List Entry) (ns : List ℤ) → AreKept base es ns
         → (map (λ p. p.name) (keep_numbers base es) ≡ names_of es)
         × (map (λ p. p.number) (keep_numbers base es) ≡ ns) }
+    // If no entry is wrong, that holds of all of them.
     ensures there { (base : List ℕ → Option ℤ) (es : List Entry)
         → IsFirstWrong (keep_numbers base) (is_wrong_in base) es None
         → AreKept base es (map (λ p. p.number) (keep_numbers base es)) }

@@ -11,13 +11,16 @@ pub record GoesOn (paths : List (List ℕ)) (front step path : ℕ) : Type 0 whe
 pub record HaveFronts (paths : List (List ℕ)) : Type 0 where
   pub first : slice_get paths 0 ≡ Some []
   pub alone : (path : ℕ) → slice_get paths path ≡ Some [] → path ≡ 0
-  pub front : (path : ℕ) (steps : List ℕ) (step : ℕ) → slice_get paths path ≡ Some (steps ++ step ∷ []) → (front : ℕ) × GoesOn paths front step path
+  pub front : (path : ℕ) (steps : List ℕ) (step : ℕ)
+      → slice_get paths path ≡ Some (steps ++ step ∷ [])
+      → (front : ℕ) × GoesOn paths front step path
 
 -- paths keep their numbers
 abbrev pub KeepPaths : (old new : List (List ℕ)) → Type 0
-KeepPaths old new = (path : ℕ) (steps : List ℕ) → slice_get old path ≡ Some steps → slice_get new path ≡ Some steps
+KeepPaths old new =
+    (path : ℕ) (steps : List ℕ) → slice_get old path ≡ Some steps → slice_get new path ≡ Some steps
 
--- a number stands among these
+-- a number is among these
 pub record StandsIn (numbers : List ℕ) (number : ℕ) : Type 0 where
   pub place : ℕ
   pub at : slice_get numbers place ≡ Some number

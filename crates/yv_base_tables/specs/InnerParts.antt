@@ -2,7 +2,7 @@
 use Rattle.std.specs.Prelude.{◌≡◌, ℕ, zero, suc, ◌≤◌, List, [], ◌∷◌, slice_index_or}
 use Rattle.std.specs.List.{slice_range}
 
--- what stands before each of these ends, behind the end before it
+-- what comes before each of these ends, after the end before it
 abbrev pub parts : List ℕ → ℕ → List ℕ → List (List ℕ)
 parts numbers from [] = []
 parts numbers from (end ∷ ends) = slice_range numbers from end ∷ parts numbers end ends

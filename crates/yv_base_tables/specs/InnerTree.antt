@@ -33,24 +33,33 @@ branches_at tree front = branches_in tree.branches.items front
 
 -- there is room for one more path that goes on from another
 abbrev pub HasRoom : List (Vec ℕ Global) → (front : ℕ) → Type 0
-HasRoom branches front = (row : Vec ℕ Global) → slice_get branches front ≡ Some row → vec_len row < vec_capacity row
+HasRoom branches front =
+    (row : Vec ℕ Global) → slice_get branches front ≡ Some row → vec_len row < vec_capacity row
 
 -- these are the paths of the tree, by number
 pub record IsPathTree (paths : List (List ℕ)) (tree : PathTree) : Type 0 where
   pub fronts : HaveFronts paths
-  pub differ : (first second : ℕ) (steps : List ℕ) → slice_get paths first ≡ Some steps → slice_get paths second ≡ Some steps → first ≡ second
+  pub differ : (first second : ℕ) (steps : List ℕ) → slice_get paths first ≡ Some steps
+      → slice_get paths second ≡ Some steps → first ≡ second
   pub steps : length tree.steps.items ≡ length paths
   pub branches : length tree.branches.items ≡ length paths
-  pub step : (front step path : ℕ) → GoesOn paths front step path → slice_get tree.steps.items path ≡ Some step
-  pub known : (front step path : ℕ) → known_in tree front step ≡ Some path → GoesOn paths front step path
-  pub all_known : (front step path : ℕ) → GoesOn paths front step path → known_in tree front step ≡ Some path
-  pub branch : (front path : ℕ) → StandsIn (branches_at tree front) path → (step : ℕ) × GoesOn paths front step path
-  pub all_branches : (front step path : ℕ) → GoesOn paths front step path → StandsIn (branches_at tree front) path
-  pub deepest : (path : ℕ) (steps : List ℕ) → slice_get paths path ≡ Some steps → length steps ≤ tree.deepest
+  pub step : (front step path : ℕ) → GoesOn paths front step path
+      → slice_get tree.steps.items path ≡ Some step
+  pub known : (front step path : ℕ) → known_in tree front step ≡ Some path
+      → GoesOn paths front step path
+  pub all_known : (front step path : ℕ) → GoesOn paths front step path
+      → known_in tree front step ≡ Some path
+  pub branch : (front path : ℕ) → StandsIn (branches_at tree front) path
+      → (step : ℕ) × GoesOn paths front step path
+  pub all_branches : (front step path : ℕ) → GoesOn paths front step path
+      → StandsIn (branches_at tree front) path
+  pub deepest : (path : ℕ) (steps : List ℕ) → slice_get paths path ≡ Some steps
+      → length steps ≤ tree.deepest
   pub reached : IsReached paths tree.deepest
 
 -- the tree has a path of this number more, or had it
-pub record IsAdded (paths : List (List ℕ)) (steps : List ℕ) (path : ℕ) (now : PathTree) : Type 0 where
+pub record IsAdded (paths : List (List ℕ)) (steps : List ℕ) (path : ℕ)
+    (now : PathTree) : Type 0 where
   pub all : List (List ℕ)
   pub tree : IsPathTree all now
   pub kept : KeepPaths paths all

@@ -14,7 +14,7 @@ fn start(ends: &[usize], place: usize) -> usize
     if place == 0 { 0 } else { ends[place - 1] }
 }
 
-// What stands between two places of a list.
+// What is between two places of a list.
 fn part(numbers: &[usize], start: usize, end: usize) -> &[usize]
     requires order { start ≤ end }
     requires within { end ≤ length numbers.now }

@@ -31,8 +31,8 @@ fn make_room(branches: &mut [Vec<usize>], front: usize) -> Result<(), AllocError
     Ok(())
 }
 
-// A path goes on from a numbered one, behind those that did before; from none where no path has
-// this number.
+// A path goes on from a numbered one, after those that did before; from none where no path has this
+// number.
 fn branch(branches: &mut [Vec<usize>], front: usize, path: usize) -> Result<(), AllocError>
     ensures here { front < length branches.old
         → OnOk result
@@ -69,8 +69,10 @@ impl PathTree {
     /// The path that goes on from a numbered one by a step, if there is one. Takes time log n in
     /// paths.
     pub fn next(&self, front: usize, step: usize) -> Option<usize>
+        // What is returned extends the numbered path by this step.
         ensures some { (paths : List (List ℕ)) → IsPathTree paths self.now
             → IfSome result (GoesOn paths front step) }
+        // If a path does, it is returned.
         ensures all { (paths : List (List ℕ)) (path : ℕ) → IsPathTree paths self.now
             → GoesOn paths front step path
             → result ≡ Some path }
@@ -147,9 +149,11 @@ impl PathTree {
 
     /// The paths that go on from a numbered one by one step.
     pub fn branches(&self, front: usize) -> &[usize]
+        // Each of them extends the numbered path by one step.
         ensures some { (paths : List (List ℕ)) (path : ℕ) → IsPathTree paths self.now
             → StandsIn result.now path
             → (step : ℕ) × GoesOn paths front step path }
+        // Each path that does is one of them.
         ensures all { (paths : List (List ℕ)) (step path : ℕ) → IsPathTree paths self.now
             → GoesOn paths front step path
             → StandsIn result.now path }
@@ -172,9 +176,11 @@ impl PathTree {
 
     /// How many steps a path has than which none has more.
     pub fn deepest(&self) -> usize
+        // No path has more steps.
         ensures most { (paths : List (List ℕ)) (path : ℕ) (steps : List ℕ)
             → IsPathTree paths self.now
             → slice_get paths path ≡ Some steps → length steps ≤ result }
+        // A path has so many.
         ensures reaches { (paths : List (List ℕ)) → IsPathTree paths self.now
             → IsReached paths result }
     {

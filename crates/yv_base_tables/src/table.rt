@@ -1,5 +1,5 @@
 //! Values at some of many numbers.
-ghost use Rattle.std.specs.{Prelude.{◌≡◌, ◌≢◌, ◌<◌, ◌≤◌, ℕ, Some, None, length, slice_index_or, OnOk}, List.{All}, Option.{option_copied}};
+ghost use Rattle.std.specs.{Prelude.{◌≡◌, ◌≢◌, ◌<◌, ◌≤◌, ℕ, Some, None, length, slice_index_or, OnErr, OnOk}, List.{All}, Option.{option_copied}};
 
 use std::alloc::{AllocError, Global};
 
@@ -52,8 +52,8 @@ impl<T: Drop> Table<T> {
     // Puts a value at a number.
     fn put_item(&mut self, number: usize, item: T) -> Result<(), AllocError>
         ensures here { OnOk result (item_of self.new number ≡ Some item) }
-        ensures elsewhere { OnOk result
-            ((k : ℕ) → k ≢ number → item_of self.new k ≡ item_of self.old k) }
+        ensures elsewhere { (k : ℕ) → k ≢ number → item_of self.new k ≡ item_of self.old k }
+        ensures keeps { OnErr result (item_of self.new number ≡ item_of self.old number) }
     {
         grow(&mut self.places, number)?;
         self.items.push(item)?;
@@ -71,11 +71,15 @@ impl<T: Drop> Table<T> {
         }
     }
 
-    /// Puts a value, or none, at a number. Err only if memory runs out.
+    /// Puts a value, or none, at a number. Err only if memory runs out, and then each number has
+    /// what it had.
     pub fn put(&mut self, number: usize, item: Option<T>) -> Result<(), AllocError>
+        // This is at that number then, or nothing.
         ensures here { OnOk result (item_of self.new number ≡ item) }
-        ensures elsewhere { OnOk result
-            ((k : ℕ) → k ≢ number → item_of self.new k ≡ item_of self.old k) }
+        // What is at other numbers stays, also after an error.
+        ensures elsewhere { (k : ℕ) → k ≢ number → item_of self.new k ≡ item_of self.old k }
+        // After an error what was at this number stays.
+        ensures keeps { OnErr result (item_of self.new number ≡ item_of self.old number) }
     {
         match item {
             Some(item) => self.put_item(number, item),

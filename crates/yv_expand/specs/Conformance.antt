@@ -1,4 +1,4 @@
--- Files that conform, and what may stand below their statements (RFC 7950, section 7).
+-- Files that conform, and what may be below their statements (RFC 7950, section 7).
 use Rattle.std.specs.Prelude.{◌≡◌, ℕ, ◌||◌, Bool, List, [], ◌∷◌, Some, codes, slice_get}
 use Rattle.yv_statement.specs.Tree.{Tree}
 use Rattle.yv_text_grammar.specs.Fits.{Fits}
@@ -11,7 +11,7 @@ use Rattle.yv_expand.specs.Units.{nodes, operations}
 abbrev pub Conform : Files → Type 0
 Conform files = (n : ℕ) (root : Tree) → slice_get files n ≡ Some root → Fits root
 
--- a leaf, leaf-list, anydata or anyxml: no schema node stands below one
+-- a leaf, leaf-list, anydata or anyxml: no schema node is below one
 abbrev pub lowest : List (List ℕ)
 lowest = codes "leaf" ∷ codes "leaf-list" ∷ codes "anydata" ∷ codes "anyxml" ∷ []
 

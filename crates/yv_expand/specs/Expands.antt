@@ -8,25 +8,34 @@ use Rattle.yv_expand.specs.StatementBlocks.{block_of, is_operation, is_node_or_u
 use Rattle.yv_expand.specs.declared.origin.Origin.TheVariants.{Statement, Input, Output}
 use Rattle.yv_expand.specs.Tree.{Tree, none, item, join}
 
--- what stands in the blocks of the augments among numbered statements, augment by augment
+-- what is in the blocks of the augments among numbered statements, augment by augment
 abbrev pub blocks_of : List Row → List ℕ → List ℕ
 blocks_of rows numbers = flat_map (block_of rows) (those is_augment rows numbers)
 
--- The numbered statements, in order, give these items: each is one, above what stands in its block;
--- an operation above its input and then its output, written or not, each above what stands in it;
--- and a uses above a copy of what stands in the block of its grouping and, behind that, what stands
--- in the blocks of its augments. Statements that are no items give none.
+-- The numbered statements, in order, give these items: each is one, above what is in its block; an
+-- operation above its input and then its output, written or not, each above what is in it; and a
+-- uses above a copy of what is in the block of its grouping and, after that, what is in the blocks
+-- of its augments. Statements that aren't items give none.
 pub data Expands (files : Briefs) (rows : List Row) : List ℕ → Tree → Type 0 where
   nothing : Expands files rows [] none
-  other : {k : ℕ} {r : Row} {others : List ℕ} {t : Tree} → slice_get rows k ≡ Some r → is_node_or_uses r ≡ false → Expands files rows others t
+  other : {k : ℕ} {r : Row} {others : List ℕ} {t : Tree} → slice_get rows k ≡ Some r
+      → is_node_or_uses r ≡ false → Expands files rows others t
       → Expands files rows (k ∷ others) t
-  node : {k : ℕ} {r : Row} {others : List ℕ} {below behind : Tree} → slice_get rows k ≡ Some r → is_node_or_uses r ≡ true → is_operation r ≡ false
-      → ((d : ℕ) → RefersTo files rows k d → ⊥) → Expands files rows (block_of rows k) below → Expands files rows others behind
+  node : {k : ℕ} {r : Row} {others : List ℕ} {below behind : Tree} → slice_get rows k ≡ Some r
+      → is_node_or_uses r ≡ true → is_operation r ≡ false
+      → ((d : ℕ) → RefersTo files rows k d → ⊥) → Expands files rows (block_of rows k) below
+      → Expands files rows others behind
       → Expands files rows (k ∷ others) (item (Statement k) below behind)
-  operation : {k : ℕ} {r : Row} {others : List ℕ} {input output behind : Tree} → slice_get rows k ≡ Some r → is_operation r ≡ true
-      → Expands files rows (part_block rows (input_of rows k)) input → Expands files rows (part_block rows (output_of rows k)) output
+  operation : {k : ℕ} {r : Row} {others : List ℕ} {input output behind : Tree}
+      → slice_get rows k ≡ Some r → is_operation r ≡ true
+      → Expands files rows (part_block rows (input_of rows k)) input
+      → Expands files rows (part_block rows (output_of rows k)) output
       → Expands files rows others behind → Expands files rows (k ∷ others)
-      (item (Statement k) (item (part (Input k) (input_of rows k)) input (item (part (Output k) (output_of rows k)) output none)) behind)
-  uses : {k d : ℕ} {r : Row} {others : List ℕ} {copies given behind : Tree} → slice_get rows k ≡ Some r → is_node_or_uses r ≡ true → RefersTo files rows k d
-      → Expands files rows (block_of rows d) copies → Expands files rows (blocks_of rows (block_of rows k)) given
-      → Expands files rows others behind → Expands files rows (k ∷ others) (item (Statement k) (join copies given) behind)
+      (item (Statement k) (item (part (Input k) (input_of rows k)) input
+      (item (part (Output k) (output_of rows k)) output none)) behind)
+  uses : {k d : ℕ} {r : Row} {others : List ℕ} {copies given behind : Tree}
+      → slice_get rows k ≡ Some r → is_node_or_uses r ≡ true → RefersTo files rows k d
+      → Expands files rows (block_of rows d) copies
+      → Expands files rows (blocks_of rows (block_of rows k)) given
+      → Expands files rows others behind
+      → Expands files rows (k ∷ others) (item (Statement k) (join copies given) behind)

@@ -1,5 +1,5 @@
 -- Inner definitions, which only private clauses cite: items by the block or the file in which they
--- stand, and what they give.
+-- are, and what they give.
 use Rattle.std.specs.Prelude.{◌≡◌, ℕ, zero, suc, ◌<◌, ◌==◌, ◌&&◌, not, Bool, true, false, List, [], ◌∷◌, ◌++◌, length, map, if◌then◌else◌, Option, Some, None, slice_get, slice_index_or}
 use Rattle.std.specs.Option.{is_some}
 use Rattle.std.specs.declared.vec.Vec.{Vec}
@@ -32,13 +32,15 @@ is_wanted Outputs r = is_output r
 is_wanted Augments r = is_augment r
 is_wanted Counted r = counts r
 
--- the block in which a statement stands that passes a test
+-- the block in which a statement is that passes a test
 abbrev pub block_place : (Row → Bool) → ℕ → Row → Option ℕ
 block_place test k r = if test r && not (r.scope == k) then Some r.scope else None
 
--- the file at whose top a statement stands that passes a test
+-- the file at whose top a statement is that passes a test
 abbrev pub top_place : (Row → Bool) → Briefs → ℕ → Row → Option ℕ
-top_place test files k r = if test r && ((r.scope == module_file_at files r.file) && not (r.scope == k)) then Some r.file else None
+top_place test files k r =
+    if test r && ((r.scope == module_file_at files r.file) && not (r.scope == k)) then Some r.file
+    else None
 
 abbrev pub is_place : ℕ → Option ℕ → Bool
 is_place p None = false
@@ -52,9 +54,11 @@ abbrev pub AreEmpty : Lists → Type 0
 AreEmpty lists = (p : ℕ) (v : Vec ℕ Global) → slice_get lists p ≡ Some v → v.items ≡ []
 
 -- for each of so many places its statements
-pub record ArePlaced (place : ℕ → Row → Option ℕ) (rows : List Row) (count : ℕ) (lists : Lists) : Type 0 where
+pub record ArePlaced (place : ℕ → Row → Option ℕ) (rows : List Row) (count : ℕ)
+    (lists : Lists) : Type 0 where
   pub each : length lists ≡ count
-  pub items : (p : ℕ) (v : Vec ℕ Global) → slice_get lists p ≡ Some v → v.items ≡ placed_from place p 0 rows
+  pub items : (p : ℕ) (v : Vec ℕ Global) → slice_get lists p ≡ Some v
+      → v.items ≡ placed_from place p 0 rows
 
 abbrev pub numbers_in : Option (Vec ℕ Global) → List ℕ
 numbers_in None = []
@@ -76,10 +80,15 @@ tops_before lists marks (suc file) = tops_before lists marks file ++ top_at list
 -- for each statement the items in its block, the inputs and outputs there, and the items in the
 -- blocks of the augments there
 pub record AreBlocks (rows : List Row) (blocks : Blocks) : Type 0 where
-  pub own : (k : ℕ) → k < length rows → numbers_at blocks.own.items k ≡ those is_node_or_uses rows (block_of rows k)
-  pub inputs : (k : ℕ) → k < length rows → numbers_at blocks.inputs.items k ≡ those is_input rows (block_of rows k)
-  pub outputs : (k : ℕ) → k < length rows → numbers_at blocks.outputs.items k ≡ those is_output rows (block_of rows k)
-  pub given : (k : ℕ) → k < length rows → numbers_at blocks.given.items k ≡ those is_node_or_uses rows (blocks_of rows (block_of rows k))
+  pub own : (k : ℕ) → k < length rows
+      → numbers_at blocks.own.items k ≡ those is_node_or_uses rows (block_of rows k)
+  pub inputs : (k : ℕ) → k < length rows
+      → numbers_at blocks.inputs.items k ≡ those is_input rows (block_of rows k)
+  pub outputs : (k : ℕ) → k < length rows
+      → numbers_at blocks.outputs.items k ≡ those is_output rows (block_of rows k)
+  pub given : (k : ℕ) → k < length rows
+      → numbers_at blocks.given.items k
+      ≡ those is_node_or_uses rows (blocks_of rows (block_of rows k))
 
 -- what numbered statements are as origins, and the items among them
 abbrev pub origins : List ℕ → List Origin
@@ -88,24 +97,31 @@ origins numbers = map Statement numbers
 abbrev pub items_among : List Row → List ℕ → List Origin
 items_among rows numbers = origins (those is_node_or_uses rows numbers)
 
--- what stands below an item, in order: below an operation its two parts, below a uses what it
--- copies and what its augments give, below another statement the items of its block, and below a
--- part that isn't written nothing
+-- what is below an item, in order: below an operation its two parts, below a uses what it copies
+-- and what its augments give, below another statement the items of its block, and below a part that
+-- isn't written nothing
 pub data StandBelow (files : Briefs) (rows : List Row) : Origin → List Origin → Type 0 where
-  below_node : {k : ℕ} {r : Row} → slice_get rows k ≡ Some r → is_operation r ≡ false → ((d : ℕ) → RefersTo files rows k d → ⊥)
+  below_node : {k : ℕ} {r : Row} → slice_get rows k ≡ Some r → is_operation r ≡ false
+      → ((d : ℕ) → RefersTo files rows k d → ⊥)
       → StandBelow files rows (Statement k) (items_among rows (block_of rows k))
   below_operation : {k : ℕ} {r : Row} → slice_get rows k ≡ Some r → is_operation r ≡ true
-      → StandBelow files rows (Statement k) (part (Input k) (input_of rows k) ∷ part (Output k) (output_of rows k) ∷ [])
-  below_uses : {k d : ℕ} {r : Row} → slice_get rows k ≡ Some r → is_operation r ≡ false → RefersTo files rows k d
-      → StandBelow files rows (Statement k) (items_among rows (block_of rows d) ++ items_among rows (blocks_of rows (block_of rows k)))
+      → StandBelow files rows (Statement k)
+      (part (Input k) (input_of rows k) ∷ part (Output k) (output_of rows k) ∷ [])
+  below_uses : {k d : ℕ} {r : Row} → slice_get rows k ≡ Some r → is_operation r ≡ false
+      → RefersTo files rows k d
+      → StandBelow files rows (Statement k)
+      (items_among rows (block_of rows d)
+      ++ items_among rows (blocks_of rows (block_of rows k)))
   below_input : {k : ℕ} → StandBelow files rows (Input k) []
   below_output : {k : ℕ} → StandBelow files rows (Output k) []
 
 -- the items give this tree
 pub data Give (files : Briefs) (rows : List Row) : List Origin → Tree → Type 0 where
   no_more : Give files rows [] none
-  one_more : {origin : Origin} {inner others : List Origin} {below behind : Tree} → StandBelow files rows origin inner
-      → Give files rows inner below → Give files rows others behind → Give files rows (origin ∷ others) (item origin below behind)
+  one_more : {origin : Origin} {inner others : List Origin} {below behind : Tree}
+      → StandBelow files rows origin inner
+      → Give files rows inner below → Give files rows others behind
+      → Give files rows (origin ∷ others) (item origin below behind)
 
 abbrev pub item_at : Option ℕ → Origin → Item
 item_at parent origin = record { origin = origin; parent = parent }

@@ -23,7 +23,7 @@ abbrev pub sum_at : List ℕ → List ℕ → ℕ
 sum_at values [] = 0
 sum_at values (k ∷ ks) = slice_index_or values k 0 + sum_at values ks
 
--- the sum of those in a list, as far as it is told
+-- the sum of those in a list, as far as it is known
 abbrev pub top_sum : List ℕ → Option (Vec ℕ Global) → ℕ
 top_sum values None = 0
 top_sum values (Some v) = saturate (sum_at values v.items)

@@ -9,6 +9,7 @@ pub record WithinLimit : Type 0 where
   pub capacity : ℕ
   pub items : List Item
 
--- each parent stands before its items
+-- each parent comes before its items
 abbrev pub ParentsComeFirst : List Item → Type 0
-ParentsComeFirst items = (i p : ℕ) (item : Item) → slice_get items i ≡ Some item → item.parent ≡ Some p → p < i
+ParentsComeFirst items =
+    (i p : ℕ) (item : Item) → slice_get items i ≡ Some item → item.parent ≡ Some p → p < i

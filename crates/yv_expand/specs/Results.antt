@@ -7,9 +7,10 @@ use Rattle.yv_expand.specs.Units.{saturate}
 use Rattle.yv_expand.specs.Weigh.{Weighs}
 use Rattle.yv_expand.specs.declared.weights.Units.{Units}
 
--- each statement takes a number of units, which is told saturated
+-- each statement takes a number of units, which is known saturated
 abbrev pub AreWeights : Briefs → List Row → List ℕ → Type 0
-AreWeights files rows weights = (k : ℕ) → k < length rows → (n : ℕ) × Weighs files rows k n × (slice_index_or weights k 0 ≡ saturate n)
+AreWeights files rows weights = (k : ℕ) → k < length rows
+    → (n : ℕ) × Weighs files rows k n × (slice_index_or weights k 0 ≡ saturate n)
 
 -- these are the units of these files; how, only the reader asks
 pub record AreUnits (files : Files) (units : Units) : Type 0 where

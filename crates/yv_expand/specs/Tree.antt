@@ -5,7 +5,7 @@ use Rattle.std.specs.Prelude.{ℕ, ◌+◌, List, [], ◌∷◌, ◌++◌, Optio
 use Rattle.yv_expand.specs.declared.origin.Origin.{Origin}
 use Rattle.yv_expand.specs.declared.item.PlacedItem.{PlacedItem}
 
--- items of one parent, in order: what the first is made of, the items below it, and those behind it
+-- items of one parent, in order: what the first is made of, the items below it, and those after it
 pub data Forest (A : Type 0) : Type 0 where
   none : Forest A
   item : (origin : A) → (below behind : Forest A) → Forest A
@@ -14,12 +14,15 @@ pub data Forest (A : Type 0) : Type 0 where
 abbrev pub Tree : Type 0
 Tree = Forest Origin
 
+-- trees whose nodes are numbers of statements
 abbrev pub Nodes : Type 0
 Nodes = Forest ℕ
 
+-- a node of an expansion with the number of its parent
 abbrev pub Item : Type 0
 Item = PlacedItem Origin
 
+-- a numbered statement with the number of its parent
 abbrev pub Node : Type 0
 Node = PlacedItem ℕ
 
@@ -28,7 +31,7 @@ abbrev pub count : {A : Type 0} → Forest A → ℕ
 count none = 0
 count (item origin below behind) = 1 + count below + count behind
 
--- one tree's items behind another's
+-- one tree's items after another's
 abbrev pub join : {A : Type 0} → Forest A → Forest A → Forest A
 join none others = others
 join (item origin below behind) others = item origin below (join behind others)
@@ -43,4 +46,5 @@ all_of (t ∷ ts) = join t (all_of ts)
 abbrev pub item_list : {A : Type 0} → Option ℕ → ℕ → Forest A → List (PlacedItem A)
 item_list parent first none = []
 item_list parent first (item origin below behind) =
-    record { origin = origin; parent = parent } ∷ item_list (Some first) (first + 1) below ++ item_list parent (first + 1 + count below) behind
+    record { origin = origin; parent = parent } ∷ item_list (Some first) (first + 1) below
+    ++ item_list parent (first + 1 + count below) behind

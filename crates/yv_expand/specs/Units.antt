@@ -6,7 +6,8 @@ use Rattle.yv_statement.specs.Words.{is_among}
 -- grouping; a case that is left out (section 7.9.2) isn't counted
 abbrev pub nodes : List (List ℕ)
 nodes =
-    codes "container" ∷ codes "leaf" ∷ codes "leaf-list" ∷ codes "list" ∷ codes "choice" ∷ codes "case" ∷ codes "anydata" ∷ codes "anyxml"
+    codes "container" ∷ codes "leaf" ∷ codes "leaf-list" ∷ codes "list" ∷ codes "choice"
+    ∷ codes "case" ∷ codes "anydata" ∷ codes "anyxml"
     ∷ codes "notification" ∷ codes "uses" ∷ []
 
 -- a schema node with those for its input and its output, which are there in any case (sections 7.14
@@ -14,12 +15,11 @@ nodes =
 abbrev pub operations : List (List ℕ)
 operations = codes "rpc" ∷ codes "action" ∷ []
 
--- none itself, but what stands in its block counts
+-- none itself, but what is in its block counts
 abbrev pub keywords_passed : List (List ℕ)
 keywords_passed = codes "input" ∷ codes "output" ∷ codes "augment" ∷ []
 
--- what a statement of a keyword counts by itself; none where neither it nor what stands in it
--- counts
+-- what a statement of a keyword counts by itself; none where neither it nor what is in it counts
 unfoldable pub units_of : List ℕ → Option ℕ
 units_of word =
     if is_among nodes word then Some 1
@@ -27,6 +27,6 @@ units_of word =
     else if is_among keywords_passed word then Some 0
     else None
 
--- the greatest number that is told
+-- the greatest number that is known
 abbrev pub saturate : ℕ → ℕ
 saturate n = min n 18446744073709551615

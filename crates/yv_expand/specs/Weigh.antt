@@ -12,13 +12,18 @@ use Rattle.yv_expand.specs.StatementBlocks.{block_of}
 -- reached that leads to itself.
 pub data Weigh (files : Briefs) (rows : List Row) : List ℕ → ℕ → Type 0 where
   nothing : Weigh files rows [] 0
-  other : {k m : ℕ} {r : Row} {others : List ℕ} → slice_get rows k ≡ Some r → units_of r.head.keyword ≡ None → Weigh files rows others m
+  other : {k m : ℕ} {r : Row} {others : List ℕ} → slice_get rows k ≡ Some r
+      → units_of r.head.keyword ≡ None → Weigh files rows others m
       → Weigh files rows (k ∷ others) m
-  node : {k own n m : ℕ} {r : Row} {others : List ℕ} → slice_get rows k ≡ Some r → units_of r.head.keyword ≡ Some own
-      → ((d : ℕ) → RefersTo files rows k d → ⊥) → Weigh files rows (block_of rows k) n → Weigh files rows others m
+  node : {k own n m : ℕ} {r : Row} {others : List ℕ} → slice_get rows k ≡ Some r
+      → units_of r.head.keyword ≡ Some own
+      → ((d : ℕ) → RefersTo files rows k d → ⊥) → Weigh files rows (block_of rows k) n
+      → Weigh files rows others m
       → Weigh files rows (k ∷ others) (own + n + m)
-  uses : {k d own g n m : ℕ} {r : Row} {others : List ℕ} → slice_get rows k ≡ Some r → units_of r.head.keyword ≡ Some own
-      → RefersTo files rows k d → Weigh files rows (block_of rows d) g → Weigh files rows (block_of rows k) n → Weigh files rows others m
+  uses : {k d own g n m : ℕ} {r : Row} {others : List ℕ} → slice_get rows k ≡ Some r
+      → units_of r.head.keyword ≡ Some own
+      → RefersTo files rows k d → Weigh files rows (block_of rows d) g
+      → Weigh files rows (block_of rows k) n → Weigh files rows others m
       → Weigh files rows (k ∷ others) (own + g + n + m)
 
 -- one statement takes so many

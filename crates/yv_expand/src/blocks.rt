@@ -158,7 +158,7 @@ impl Blocks {
         put(stack, numbers_at(&self.own, grouping), parent)
     }
 
-    // Puts what stands below a statement on a stack, the first on top.
+    // Puts what is below a statement on a stack, the first on top.
     fn put_statement(
         &self,
         rows: &Rows<'_, '_>,

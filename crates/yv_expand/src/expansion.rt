@@ -29,7 +29,9 @@ impl Expansion {
 
     /// No items.
     pub fn new(alloc: Global, limit: u32) -> Expansion
+        // It has this limit.
         ensures limit { result.limit ≡ limit }
+        // It has no items.
         ensures items { result.items ≡ [] }
     {
         Expansion {
@@ -47,7 +49,9 @@ impl Expansion {
 
     /// How many items there are.
     pub fn len(&self) -> u32
+        // The number of items.
         ensures count { result ≡ length self.now.items }
+        // There are no more than the limit.
         ensures within { length self.now.items ≤ self.now.limit }
     {
         let _limit = self.limit;
@@ -63,7 +67,9 @@ impl Expansion {
 
     /// The items in the order of their numbers.
     pub fn items(&self) -> &[Item]
+        // The items, in the order of their numbers.
         ensures items { result.now ≡ self.now.items }
+        // Each comes after its parent.
         ensures parents { ParentsComeFirst result.now }
     {
         self.items.as_slice()
@@ -72,12 +78,19 @@ impl Expansion {
     /// Adds an item after the others. There must be room, and its parent must be there. An error,
     /// which changes nothing, occurs only where more memory had to be allocated.
     pub fn push(&mut self, item: Item) -> Result<(), AllocError>
+        // There are fewer items than the limit.
         requires room { length self.old.items < self.old.limit }
+        // The item's parent is one of them.
         requires parent { (p : ℕ) → item.parent ≡ Some p → p < length self.old.items }
+        // The item is added at the end.
         ensures adds { OnOk result (self.new.items ≡ self.old.items ++ item ∷ []) }
+        // After an error the items are as before.
         ensures same { OnErr result (self.new.items ≡ self.old.items) }
+        // An error is answered only where more memory had to be allocated.
         ensures full { OnErr result (self.old.capacity ≤ length self.old.items) }
+        // The room for items that was allocated stays.
         ensures keeps { self.old.capacity ≤ self.new.capacity }
+        // The limit stays.
         ensures limit { self.new.limit ≡ self.old.limit }
     {
         self.items.push(item)?;

@@ -10,7 +10,9 @@ pub fn a_tree_is_listed_whole<O>()
 
 /// Trees are listed one after the other.
 pub fn trees_are_listed_in_order<O>()
+    // Two lists of trees have as many nodes as both have together.
     ensures count { (t u : Forest O) → count (join t u) ≡ count t + count u }
+    // Their items are those of the first and then those of the second.
     ensures lists { (parent : Option ℕ) (first : ℕ) (t u : Forest O)
         → item_list parent first (join t u) ≡ item_list parent first t
         ++ item_list parent (first + count t) u }

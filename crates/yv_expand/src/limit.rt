@@ -76,8 +76,11 @@ pub fn too_many(
     given: &[bool],
     limit: u32,
 ) -> Result<Option<Refusal>, AllocError>
+    // The least `TooManyNodes`: at the root of the file at which the units of the files marked as
+    // given pass the limit.
     ensures refusal { AreNames (lent_in rows.now) names.now
         → IfOk result (IsLeast (TooMany (lent_in rows.now) given.now limit)) }
+    // None is returned only if they don't pass it.
     ensures fits { AreNames (lent_in rows.now) names.now
         → IfOk result (λ found. IfNone found (Fits (lent_in rows.now) given.now limit)) }
 {

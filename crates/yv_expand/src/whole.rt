@@ -79,21 +79,32 @@ pub fn expand(
     order: &[usize],
     limit: u32,
 ) -> Result<FileExpansion, Stop>
+    // The order names files that are there.
     requires within { All (λ file. file < length (files_in rows.now)) order.now }
+    // It names each once.
     requires once { (i k n : ℕ) → slice_get order.now i ≡ Some n → slice_get order.now k ≡ Some n
         → i ≡ k }
+    // The names are those of these files.
     requires names { AreNames (lent_in rows.now) names.now }
+    // The items are those of the expansion of the files marked as given, file by file in this
+    // order, `own` of them from the files' own trees, followed by one tree for each augment at the
+    // top of such a file, by file and statement.
     ensures expands { AreNames (lent_in rows.now) names.now
         → IfOk result
         (λ e. IsWhole (lent_in rows.now) given.now order.now e.own e.expansion.items) }
+    // `augments` are those at the tops of the given files, by file and statement.
     ensures augments { IfOk result
         (λ e. e.augments.items ≡ augments_of (files_in rows.now) (rows_in rows.now) given.now) }
+    // The limit is this one.
     ensures limit { IfOk result (λ e. e.expansion.limit ≡ limit) }
+    // An expansion is returned only if the units of the given files fit the limit.
     ensures fits { AreNames (lent_in rows.now) names.now
         → OnOk result (IsLeast (TooMany (lent_in rows.now) given.now limit) None) }
+    // A refusal is the least `TooManyNodes`.
     ensures refusal { AreNames (lent_in rows.now) names.now
         → (r : Refusal) → result ≡ Err (Fault r)
         → IsLeast (TooMany (lent_in rows.now) given.now limit) (Some r) }
+    // `PatternBuild` is never returned.
     ensures builds { result ≢ Err PatternBuild }
 {
     if let Some(refusal) = too_many(alloc, rows, names, given, limit)? {

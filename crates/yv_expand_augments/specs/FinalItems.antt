@@ -17,20 +17,24 @@ use Rattle.yv_expand_augments.specs.MissingTargets.{MissesAt}
 use Rattle.yv_expand_augments.specs.declared.augmentation.AugmentedItems.{AugmentedItems}
 use Rattle.yv_expand_augments.specs.declared.final_tree.AugmentedTree.{AugmentedTree}
 
--- these items stand so, each once
-pub record AreAugmentedItems (w : Whole) (items : List Item) (st : State) (grafts : AugmentedItems) : Type 0 where
+-- these items are so, each once
+pub record AreAugmentedItems (w : Whole) (items : List Item) (st : State)
+    (grafts : AugmentedItems) : Type 0 where
   pub grafted : AreAugmented w items st
   pub each : length (layout_of w items).spots ≡ length items
   pub once : StandOnce (length items) st.groups
   pub spots : grafts.spots.items ≡ (layout_of w items).spots
-  pub missing : (i : ℕ) → IsLeast (MissesAt w (layout_of w items) (end_at items i) i) (get nat_cmp grafts.missing i)
+  pub missing : (i : ℕ)
+      → IsLeast (MissesAt w (layout_of w items) (end_at items i) i) (get nat_cmp grafts.missing i)
   pub refined : all_meant grafts.refined ≡ refined_all w items
   pub grafting : IsAugmentation (labels_of (layout_of w items).spots) st grafts.grafting
 
--- this is the final tree of items that stand so
-pub record AreAugmentedTree (w : Whole) (items : List Item) (st : State) (grown : AugmentedTree) : Type 0 where
+-- this is the final tree of items that are so
+pub record AreAugmentedTree (w : Whole) (items : List Item) (st : State)
+    (grown : AugmentedTree) : Type 0 where
   pub grafted : AreAugmented w items st
   pub tree : AreRows (labels_of (layout_of w items).spots) st.groups grown.tree.items
   pub spots : grown.spots.items ≡ (layout_of w items).spots
   pub refined : all_meant grown.refined ≡ refined_all w items
-  pub missing : (i : ℕ) → IsLeast (MissesAt w (layout_of w items) (end_at items i) i) (get nat_cmp grown.missing i)
+  pub missing : (i : ℕ)
+      → IsLeast (MissesAt w (layout_of w items) (end_at items i) i) (get nat_cmp grown.missing i)

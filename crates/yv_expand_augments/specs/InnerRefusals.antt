@@ -15,7 +15,9 @@ refusal_of_row c bad (Some r) = if bad then Some (refusal_at c r.file r.head) el
 -- what is refused at an item of this depth
 abbrev pub depth_refusal : List Row → (depth : ℕ) → Option Spot → Option Refusal
 depth_refusal rows depth None = None
-depth_refusal rows depth (Some s) = refusal_of_row code.TreeTooDeep ((depth == 129) && not (is_uses s.label.kind)) (slice_get rows s.statement)
+depth_refusal rows depth (Some s) =
+    refusal_of_row code.TreeTooDeep ((depth == 129) && not (is_uses s.label.kind))
+    (slice_get rows s.statement)
 
 abbrev pub is_absent : Option ℕ → Bool
 is_absent None = true

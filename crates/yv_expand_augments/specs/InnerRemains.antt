@@ -2,12 +2,12 @@
 use Rattle.std.specs.Prelude.{ℕ, ◌&&◌, nat_lt, not, Bool, false, List, [], ◌∷◌, if◌then◌else◌, Option, Some, None}
 use Rattle.yv_expand_rounds.specs.declared.row.ItemRow.{ItemRow}
 
--- an item stands below one of this depth that isn't kept
+-- an item is below one of this depth that isn't kept
 abbrev pub is_below : Option ℕ → ℕ → Bool
 is_below None depth = false
 is_below (Some cut) depth = nat_lt cut depth
 
--- the depth of an item that isn't kept, behind which those below it stand
+-- the depth of an item that isn't kept, after which those below it stand
 abbrev pub cut_after : Option ℕ → Bool → ℕ → Option ℕ
 cut_after cut kept depth = if is_below cut depth then cut else (if kept then None else Some depth)
 

@@ -24,7 +24,8 @@ use Rattle.yv_expand_uses.specs.declared.spot.Spot.{Spot}
 
 -- those of the first augments of a uses that give something: they have had their turns
 abbrev pub had_turns : List Row → Spot → (count : ℕ) → List ℕ
-had_turns rows s count = filter (is_giving rows s.statement) (take count (augments_in rows s.statement))
+had_turns rows s count =
+    filter (is_giving rows s.statement) (take count (augments_in rows s.statement))
 
 -- the number of the next copy
 abbrev pub next_number : List Row → Spot → (count : ℕ) → ℕ
@@ -38,30 +39,40 @@ after_turns w labels s count st = turns_from w labels s s.first (had_turns w.row
 -- nothing, to what the uses gives.
 abbrev pub limit_of : Whole → List Label → Spot → (end number augment : ℕ) → State → ℕ
 limit_of w labels s end number a st =
-    if is_giving w.rows s.statement a then last_of (members_of st.groups (group_of_augment labels number)) else end
+    if is_giving w.rows s.statement a
+    then last_of (members_of st.groups (group_of_augment labels number)) else end
 
 -- the node to which an augment of a uses adds that has its turn now
 abbrev pub node_reached : Whole → List Label → Spot → (end number augment : ℕ) → State → Option ℕ
 node_reached w labels s end number a st =
-    option_and_then (target labels) (path_end labels st.groups (limit_of w labels s end number a st) (path_in w s.module_file a) (Start s.group))
+    option_and_then (target labels)
+    (path_end labels st.groups (limit_of w labels s end number a st) (path_in w s.module_file a)
+    (Start s.group))
 
 -- an augment of a uses adds to no node in its turn, which comes after those of so many
-abbrev pub MissesInTurn : Whole → List Label → Spot → (end : ℕ) → State → (count augment : ℕ) → Refusal → Type 0
+abbrev pub MissesInTurn : Whole → List Label → Spot → (end : ℕ) → State → (count augment : ℕ)
+    → Refusal → Type 0
 MissesInTurn w labels s end st count a f =
-    RefusesIf w.rows code.AugmentTarget (node_reached w labels s end (next_number w.rows s count) a (after_turns w labels s count st) ≡ None) a f
+    RefusesIf w.rows code.AugmentTarget
+    (node_reached w labels s end (next_number w.rows s count) a
+    (after_turns w labels s count st) ≡ None) a f
 
 -- the item is a uses, and one of its augments does, where their turns begin in this state
 abbrev pub MissesOf : Whole → List Label → Spot → (end : ℕ) → State → Refusal → Type 0
 MissesOf w labels s end st f =
     (is_uses s.label.kind ≡ true)
-    × Among (augments_in w.rows s.statement) (MissesInTurn w labels s end st) (length (augments_in w.rows s.statement)) f
+    × Among (augments_in w.rows s.statement) (MissesInTurn w labels s end st)
+    (length (augments_in w.rows s.statement)) f
 
--- the item of this number is one: their turns begin when all items behind it have entered
+-- the item of this number is one: their turns begin when all items after it have entered
 abbrev pub MissesAt : Whole → LayoutView → (end number : ℕ) → Refusal → Type 0
 MissesAt w l end i f =
     (s : Spot) × (slice_get l.spots i ≡ Some s)
-    × MissesOf w (labels_of l.spots) s end (placed_from w (labels_of l.spots) l.copies (i + 1) (drop (i + 1) l.spots)) f
+    × MissesOf w (labels_of l.spots) s end
+    (placed_from w (labels_of l.spots) l.copies (i + 1) (drop (i + 1) l.spots)) f
 
 -- an augment of a uses of the final tree adds to no node
 abbrev pub MissesTarget : Whole → List Item → List ItemRow → Refusal → Type 0
-MissesTarget w items tree f = Among tree (λ place x. MissesAt w (layout_of w items) (end_at items x.number) x.number) (length tree) f
+MissesTarget w items tree f =
+    Among tree (λ place x. MissesAt w (layout_of w items) (end_at items x.number) x.number)
+    (length tree) f

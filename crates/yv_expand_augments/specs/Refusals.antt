@@ -14,7 +14,8 @@ use Rattle.yv_expand_uses.specs.declared.spot.Spot.{Spot}
 
 -- f is the refusal of the numbered statement, which is refused where P holds
 abbrev pub RefusesIf : List Row → Code → Type 0 → (statement : ℕ) → Refusal → Type 0
-RefusesIf rows c P k f = (r : Row) × (slice_get rows k ≡ Some r) × Stands P (refusal_at c r.file r.head) f
+RefusesIf rows c P k f =
+    (r : Row) × (slice_get rows k ≡ Some r) × Stands P (refusal_at c r.file r.head) f
 
 -- the augment of a module at this place adds to no node: it was never applied, or its path ends
 -- where no augment may add
@@ -24,14 +25,16 @@ HasNoTarget w items st place = target_of (labels_of (layout_of w items).spots) s
 -- an augment of a module that adds to no node is refused
 abbrev pub BadTarget : Whole → List Item → State → Refusal → Type 0
 BadTarget w items st f =
-    Among w.augments (λ place a. RefusesIf w.rows code.AugmentTarget (HasNoTarget w items st place) a) (length w.augments) f
+    Among w.augments (λ place a. RefusesIf w.rows code.AugmentTarget
+    (HasNoTarget w items st place) a) (length w.augments) f
 
--- an item of the final tree is a node at depth 129, where 128 levels are kept; a uses is no node
+-- an item of the final tree is a node at depth 129, where 128 levels are kept; a uses isn't a node
 abbrev pub IsTooDeep : List Row → List Spot → ItemRow → Refusal → Type 0
 IsTooDeep rows spots x f =
     (s : Spot) × (slice_get spots x.number ≡ Some s)
-    × RefusesIf rows code.TreeTooDeep ((x.depth ≡ 129) × (is_uses s.label.kind ≡ false)) s.statement f
+    × RefusesIf rows code.TreeTooDeep
+    ((x.depth ≡ 129) × (is_uses s.label.kind ≡ false)) s.statement f
 
--- a node of the final tree stands too deep
+-- a node of the final tree is too deep
 abbrev pub TooDeep : List Row → List Spot → List ItemRow → Refusal → Type 0
 TooDeep rows spots tree f = Among tree (λ place x. IsTooDeep rows spots x) (length tree) f

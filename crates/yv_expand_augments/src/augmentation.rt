@@ -27,7 +27,7 @@ fn last_of(items: &[usize]) -> usize
     items.last().copied().unwrap_or(0)
 }
 
-// The number behind the last item below this one.
+// The number after the last item below this one.
 fn end_of(ends: &[usize], number: usize) -> usize
     ensures { result ≡ slice_index_or ends.now number 0 }
 {

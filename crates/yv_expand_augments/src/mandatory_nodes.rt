@@ -25,15 +25,14 @@ pub struct RefinedMarks<'m> {
     pub config: &'m [Option<bool>],
 }
 
-// The augment of a module in whose block an item stands, if it stands in one; there are so many
-// items.
+// The augment of a module in whose block an item is, if it is in one; there are so many items.
 fn source_of(items: usize, augments: &[usize], spot: Option<Spot>) -> Option<usize>
     ensures { result ≡ source_of items augments.now spot }
 {
     source_in(items, augments, spot?.group)
 }
 
-// Whether an item stands in the block of an augment of a module.
+// Whether an item is in the block of an augment of a module.
 fn is_given(spots: &[Spot], augments: &[usize], number: usize) -> bool
     ensures { result ≡ is_given spots.now augments.now number }
 {
@@ -59,7 +58,7 @@ fn is_container_without(presence: bool, spot: Option<Spot>) -> bool
     }
 }
 
-// Whether an item is mandatory, below which a mandatory node stands or none.
+// Whether an item is mandatory, below which a mandatory node is or none.
 fn is_mandatory(spots: &[Spot], marks: &RefinedMarks<'_>, number: usize, has: bool) -> bool
     ensures { result ≡ is_mandatory spots.now (told_in marks.now) number has }
 {
@@ -156,7 +155,7 @@ fn put(found: &mut Vec<bool>, depth: usize, mark: bool) -> Result<(), AllocError
     Ok(())
 }
 
-// An item of this depth is met, before those at the next one: what was found there stands below it.
+// An item of this depth is met, before those at the next one: what was found there is below it.
 fn meet(found: &mut Vec<bool>, depth: usize, next: usize, counts: bool) -> Result<(), AllocError>
     ensures { next ≡ depth + 1
         → OnOk result
@@ -201,15 +200,15 @@ fn is_some_operation(spot: Option<Spot>) -> bool
     }
 }
 
-// Whether what stands in an item stands in an operation or a notification, by the item and by what
-// is around it.
+// Whether what is in an item is in an operation or a notification, by the item and by what is
+// around it.
 fn operation_inside(spots: &[Spot], number: usize, in_operation: bool) -> bool
     ensures { result ≡ (is_some_operation (slice_get spots.now number) || in_operation) }
 {
     is_some_operation(spots.get(number).copied()) || in_operation
 }
 
-// Whether what stands so is configuration.
+// Whether what is so is configuration.
 fn is_configuration(is_config: bool, in_operation: bool) -> bool
     ensures { result ≡ (is_config && not in_operation) }
 {
@@ -243,7 +242,7 @@ fn enter(
     Ok(is_configuration(is_config, in_operation))
 }
 
-// The depth of what stands below an item. In the list of a tree no depth is above the length of the
+// The depth of what is below an item. In the list of a tree no depth is above the length of the
 // list.
 fn next_depth(row: &ItemRow) -> usize
     ensures { row.now.depth + 1 < 2 ^ 64 → result ≡ row.now.depth + 1 }

@@ -57,7 +57,7 @@ fn is_part(kind: StatementKind) -> bool
     }
 }
 
-// Whether an item may stand below a node by an augment of the node.
+// Whether an item may be below a node by an augment of the node.
 fn takes(node: StatementKind, given: StatementKind) -> bool
     ensures { result ≡ takes node given }
 {
@@ -85,7 +85,7 @@ fn augment_at(rows: &Rows<'_, '_>, block: usize) -> Option<usize>
     }
 }
 
-// The augment in whose block a numbered statement stands.
+// The augment in whose block a numbered statement is.
 fn augment_around(rows: &Rows<'_, '_>, statement: usize) -> Option<usize>
     ensures { result ≡ augment_around (rows_in rows.now) (slice_get (rows_in rows.now) statement) }
 {

@@ -31,7 +31,7 @@ pub(crate) fn refused_at(
     }
 }
 
-// The refusal of an item of this depth, if it stands too deep.
+// The refusal of an item of this depth, if it is too deep.
 fn depth_refusal(rows: &Rows<'_, '_>, depth: usize, spot: Option<Spot>) -> Option<Refusal>
     ensures { result ≡ depth_refusal (rows_in rows.now) depth spot }
 {
@@ -46,7 +46,7 @@ fn depth_refusal(rows: &Rows<'_, '_>, depth: usize, spot: Option<Spot>) -> Optio
     }
 }
 
-// The refusal of an item of the final tree, if it stands too deep.
+// The refusal of an item of the final tree, if it is too deep.
 fn too_deep(rows: &Rows<'_, '_>, spots: &[Spot], row: &ItemRow) -> Option<Refusal>
     ensures { result
         ≡ depth_refusal (rows_in rows.now) row.now.depth (slice_get spots.now row.now.number) }

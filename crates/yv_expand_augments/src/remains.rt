@@ -7,7 +7,7 @@ use std::alloc::{AllocError, Global};
 use yv_expand_rounds::ItemRow;
 use yv_expand_uses::{Spot, is_marked, is_uses};
 
-// Whether an item stands below one of this depth.
+// Whether an item is below one of this depth.
 fn is_below(cut: Option<usize>, depth: usize) -> bool
     ensures { result ≡ is_below cut depth }
 {
@@ -34,7 +34,7 @@ fn is_left(spots: &[Spot], marks: &[bool], number: usize) -> bool
     is_marked(marks, number) && !is_some_uses(spots.get(number).copied())
 }
 
-// The depth of the item that isn't kept behind an item of this depth, and whether that one is left.
+// The depth of the item that isn't kept after an item of this depth, and whether that one is left.
 fn step(cut: Option<usize>, kept: bool, depth: usize) -> (Option<usize>, bool)
     ensures cuts { result.0 ≡ cut_after cut kept depth }
     ensures is_left { result.1 ≡ is_left_under cut kept depth }

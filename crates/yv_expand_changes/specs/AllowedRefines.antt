@@ -7,18 +7,23 @@ use Rattle.yv_statement.specs.Words.{is_among}
 use Rattle.yv_link_scopes.specs.Files.{has_word}
 use Rattle.yv_link_scopes.specs.Rows.{Row, is_extended}
 
+-- the nodes that may have a default (RFC 7950, section 7.13.2)
 abbrev pub with_default : List (List ℕ)
 with_default = codes "leaf" ∷ codes "leaf-list" ∷ codes "choice" ∷ []
 
+-- those that may be mandatory
 abbrev pub with_mandatory : List (List ℕ)
 with_mandatory = codes "leaf" ∷ codes "choice" ∷ codes "anydata" ∷ codes "anyxml" ∷ []
 
+-- those that may have a presence
 abbrev pub with_presence : List (List ℕ)
 with_presence = codes "container" ∷ []
 
+-- those that may have bounds on their entries
 abbrev pub with_elements : List (List ℕ)
 with_elements = codes "list" ∷ codes "leaf-list" ∷ []
 
+-- the statements with these bounds
 abbrev pub element_limits : List (List ℕ)
 element_limits = codes "min-elements" ∷ codes "max-elements" ∷ []
 
@@ -46,6 +51,7 @@ is_fit target_word t =
     list_all (λ c. is_allowed c.head.keyword target_word) (trees t.children)
     && may_have target_word (count_by (λ c. has_word (codes "default") c.head) (trees t.children))
 
+-- a refine allows this substatement for a node of this statement
 abbrev pub is_some_fit : Option Row → Option Tree → Bool
 is_some_fit None t = false
 is_some_fit (Some r) None = false

@@ -11,8 +11,10 @@ use Rattle.yv_expand_changes.specs.AllowedRefines.{is_some_fit}
 -- takes
 abbrev pub is_fit_at_item : Files → List Spot → (refine item : ℕ) → Bool
 is_fit_at_item files spots refine item =
-    is_some_fit (option_and_then (λ s. slice_get (rows_of files) s.statement) (slice_get spots item)) (slice_get (statements_of files) refine)
+    is_some_fit (option_and_then (λ s. slice_get (rows_of files) s.statement)
+    (slice_get spots item)) (slice_get (statements_of files) refine)
 
+-- a refine means this item
 abbrev pub is_meant : (item : ℕ) → Option ℕ → Bool
 is_meant item None = false
 is_meant item (Some i) = i == item
@@ -25,9 +27,12 @@ is_change files spots item x = is_meant item x.target && is_fit_at_item files sp
 abbrev pub changes : Files → List Spot → List RefineMeaning → (item : ℕ) → List ℕ
 changes files spots refined item = map (λ x. x.refine) (filter (is_change files spots item) refined)
 
-abbrev pub changes_from : Files → List Spot → List RefineMeaning → (item : ℕ) → List Spot → List (List ℕ)
+-- what changes each of these items
+abbrev pub changes_from : Files → List Spot → List RefineMeaning → (item : ℕ) → List Spot
+    → List (List ℕ)
 changes_from files spots refined item [] = []
-changes_from files spots refined item (s ∷ others) = changes files spots refined item ∷ changes_from files spots refined (item + 1) others
+changes_from files spots refined item (s ∷ others) =
+    changes files spots refined item ∷ changes_from files spots refined (item + 1) others
 
 -- those of each item
 abbrev pub all_changes : Files → List Spot → List RefineMeaning → List (List ℕ)

@@ -14,19 +14,21 @@ use Rattle.yv_expand_changes.specs.Truth.{Truth}
 abbrev pub is_on : Truth → (file : ℕ) → Forest → Bool
 is_on truth file block = all_hold (truth file) (trees block)
 
+-- of each statement, whether its own conditions hold
 abbrev pub marks_of : Truth → List Row → List Tree → List Bool
 marks_of truth [] ts = []
 marks_of truth (r ∷ rs) [] = []
 marks_of truth (r ∷ rs) (t ∷ ts) = is_on truth r.file t.children ∷ marks_of truth rs ts
 
--- a mark for each numbered statement whose conditions hold, in the file in which it stands
+-- a mark for each numbered statement whose conditions hold, in the file in which it is
 abbrev pub statement_marks : Truth → Files → List Bool
 statement_marks truth files = marks_of truth (rows_of files) (statements_of files)
 
 -- the conditions of the statement that gives an item hold, and those of each refine that changes
 -- it, which are added to them
 abbrev pub is_on_with : (statements : List Bool) → Spot → (changes : List ℕ) → Bool
-is_on_with statements s changes = is_marked statements s.statement && list_all (is_marked statements) changes
+is_on_with statements s changes =
+    is_marked statements s.statement && list_all (is_marked statements) changes
 
 -- a mark for each item of whose own conditions this is so
 abbrev pub item_marks : (statements : List Bool) → List Spot → (changes : List (List ℕ)) → List Bool

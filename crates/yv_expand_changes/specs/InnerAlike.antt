@@ -19,14 +19,19 @@ first_from path (t ∷ ts) item = if is_meant item t then Some path else first_f
 abbrev pub way_of_target : List Spot → (targets : List (Option ℕ)) → Option ℕ → Option Way
 way_of_target spots targets None = None
 way_of_target spots targets (Some item) =
-    Some (record { statement = option_map (λ s. s.statement) (slice_get spots item); first = first_from 0 targets item })
+    Some (record {
+      statement = option_map (λ s. s.statement) (slice_get spots item);
+      first = first_from 0 targets item;
+    })
 
 abbrev pub ways_of : List Spot → (targets : List (Option ℕ)) → List (Option Way)
 ways_of spots targets = map (way_of_target spots targets) targets
 
 -- a refine is fit for an item that this statement gives
 abbrev pub is_fit_at : Files → Option ℕ → (refine : ℕ) → Bool
-is_fit_at files statement refine = is_some_fit (option_and_then (slice_get (rows_of files)) statement) (slice_get (statements_of files) refine)
+is_fit_at files statement refine =
+    is_some_fit (option_and_then (slice_get (rows_of files)) statement)
+    (slice_get (statements_of files) refine)
 
 -- a refine changes the item to which its path leads, and the path of this number is the first that
 -- leads there
@@ -41,9 +46,11 @@ is_run files ways path a = is_in_run files path a.refine (slice_index_or ways a.
 abbrev pub run_at : Files → List (Option Way) → List RefineTarget → (path : ℕ) → List ℕ
 run_at files ways aims path = map (λ a. a.refine) (filter (is_run files ways path) aims)
 
-abbrev pub runs_from : Files → List (Option Way) → List RefineTarget → (path : ℕ) → List (Option Way) → List (List ℕ)
+abbrev pub runs_from : Files → List (Option Way) → List RefineTarget → (path : ℕ)
+    → List (Option Way) → List (List ℕ)
 runs_from files ways aims path [] = []
-runs_from files ways aims path (w ∷ ws) = run_at files ways aims path ∷ runs_from files ways aims (path + 1) ws
+runs_from files ways aims path (w ∷ ws) =
+    run_at files ways aims path ∷ runs_from files ways aims (path + 1) ws
 
 -- those for each path
 abbrev pub runs_of : Files → List (Option Way) → List RefineTarget → List (List ℕ)
@@ -56,11 +63,13 @@ IsRun runs (Some number) run = slice_get runs number ≡ Some run
 
 -- these runs have these numbers
 abbrev pub AreRuns : (runs : List (List ℕ)) → (numbers : List (Option ℕ)) → List (List ℕ) → Type 0
-AreRuns runs numbers lists = (path : ℕ) → IsRun runs (slice_index_or numbers path None) (slice_index_or lists path [])
+AreRuns runs numbers lists =
+    (path : ℕ) → IsRun runs (slice_index_or numbers path None) (slice_index_or lists path [])
 
 -- a run keeps its number
 abbrev pub KeepsRuns : (old new : List (List ℕ)) → Type 0
-KeepsRuns old new = (number : ℕ) (run : List ℕ) → slice_get old number ≡ Some run → slice_get new number ≡ Some run
+KeepsRuns old new =
+    (number : ℕ) (run : List ℕ) → slice_get old number ≡ Some run → slice_get new number ≡ Some run
 
 -- a run more changes the item to which a path leads
 abbrev pub note_run : Option ℕ → (run : List ℕ) → List (List ℕ) → List (List ℕ)
@@ -68,6 +77,8 @@ note_run None run lists = lists
 note_run (Some item) run lists = set lists item (slice_index_or lists item [] ++ run)
 
 -- the runs of these paths change the items to which they lead
-abbrev pub noted_from : (path : ℕ) → (targets : List (Option ℕ)) → (runs : List (List ℕ)) → List (List ℕ) → List (List ℕ)
+abbrev pub noted_from : (path : ℕ) → (targets : List (Option ℕ)) → (runs : List (List ℕ))
+    → List (List ℕ) → List (List ℕ)
 noted_from path [] runs lists = lists
-noted_from path (t ∷ ts) runs lists = noted_from (path + 1) ts runs (note_run t (slice_index_or runs path []) lists)
+noted_from path (t ∷ ts) runs lists =
+    noted_from (path + 1) ts runs (note_run t (slice_index_or runs path []) lists)

@@ -46,4 +46,6 @@ is_allowed_with _ defaults mandatory presence elements = false
 
 -- a statement of this keyword may refine a node of another
 abbrev pub is_allowed_by : (keyword target : Keyword) → Bool
-is_allowed_by keyword target = is_allowed_with keyword (has_defaults target) (has_mandatory target) (has_presence target) (has_elements target)
+is_allowed_by keyword target =
+    is_allowed_with keyword (has_defaults target) (has_mandatory target) (has_presence target)
+    (has_elements target)

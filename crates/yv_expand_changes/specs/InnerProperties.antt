@@ -8,7 +8,8 @@ use Rattle.yv_node_properties.specs.declared.properties.StatedProperties.{Stated
 
 -- this is what the first statements say, by number
 abbrev pub AreSaid : Files → List StatedProperties → Type 0
-AreSaid files each = (n : ℕ) (s : StatedProperties) → slice_get each n ≡ Some s → s ≡ stated_of (said_at files n)
+AreSaid files each =
+    (n : ℕ) (s : StatedProperties) → slice_get each n ≡ Some s → s ≡ stated_of (said_at files n)
 
 -- what the last of these refines says that says something
 abbrev pub said_by_refines : Files → List ℕ → StatedProperties

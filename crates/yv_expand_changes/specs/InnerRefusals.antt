@@ -28,7 +28,8 @@ pub record AreItems (items : BTreeSet ℕ) (tree : List ItemRow) : Type 0 where
 -- what is wrong with a refine at copies that agree on where its path leads, if anything is
 abbrev pub code_at : Files → (refine : ℕ) → Option Way → Option Code
 code_at files refine None = Some code.RefineTarget
-code_at files refine (Some w) = if is_fit_at files w.statement refine then None else Some code.BadRefine
+code_at files refine (Some w) =
+    if is_fit_at files w.statement refine then None else Some code.BadRefine
 
 -- the refusal of a statement with which this is wrong
 abbrev pub refusal_of_code : Option Code → Option Row → Option Refusal
@@ -39,7 +40,8 @@ refusal_of_code (Some c) (Some r) = Some (refusal_at c r.file r.head)
 -- the least refusal of the refines of each copy that is there and agrees on these ways
 abbrev pub IsLeastOf : Files → List RefineTarget → List (Option Way) → Option Refusal → Type 0
 IsLeastOf files aims ways least =
-    (spots : List Spot) (targets : List (Option ℕ)) (tree : List ItemRow) (item : ℕ) → ways ≡ ways_of spots targets → IsThere tree item
+    (spots : List Spot) (targets : List (Option ℕ)) (tree : List ItemRow) (item : ℕ)
+    → ways ≡ ways_of spots targets → IsThere tree item
     → IsLeast (BadRefines files spots (map (meaning_of item targets) aims) tree) least
 
 -- what was judged of the refines of a uses
@@ -48,6 +50,8 @@ IsJudged files aims None = Unit {0}
 IsJudged files aims (Some j) = IsLeastOf files aims j.ways.items j.least
 
 -- what was judged of those at each place
-pub record AreJudged (files : Files) (aims : List (Vec RefineTarget Global)) (judged : List (Option Judgement)) : Type 0 where
+pub record AreJudged (files : Files) (aims : List (Vec RefineTarget Global))
+    (judged : List (Option Judgement)) : Type 0 where
   pub each : length judged ≡ length aims
-  pub are : (place : ℕ) (j : Option Judgement) → slice_get judged place ≡ Some j → IsJudged files (targets_at aims place) j
+  pub are : (place : ℕ) (j : Option Judgement) → slice_get judged place ≡ Some j
+      → IsJudged files (targets_at aims place) j

@@ -21,7 +21,7 @@ said_of_all files [] changes = []
 said_of_all files (x ∷ xs) [] = said_of files x [] ∷ said_of_all files xs []
 said_of_all files (x ∷ xs) (c ∷ cs) = said_of files x c ∷ said_of_all files xs cs
 
--- what is told of numbered items of which this is said
+-- what is known of numbered items of which this is said
 abbrev pub told_of : List StatedProperties → MarksView
 told_of said = record {
   mandatory = is_marked (map is_mandatory said);

@@ -33,5 +33,7 @@ IsWrong files spots tree x f =
     ⊎ RefusesIf (rows_of files) code.BadRefine (IsUnfit files spots x) x.refine f)
 
 -- what is wrong with these refines, where the items of the final tree are these
-abbrev pub BadRefines : Files → List Spot → List RefineMeaning → (tree : List ItemRow) → Refusal → Type 0
-BadRefines files spots refined tree f = Among refined (λ place x. IsWrong files spots tree x) (length refined) f
+abbrev pub BadRefines : Files → List Spot → List RefineMeaning → (tree : List ItemRow) → Refusal
+    → Type 0
+BadRefines files spots refined tree f =
+    Among refined (λ place x. IsWrong files spots tree x) (length refined) f

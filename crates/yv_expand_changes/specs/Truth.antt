@@ -10,4 +10,5 @@ Truth = ℕ → List ℕ → Bool
 
 -- the truth of the conditions of these files, where this is chosen of them
 abbrev pub IsTruth : Files → Selected → Truth → Type 0
-IsTruth files choice truth = (file : ℕ) (text : List ℕ) → Holds files choice file text (truth file text)
+IsTruth files choice truth =
+    (file : ℕ) (text : List ℕ) → Holds files choice file text (truth file text)

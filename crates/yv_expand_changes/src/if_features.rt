@@ -15,7 +15,7 @@ use yv_link::Linked;
 use yv_link_scopes::{Rows, name_of};
 use yv_statement::{Keyword, Statement};
 
-// Whether a statement is no condition, or holds in the file.
+// Whether a statement isn't a condition, or holds in the file.
 fn holds<'a, 'b>(linked: &Linked<'a, 'b>, file: u32, statement: &'a Statement<'b>) -> bool
     ensures { result ≡ (not (has_word (codes "if-feature") statement.now.head)
         || truth_in linked.now file (name_at statement.now.head)) }
@@ -82,7 +82,7 @@ fn are_marked(marks: &[bool], numbers: &[usize]) -> bool
 }
 
 // Of each sequence of refines whether each of them has a mark, by those of the sequence before it
-// and of the run behind.
+// and of the run after.
 fn sequence_marks(
     alloc: Global,
     statements: &[bool],

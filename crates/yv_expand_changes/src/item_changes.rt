@@ -21,7 +21,7 @@ fn nothing_known(alloc: Global, aims: &[Vec<RefineTarget>]) -> Result<Vec<KnownR
     Ok(known)
 }
 
-// Notes which items the refines of a copy change, behind what changes them already.
+// Notes which items the refines of a copy change, after what changes them already.
 fn note_copy(
     alloc: Global,
     rows: &Rows<'_, '_>,

@@ -60,7 +60,7 @@ fn last_said(rows: &Rows<'_, '_>, each: &[StatedProperties], numbers: &[usize]) 
     said
 }
 
-// What each sequence of refines says, by what the sequence before it and the run behind say.
+// What each sequence of refines says, by what the sequence before it and the run after say.
 fn sequences_said(
     alloc: Global,
     rows: &Rows<'_, '_>,
@@ -137,9 +137,12 @@ pub struct ItemProperties {
 impl ItemProperties {
     /// What is known of items, by what their statements say.
     pub fn of(alloc: Global, said: &[StatedProperties]) -> Result<ItemProperties, AllocError>
+        // For each item whether it is mandatory by itself.
         ensures mandatory { IfOk result (λ told. told.mandatory.items ≡ map is_mandatory said.now) }
+        // For each whether it has a presence.
         ensures presence { IfOk result
             (λ told. told.presence.items ≡ map (λ (s : StatedProperties). s.presence) said.now) }
+        // For each what it states of its configuration.
         ensures config { IfOk result
             (λ told. told.config.items ≡ map (λ (s : StatedProperties). s.config) said.now) }
     {

@@ -29,7 +29,7 @@ fn no_runs(alloc: Global, count: usize) -> Result<Vec<Vec<usize>>, AllocError>
     Ok(runs)
 }
 
-// Puts a refine behind those of a run that there is.
+// Puts a refine after those of a run that there is.
 fn push_at(runs: &mut Vec<Vec<usize>>, path: usize, refine: usize) -> Result<(), AllocError>
     ensures { OnOk result (lists_of runs.new.items
         ≡ slice_set (lists_of runs.old.items) path

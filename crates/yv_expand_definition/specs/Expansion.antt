@@ -13,7 +13,8 @@ use Rattle.yv_expand_definition.specs.Rounds.{Rounds}
 pub data Tops (files : Files) : (order : List ℕ) → Product → Type 0 where
   no_files : Tops files [] nothing
   one_more : {file : ℕ} {others : List ℕ} {m behind : Product}
-      → Gives files (module_file_at (map brief_of files) file) [] (top_of (map brief_of files) (rows_of files) file) m → Tops files others behind
+      → Gives files (module_file_at (map brief_of files) file) []
+      (top_of (map brief_of files) (rows_of files) file) m → Tops files others behind
       → Tops files (file ∷ others) (both m behind)
 
 -- What files expand to, and what is refused of their refines and augments: the files of the modules
@@ -25,7 +26,8 @@ pub record Expand (files : Files) (marks : List Bool) (order : List ℕ) (m : Pr
 
 -- each uses refers to a grouping (section 7.13)
 abbrev pub AllRefer : Briefs → List Row → Type 0
-AllRefer files rows = (k : ℕ) (r : Row) → slice_get rows k ≡ Some r → is_uses r ≡ true → (d : ℕ) × RefersTo files rows k d
+AllRefer files rows = (k : ℕ) (r : Row) → slice_get rows k ≡ Some r → is_uses r ≡ true
+    → (d : ℕ) × RefersTo files rows k d
 
 -- the files of this order are marked
 abbrev pub AreMarked : (marks : List Bool) → (order : List ℕ) → Type 0

@@ -19,12 +19,16 @@ use Rattle.yv_expand_definition.specs.Nodes.{Node, Forest, none, node}
 use Rattle.yv_expand_definition.specs.Expansion.{Expand}
 use Rattle.yv_expand_definition.specs.Gives.{Product, Wrong}
 
--- a node stands among these, or below one of them; below it stands this, and above it, innermost
--- first, stand these behind those that stand above all
-pub data Stands : (nodes : Forest) → (above_all : List Node) → (g : Node) → (below : Forest) → (above : List Node) → Type 0 where
-  here : {outer : List Node} {g : Node} {below behind : Forest} → Stands (node g below behind) outer g below outer
-  under : {outer above : List Node} {f g : Node} {below behind b : Forest} → Stands below (f ∷ outer) g b above → Stands (node f below behind) outer g b above
-  later : {outer above : List Node} {f g : Node} {below behind b : Forest} → Stands behind outer g b above → Stands (node f below behind) outer g b above
+-- a node is among these, or below one of them; below it is this, and above it, innermost first,
+-- stand these after those that are above all
+pub data Stands : (nodes : Forest) → (above_all : List Node) → (g : Node) → (below : Forest)
+    → (above : List Node) → Type 0 where
+  here : {outer : List Node} {g : Node} {below behind : Forest}
+      → Stands (node g below behind) outer g below outer
+  under : {outer above : List Node} {f g : Node} {below behind b : Forest}
+      → Stands below (f ∷ outer) g b above → Stands (node f below behind) outer g b above
+  later : {outer above : List Node} {f g : Node} {below behind b : Forest}
+      → Stands behind outer g b above → Stands (node f below behind) outer g b above
 
 -- what is said of a node: by its own statement, or by the last of its refines that says something
 abbrev pub said_of : Files → Node → StatedProperties
@@ -32,22 +36,26 @@ said_of files g = stated_of (last_said files (statements_of_origin g.origin ++ g
 
 -- a node is mandatory by itself, or as a container without presence that has a mandatory node
 abbrev pub is_needed : Files → Node → (has_mandatory : Bool) → Bool
-is_needed files g has = is_mandatory (said_of files g) || (is_container g.kind && not (said_of files g).presence && has)
+is_needed files g has =
+    is_mandatory (said_of files g) || (is_container g.kind && not (said_of files g).presence && has)
 
 -- one of these nodes is, before any augment of a module was applied
 abbrev pub has_mandatory : Files → Forest → Bool
 has_mandatory files none = false
 has_mandatory files (node g below behind) =
-    (not (is_some g.giver) && is_needed files g (has_mandatory files below)) || has_mandatory files behind
+    (not (is_some g.giver) && is_needed files g (has_mandatory files below))
+    || has_mandatory files behind
 
 -- the `config` of the innermost of these that has one holds
 abbrev pub is_config : Files → List Node → Bool
 is_config files [] = true
 is_config files (g ∷ gs) = unwrap_or (said_of files g).config (is_config files gs)
 
--- a node is configuration, where these stand above it
+-- a node is configuration, where these are above it
 abbrev pub is_configuration : Files → Node → (above : List Node) → Bool
-is_configuration files g above = is_config files (g ∷ above) && not (list_any (λ (x : Node). is_operation_or_notification x.kind) (g ∷ above))
+is_configuration files g above =
+    is_config files (g ∷ above)
+    && not (list_any (λ (x : Node). is_operation_or_notification x.kind) (g ∷ above))
 
 -- an augment of a module adds a mandatory configuration node to one of another module
 pub record Imposes (files : Files) (nodes : Forest) (augment : ℕ) : Type 0 where
@@ -73,7 +81,8 @@ pub record IsTooDeep (nodes : Forest) (statement : ℕ) : Type 0 where
 -- what is refused of statements whose files expand to this
 abbrev pub IsWrong : Files → Product → Wrong → Type 0
 IsWrong files m w =
-    Contains m.wrong w ⊎ (((w.code ≡ code.BadAugment) × Imposes files m.nodes w.statement) ⊎ ((w.code ≡ code.TreeTooDeep) × IsTooDeep m.nodes w.statement))
+    Contains m.wrong w ⊎ (((w.code ≡ code.BadAugment) × Imposes files m.nodes w.statement)
+    ⊎ ((w.code ≡ code.TreeTooDeep) × IsTooDeep m.nodes w.statement))
 
 -- something is refused of the expansion of files, at its statement
 pub record BadExpanded (choice : Selected) (files : Files) (f : Refusal) : Type 0 where

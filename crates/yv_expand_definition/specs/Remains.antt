@@ -11,15 +11,17 @@ use Rattle.yv_expand_definition.specs.Expansion.{Expand}
 use Rattle.yv_expand_definition.specs.Gives.{Product}
 
 -- this tells of numbered statements whether all their conditions hold, each in the file in which it
--- stands
+-- is
 abbrev pub AreIfFeatures : Selected → Files → (ℕ → Bool) → Type 0
-AreIfFeatures choice files on = (k : ℕ) → IsTrue (on k) ↔ AllHoldBy (λ file text. Holds files choice file text true) (rows_of files) k
+AreIfFeatures choice files on = (k : ℕ) → IsTrue (on k)
+    ↔ AllHoldBy (λ file text. Holds files choice file text true) (rows_of files) k
 
 -- the nodes whose conditions hold, those of the refines that change them and of the uses and
--- augments round them too; what stands below one that isn't left isn't left either
+-- augments round them too; what is below one that isn't left isn't left either
 abbrev pub remains : (on : ℕ → Bool) → Forest → Forest
 remains on none = none
-remains on (node g below behind) = if list_all on (if_feature_statements g) then node g (remains on below) (remains on behind) else remains on behind
+remains on (node g below behind) = if list_all on (if_feature_statements g)
+    then node g (remains on below) (remains on behind) else remains on behind
 
 -- the nodes of the schema of files
 pub record AreNodes (choice : Selected) (files : Files) (nodes : Forest) : Type 0 where

@@ -6,15 +6,18 @@ ghost use Rattle.yv_expand.specs.{Expands.{Expands}, StatementBlocks.{is_node_or
 ghost use Rattle.yv_expand_tree.specs.FileOrder.{marks_of, order_of};
 ghost use Rattle.yv_expand_definition.specs.{Expansion.{AllRefer, AreMarked, Expand}, Gives.{Gives, Product, Reaches, Wrong, nothing}, Remains.{AreNodes}, Nodes.{Forest, Node, nodes_given, insert, join, none}, Paths.{End, Leads, Step, at, node_at_end}, Refusals.{BadExpanded, IsWrong}};
 
-/// A path leads to one node, with what stands below it, or to a case that is left out; one exchange
+/// A path leads to one node, with what is below it, or to a case that is left out; one exchange
 /// there makes one tree, and any exchange makes one (RFC 7950, section 6.5).
 pub fn a_path_has_one_end()
+    // A path leads to at most one node, with what is below it.
     ensures node { (in_choice : Bool) (path : List Step) (nodes there other : Forest) (d e : End)
         → Leads in_choice path nodes d there
         → Leads in_choice path nodes e other → node_at_end d ≡ node_at_end e }
+    // One exchange there makes one tree.
     ensures exchange { (in_choice : Bool) (path : List Step) (nodes there other : Forest) (e : End)
         → Leads in_choice path nodes e there
         → Leads in_choice path nodes e other → there ≡ other }
+    // Any exchange can be made.
     ensures any { (in_choice : Bool) (path : List Step) (nodes below put there other_below : Forest)
         (target is other : Node)
         → Leads in_choice path nodes (at target below is put) there
@@ -58,7 +61,7 @@ pub fn files_expand_to_a_tree()
         → IsWhole files marks order own items → (m : Product) × Expand files marks order m }
 {}
 
-/// What two augments of modules give to one node stands in one order, whichever of them is applied
+/// What two augments of modules give to one node is in one order, whichever of them is applied
 /// first (RFC 7950, section 7.17).
 pub fn the_round_does_not_matter()
     ensures { (first second : ℕ) → first < second → (of_first of_second there : Forest)
@@ -72,13 +75,16 @@ pub fn the_round_does_not_matter()
 /// gives no nodes leaves its target as it was, and has no turn that matters to others (RFC 7950,
 /// section 7.17).
 pub fn what_gives_no_nodes_changes_none()
+    // Statements without a node, an operation or a `uses` give nothing.
     ensures gives { (files : Files) (module_file : ℕ) (under numbers : List ℕ) (m : Product)
         → Gives files module_file under numbers m
         → ((k : ℕ) (r : Row) → Contains numbers k → slice_get (rows_of files) k ≡ Some r
         → is_node_or_uses r ≡ false) → m ≡ nothing }
+    // An augment that adds no nodes leaves its target as it was.
     ensures adds { (files : Files) (module_file augment : ℕ) (nodes there : Forest) (target : Node)
         → Reaches files module_file augment (λ below. join below none) nodes there target → there
         ≡ nodes }
+    // So does an augment of a `uses` that gives none.
     ensures inserts { (files : Files) (module_file augment : ℕ) (nodes there : Forest)
         (target : Node)
         → Reaches files module_file augment (insert augment (nodes_given augment none)) nodes there

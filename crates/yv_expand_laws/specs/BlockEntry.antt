@@ -14,17 +14,21 @@ use Rattle.yv_expand_laws.specs.Shows.{Items, Shows}
 abbrev pub BlockKeeps : List Label → Type 0
 BlockKeeps labels =
     (g lo hi c e : ℕ) (block : Block lo hi c e) (st : State) → MayEnter labels g lo hi c e st
-    → Frame labels g lo hi c e st (enter_block labels g block st) × StandFrom lo (enter_block labels g block st)
+    → Frame labels g lo hi c e st (enter_block labels g block st)
+    × StandFrom lo (enter_block labels g block st)
 
 -- they show what the block gives
 abbrev pub BlockShows : List Label → Items → (mark : ℕ → Bool) → Type 0
 BlockShows labels its mark =
-    (g lo hi c e : ℕ) (block : Block lo hi c e) (st : State) (f : Forest) → Comes labels its _ _ _ _ block f → MarksBlock labels its.given mark g block
-    → MayEnter labels g lo hi c e st → ((x : ℕ) → lo < x → x ≤ hi → members_of st.groups x ≡ []) → HasMarks its.given mark st
+    (g lo hi c e : ℕ) (block : Block lo hi c e) (st : State) (f : Forest)
+    → Comes labels its _ _ _ _ block f → MarksBlock labels its.given mark g block
+    → MayEnter labels g lo hi c e st → ((x : ℕ) → lo < x → x ≤ hi → members_of st.groups x ≡ [])
+    → HasMarks its.given mark st
     → Shows its (enter_block labels g block st).groups g lo hi f
 
--- what is placed of spots that lie in a block is what is told of the block
+-- what is placed of spots that lie in a block is what is known of the block
 abbrev pub SpotsEnter : List Label → Type 0
 SpotsEnter labels =
-    (g lo hi c e : ℕ) (block : Block lo hi c e) (spots : List Spot) (st : State) → Lie labels g block spots
+    (g lo hi c e : ℕ) (block : Block lo hi c e) (spots : List Spot) (st : State)
+    → Lie labels g block spots
     → placed_on labels lo spots st ≡ enter_block labels g block st

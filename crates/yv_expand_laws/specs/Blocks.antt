@@ -13,22 +13,28 @@ mutual
   -- has and then what its augments give. The copies of its own augments come first.
   pub data Block : (lo hi c e : ℕ) → Type 0 where
     nothing : {lo c : ℕ} → Block lo lo c c
-    item : {lo hi c e : ℕ} (mid d : ℕ) → (below : Block (lo + 1) mid c d) → (behind : Block mid hi d e) → Block lo hi c e
-    uses : {lo hi c f : ℕ} (mid end own d e : ℕ) → (copies : Block (lo + 1) mid own d) → (augments : Augments mid end d e c own)
+    item : {lo hi c e : ℕ} (mid d : ℕ) → (below : Block (lo + 1) mid c d)
+        → (behind : Block mid hi d e) → Block lo hi c e
+    uses : {lo hi c f : ℕ} (mid end own d e : ℕ) → (copies : Block (lo + 1) mid own d)
+        → (augments : Augments mid end d e c own)
         → (behind : Block end hi e f) → Block lo hi c f
 
   -- what the augments of a uses give, of which the copies have the numbers from `k` to before
   -- `own`, each with its path
   pub data Augments : (lo hi c e k own : ℕ) → Type 0 where
     no_augments : {lo c k : ℕ} → Augments lo lo c c k k
-    augment : {lo hi c e k own : ℕ} (mid d : ℕ) → (names : List ℕ) → (block : Block lo mid c d) → (others : Augments mid hi d e (k + 1) own)
+    augment : {lo hi c e k own : ℕ} (mid d : ℕ) → (names : List ℕ) → (block : Block lo mid c d)
+        → (others : Augments mid hi d e (k + 1) own)
         → Augments lo hi c e k own
 
+-- the turn of an augment within what the copy of its `uses` gives
 abbrev pub copy_turn : List Label → (g k : ℕ) → List ℕ → State → State
-copy_turn labels g k names st = turn labels k g (last_of (members_of st.groups (group_of_augment labels k))) names st
+copy_turn labels g k names st =
+    turn labels k g (last_of (members_of st.groups (group_of_augment labels k))) names st
 
--- the turns of the augments of a uses that stands in a group, in order
-abbrev pub take_turns : List Label → (g : ℕ) → {lo hi c e k own : ℕ} → Augments lo hi c e k own → State → State
+-- the turns of the augments of a uses that is in a group, in order
+abbrev pub take_turns : List Label → (g : ℕ) → {lo hi c e k own : ℕ} → Augments lo hi c e k own
+    → State → State
 take_turns labels g no_augments st = st
 take_turns labels g {k = k} (augment mid d names block others) st =
     take_turns labels g others (copy_turn labels g k names st)

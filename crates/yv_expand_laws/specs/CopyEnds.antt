@@ -16,10 +16,14 @@ use Rattle.yv_expand_uses.specs.declared.spot.Spot.{Spot}
 -- node to which it added in its turn, and to none where it added to none
 abbrev pub CopiesEnd : Type 0
 CopiesEnd =
-    (w : Whole) (items : List Item) (st : State) (i place augment : ℕ) (s : Spot) → w.items ≡ length items → AreAugmented w items st
-    → slice_get (layout_of w items).spots i ≡ Some s → is_uses s.label.kind ≡ true → slice_get (augments_in w.rows s.statement) place ≡ Some augment
+    (w : Whole) (items : List Item) (st : State) (i place augment : ℕ) (s : Spot)
+    → w.items ≡ length items → AreAugmented w items st
+    → slice_get (layout_of w items).spots i ≡ Some s → is_uses s.label.kind ≡ true
+    → slice_get (augments_in w.rows s.statement) place ≡ Some augment
     → is_giving w.rows s.statement augment ≡ true
     → target_of (labels_of (layout_of w items).spots) st.ends (next_number w.rows s place)
-    ≡ node_reached w (labels_of (layout_of w items).spots) s (end_at items i) (next_number w.rows s place) augment
+    ≡ node_reached w (labels_of (layout_of w items).spots) s (end_at items i)
+    (next_number w.rows s place) augment
     (after_turns w (labels_of (layout_of w items).spots) s place
-    (placed_from w (labels_of (layout_of w items).spots) (layout_of w items).copies (i + 1) (drop (i + 1) (layout_of w items).spots)))
+    (placed_from w (labels_of (layout_of w items).spots) (layout_of w items).copies (i + 1)
+    (drop (i + 1) (layout_of w items).spots)))

@@ -22,11 +22,14 @@ use Rattle.yv_expand_laws.specs.Shows.{Items}
 -- a statement that gives one of these nodes too deep is refused so
 abbrev pub RefusesDepth : Files → Forest → Refusal → Type 0
 RefusesDepth files nodes f =
-    (k : ℕ) × IsTooDeep nodes k × (r : Row) × (slice_get (rows_of files) k ≡ Some r) × (f ≡ refusal_at code.TreeTooDeep r.file r.head)
+    (k : ℕ) × IsTooDeep nodes k × (r : Row) × (slice_get (rows_of files) k ≡ Some r)
+    × (f ≡ refusal_at code.TreeTooDeep r.file r.head)
 
 -- the same is refused of the final tree by number
 abbrev pub DepthsAreOne : Files → Type 0
 DepthsAreOne files =
-    (choice : Selected) (f : Final) (its : Items) (m : Product) (r : Refusal) → AreSound files → HaveRoots files → IsFinal choice files f
-    → ShowFiles files (marks_of choice files) f.items its → Expand files (marks_of choice files) (order_of choice files) m
+    (choice : Selected) (f : Final) (its : Items) (m : Product) (r : Refusal) → AreSound files
+    → HaveRoots files → IsFinal choice files f
+    → ShowFiles files (marks_of choice files) f.items its
+    → Expand files (marks_of choice files) (order_of choice files) m
     → TooDeep (rows_of files) (spots_of files f) (final_items f) r ↔ RefusesDepth files m.nodes r

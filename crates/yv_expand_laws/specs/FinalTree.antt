@@ -16,6 +16,8 @@ use Rattle.yv_expand_laws.specs.Trees.{forest_shown}
 -- modules expand to
 abbrev pub FinalTreeShows : Files → Type 0
 FinalTreeShows files =
-    (choice : Selected) (f : Final) (its : Items) (m : Product) → AreSound files → HaveRoots files → IsFinal choice files f
-    → ShowFiles files (marks_of choice files) f.items its → Expand files (marks_of choice files) (order_of choice files) m
+    (choice : Selected) (f : Final) (its : Items) (m : Product) → AreSound files → HaveRoots files
+    → IsFinal choice files f
+    → ShowFiles files (marks_of choice files) f.items its
+    → Expand files (marks_of choice files) (order_of choice files) m
     → m.nodes ≡ forest_shown its f.tree

@@ -27,7 +27,8 @@ use Rattle.yv_expand_laws.specs.Shows.{Items}
 -- an augment of a module that gives one of these nodes is refused so
 abbrev pub RefusesImposition : Files → Forest → Refusal → Type 0
 RefusesImposition files nodes f =
-    (a : ℕ) × Imposes files nodes a × (r : Row) × (slice_get (rows_of files) a ≡ Some r) × (f ≡ refusal_at code.BadAugment r.file r.head)
+    (a : ℕ) × Imposes files nodes a × (r : Row) × (slice_get (rows_of files) a ≡ Some r)
+    × (f ≡ refusal_at code.BadAugment r.file r.head)
 
 -- no uses says that it is mandatory, as it is in files that conform
 abbrev pub UsesAreOptional : Files → Type 0
@@ -38,6 +39,9 @@ UsesAreOptional files =
 -- the same is refused of the final tree by number
 abbrev pub ImpositionsAreOne : Files → Type 0
 ImpositionsAreOne files =
-    (choice : Selected) (f : Final) (its : Items) (m : Product) (r : Refusal) → AreSound files → HaveRoots files → UsesAreOptional files
-    → IsFinal choice files f → ShowFiles files (marks_of choice files) f.items its → Expand files (marks_of choice files) (order_of choice files) m
-    → ImposesMandatory (rows_of files) (spots_of files f) f.augments (told_of (said_of files f)) None nothing_around f.tree r ↔ RefusesImposition files m.nodes r
+    (choice : Selected) (f : Final) (its : Items) (m : Product) (r : Refusal) → AreSound files
+    → HaveRoots files → UsesAreOptional files
+    → IsFinal choice files f → ShowFiles files (marks_of choice files) f.items its
+    → Expand files (marks_of choice files) (order_of choice files) m
+    → ImposesMandatory (rows_of files) (spots_of files f) f.augments
+    (told_of (said_of files f)) None nothing_around f.tree r ↔ RefusesImposition files m.nodes r

@@ -16,7 +16,10 @@ mark_of w g = is_some (source_in w.items w.augments g)
 -- of them, or none.
 abbrev pub BlocksAreMarked : Whole → List Item → Type 0
 BlocksAreMarked w items =
-    (g lo hi c e : ℕ) (block : Block lo hi c e) (spots : List Spot) → length items ≡ w.items → length w.augments ≤ c
-    → ((j : ℕ) (s : Spot) → slice_get spots j ≡ Some s → slice_get (map (spot_view w) (layout_of w items).spots) (lo + j) ≡ Some s)
+    (g lo hi c e : ℕ) (block : Block lo hi c e) (spots : List Spot) → length items ≡ w.items
+    → length w.augments ≤ c
+    → ((j : ℕ) (s : Spot) → slice_get spots j ≡ Some s
+    → slice_get (map (spot_view w) (layout_of w items).spots) (lo + j) ≡ Some s)
     → Lie (labels_of (layout_of w items).spots) g block spots
-    → MarksBlock (labels_of (layout_of w items).spots) (is_given (labels_of (layout_of w items).spots)) (mark_of w) g block
+    → MarksBlock (labels_of (layout_of w items).spots)
+    (is_given (labels_of (layout_of w items).spots)) (mark_of w) g block

@@ -26,9 +26,9 @@ use Rattle.yv_expand_laws.specs.ModuleBlocks.{RefusesModuleBlock}
 use Rattle.yv_expand_laws.specs.UsesBlocks.{RefusesUsesBlock}
 use Rattle.yv_expand_laws.specs.Shows.{Items}
 
--- an item of the final tree stands in the block of an augment, and below a node that doesn't take
--- it
-pub record HasMisplaced (rows : List Row) (spots : List Spot) (tree : List ItemRow) (augment : ℕ) : Type 0 where
+-- an item of the final tree is in the block of an augment, and below a node that doesn't take it
+pub record HasMisplaced (rows : List Row) (spots : List Spot) (tree : List ItemRow)
+    (augment : ℕ) : Type 0 where
   pub place : ℕ
   pub row : ItemRow
   pub at : slice_get tree place ≡ Some row
@@ -42,37 +42,49 @@ pub record HasMisplaced (rows : List Row) (spots : List Spot) (tree : List ItemR
 -- it is an augment of a module
 abbrev pub MisplacedByModule : Whole → List Item → List ItemRow → Refusal → Type 0
 MisplacedByModule w items tree f =
-    (a : ℕ) × Contains w.augments a × HasMisplaced w.rows (layout_of w items).spots tree a × (q : Row) × (slice_get w.rows a ≡ Some q)
+    (a : ℕ) × Contains w.augments a × HasMisplaced w.rows (layout_of w items).spots tree a
+    × (q : Row) × (slice_get w.rows a ≡ Some q)
     × (f ≡ refusal_at code.BadAugment q.file q.head)
 
 -- the same is refused by number
 abbrev pub MisplacementsByModulesAreOne : Files → Type 0
 MisplacementsByModulesAreOne files =
-    (choice : Selected) (f : Final) (its : Items) (m : Product) (r : Refusal) → AreSound files → HaveRoots files → IsFinal choice files f
-    → ShowFiles files (marks_of choice files) f.items its → Expand files (marks_of choice files) (order_of choice files) m
-    → MisplacedByModule (whole_of files f) f.items (final_items f) r ↔ RefusesModuleBlock files (marks_of choice files) m r
+    (choice : Selected) (f : Final) (its : Items) (m : Product) (r : Refusal) → AreSound files
+    → HaveRoots files → IsFinal choice files f
+    → ShowFiles files (marks_of choice files) f.items its
+    → Expand files (marks_of choice files) (order_of choice files) m
+    → MisplacedByModule (whole_of files f) f.items (final_items f) r
+    ↔ RefusesModuleBlock files (marks_of choice files) m r
 
--- it is none of a module: it is one of a uses
+-- it isn't an augment of a module but one of a uses
 abbrev pub MisplacedByUses : Whole → List Item → List ItemRow → Refusal → Type 0
 MisplacedByUses w items tree f =
-    (a : ℕ) × (Contains w.augments a → ⊥) × HasMisplaced w.rows (layout_of w items).spots tree a × (q : Row) × (slice_get w.rows a ≡ Some q)
+    (a : ℕ) × (Contains w.augments a → ⊥) × HasMisplaced w.rows (layout_of w items).spots tree a
+    × (q : Row) × (slice_get w.rows a ≡ Some q)
     × (f ≡ refusal_at code.BadAugment q.file q.head)
 
+-- what augments of `uses` misplace is refused of the items exactly where it is refused of the nodes
 abbrev pub MisplacementsByUsesAreOne : Files → Type 0
 MisplacementsByUsesAreOne files =
-    (choice : Selected) (f : Final) (its : Items) (m : Product) (r : Refusal) → AreSound files → HaveRoots files → IsFinal choice files f
-    → ShowFiles files (marks_of choice files) f.items its → Expand files (marks_of choice files) (order_of choice files) m
-    → MisplacedByUses (whole_of files f) f.items (final_items f) r ↔ RefusesUsesBlock files (marks_of choice files) m r
+    (choice : Selected) (f : Final) (its : Items) (m : Product) (r : Refusal) → AreSound files
+    → HaveRoots files → IsFinal choice files f
+    → ShowFiles files (marks_of choice files) f.items its
+    → Expand files (marks_of choice files) (order_of choice files) m
+    → MisplacedByUses (whole_of files f) f.items (final_items f) r
+    ↔ RefusesUsesBlock files (marks_of choice files) m r
 
 -- what the files expand to refuses an augment for its block
 abbrev pub RefusesBlock : Files → Product → Refusal → Type 0
 RefusesBlock files m f =
-    (a : ℕ) × Contains m.wrong (record { code = code.BadAugment; statement = a }) × (r : Row) × (slice_get (rows_of files) a ≡ Some r)
+    (a : ℕ) × Contains m.wrong (record { code = code.BadAugment; statement = a }) × (r : Row)
+    × (slice_get (rows_of files) a ≡ Some r)
     × (f ≡ refusal_at code.BadAugment r.file r.head)
 
 -- of all augments the same is refused by number
 abbrev pub MisplacementsAreOne : Files → Type 0
 MisplacementsAreOne files =
-    (choice : Selected) (f : Final) (its : Items) (m : Product) (r : Refusal) → AreSound files → HaveRoots files → IsFinal choice files f
-    → ShowFiles files (marks_of choice files) f.items its → Expand files (marks_of choice files) (order_of choice files) m
+    (choice : Selected) (f : Final) (its : Items) (m : Product) (r : Refusal) → AreSound files
+    → HaveRoots files → IsFinal choice files f
+    → ShowFiles files (marks_of choice files) f.items its
+    → Expand files (marks_of choice files) (order_of choice files) m
     → PutsMisplaced (rows_of files) (spots_of files f) (final_items f) r ↔ RefusesBlock files m r

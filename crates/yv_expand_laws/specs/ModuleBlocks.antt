@@ -33,19 +33,25 @@ pub record IsUntaken (w : Whole) (items : List Item) (st : State) (place augment
 -- one of them does
 abbrev pub ModuleUntaken : Whole → List Item → State → Refusal → Type 0
 ModuleUntaken w items st f =
-    Among w.augments (λ place a r. IsUntaken w items st place a × ((q : Row) × (slice_get w.rows a ≡ Some q) × (r ≡ refusal_at code.BadAugment q.file q.head)))
+    Among w.augments (λ place a r. IsUntaken w items st place a
+    × ((q : Row) × (slice_get w.rows a ≡ Some q)
+    × (r ≡ refusal_at code.BadAugment q.file q.head)))
     (length w.augments) f
 
 -- what the files expand to refuses an augment of a module for what it adds
 abbrev pub RefusesModuleBlock : Files → (modules : List Bool) → Product → Refusal → Type 0
 RefusesModuleBlock files modules m f =
     (a : ℕ) × Contains (augments_of (map brief_of files) (rows_of files) modules) a
-    × Contains m.wrong (record { code = code.BadAugment; statement = a }) × (r : Row) × (slice_get (rows_of files) a ≡ Some r)
+    × Contains m.wrong (record { code = code.BadAugment; statement = a }) × (r : Row)
+    × (slice_get (rows_of files) a ≡ Some r)
     × (f ≡ refusal_at code.BadAugment r.file r.head)
 
 -- the same is refused by number
 abbrev pub ModuleBlocksAreOne : Files → Type 0
 ModuleBlocksAreOne files =
-    (choice : Selected) (f : Final) (its : Items) (m : Product) (r : Refusal) → AreSound files → HaveRoots files → IsFinal choice files f
-    → ShowFiles files (marks_of choice files) f.items its → Expand files (marks_of choice files) (order_of choice files) m
-    → ModuleUntaken (whole_of files f) f.items f.state r ↔ RefusesModuleBlock files (marks_of choice files) m r
+    (choice : Selected) (f : Final) (its : Items) (m : Product) (r : Refusal) → AreSound files
+    → HaveRoots files → IsFinal choice files f
+    → ShowFiles files (marks_of choice files) f.items its
+    → Expand files (marks_of choice files) (order_of choice files) m
+    → ModuleUntaken (whole_of files f) f.items f.state r
+    ↔ RefusesModuleBlock files (marks_of choice files) m r

@@ -1,4 +1,4 @@
--- The order of the items of one parent, where it is told which of them an augment of a module
+-- The order of the items of one parent, where it is known which of them an augment of a module
 -- gives: those that none gives come first, and of two others that of lesser number. It is
 -- `sibling_cmp` of yv_expand_rounds.
 use Rattle.std.specs.Prelude.{ℕ, ◌&&◌, ◌||◌, nat_lt, Bool, if◌then◌else◌}

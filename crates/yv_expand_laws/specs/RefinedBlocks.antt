@@ -14,9 +14,10 @@ use Rattle.yv_expand_laws.specs.Frames.{MayEnter}
 use Rattle.yv_expand_laws.specs.RefineStep.{add_refine}
 use Rattle.yv_expand_laws.specs.Shows.{Agree, Items}
 
--- this block, whose items show these nodes, may enter a group, and what stands there already comes
--- behind the limit of a path
-pub record IsRefinable (labels : List Label) (its : Items) (mark : ℕ → Bool) (g lo hi c e limit : ℕ) (block : Block lo hi c e) (st : State) (m : Forest) : Type 0 where
+-- this block, whose items show these nodes, may enter a group, and what is there already comes
+-- after the limit of a path
+pub record IsRefinable (labels : List Label) (its : Items) (mark : ℕ → Bool) (g lo hi c e limit : ℕ)
+    (block : Block lo hi c e) (st : State) (m : Forest) : Type 0 where
   pub comes : Comes labels its _ _ _ _ block m
   pub marked : MarksBlock labels its.given mark g block
   pub enters : MayEnter labels g lo hi c e st
@@ -29,16 +30,22 @@ pub record IsRefinable (labels : List Label) (its : Items) (mark : ℕ → Bool)
 -- item has the refine the block gives the nodes with it.
 abbrev pub BlockIsRefined : List Label → Items → (mark : ℕ → Bool) → Type 0
 BlockIsRefined labels its mark =
-    (g lo hi c e limit k : ℕ) (block : Block lo hi c e) (names : List ℕ) (ss : List Step) (st : State) (m below there : Forest) (target : Node)
+    (g lo hi c e limit k : ℕ) (block : Block lo hi c e) (names : List ℕ) (ss : List Step)
+    (st : State) (m below there : Forest) (target : Node)
     → IsRefinable labels its mark g lo hi c e limit block st m → Agree labels its names ss
-    → Leads false ss m (at target below (record target { refines = target.refines ++ k ∷ [] }) below) there
-    → (i : ℕ) × (path_end labels (enter_block labels g block st).groups limit names (end.Start g) ≡ Some (end.Node i)) × (target ≡ its.node_of i) × (lo ≤ i)
+    → Leads false ss m (at target below
+    (record target { refines = target.refines ++ k ∷ [] }) below) there
+    → (i : ℕ) × (path_end labels (enter_block labels g block st).groups limit names (end.Start g)
+    ≡ Some (end.Node i)) × (target ≡ its.node_of i) × (lo ≤ i)
     × (i < hi) × Comes labels (add_refine its i k) _ _ _ _ block there
 
 -- where its path means no node, it means no item
 abbrev pub BlockIsMissed : List Label → Items → (mark : ℕ → Bool) → Type 0
 BlockIsMissed labels its mark =
-    (g lo hi c e limit i : ℕ) (block : Block lo hi c e) (names : List ℕ) (ss : List Step) (st : State) (m : Forest)
+    (g lo hi c e limit i : ℕ) (block : Block lo hi c e) (names : List ℕ) (ss : List Step)
+    (st : State) (m : Forest)
     → IsRefinable labels its mark g lo hi c e limit block st m → Agree labels its names ss
-    → ((target : Node) (below there : Forest) → Leads false ss m (at target below target below) there → ⊥)
-    → path_end labels (enter_block labels g block st).groups limit names (end.Start g) ≡ Some (end.Node i) → ⊥
+    → ((target : Node) (below there : Forest)
+    → Leads false ss m (at target below target below) there → ⊥)
+    → path_end labels (enter_block labels g block st).groups limit names (end.Start g)
+    ≡ Some (end.Node i) → ⊥

@@ -25,12 +25,16 @@ IsOfRefine e = (e.code ≡ code.RefineTarget) ⊎ (e.code ≡ code.BadRefine)
 -- what the files expand to refuses a refine
 abbrev pub RefusesRefine : Files → Product → Refusal → Type 0
 RefusesRefine files m f =
-    (e : Wrong) × IsOfRefine e × Contains m.wrong e × (r : Row) × (slice_get (rows_of files) e.statement ≡ Some r)
+    (e : Wrong) × IsOfRefine e × Contains m.wrong e × (r : Row)
+    × (slice_get (rows_of files) e.statement ≡ Some r)
     × (f ≡ refusal_at e.code r.file r.head)
 
 -- the same is refused by number
 abbrev pub RefinesAreOne : Files → Type 0
 RefinesAreOne files =
-    (choice : Selected) (f : Final) (its : Items) (m : Product) (r : Refusal) → AreSound files → HaveRoots files → IsFinal choice files f
-    → ShowFiles files (marks_of choice files) f.items its → Expand files (marks_of choice files) (order_of choice files) m
-    → BadRefines files (spots_of files f) (refined_of files f) (final_items f) r ↔ RefusesRefine files m r
+    (choice : Selected) (f : Final) (its : Items) (m : Product) (r : Refusal) → AreSound files
+    → HaveRoots files → IsFinal choice files f
+    → ShowFiles files (marks_of choice files) f.items its
+    → Expand files (marks_of choice files) (order_of choice files) m
+    → BadRefines files (spots_of files f) (refined_of files f) (final_items f) r
+    ↔ RefusesRefine files m r

@@ -11,7 +11,9 @@ use Rattle.yv_expand_definition.specs.Gives.{Wrong}
 -- a refine is refused so: it means no item, or one for which it isn't fit
 abbrev pub IsRefused : Files → List Spot → RefineMeaning → Wrong → Type 0
 IsRefused files spots x e =
-    (e.statement ≡ x.refine) × (((e.code ≡ code.RefineTarget) × (x.target ≡ None)) ⊎ ((e.code ≡ code.BadRefine) × IsUnfit files spots x))
+    (e.statement ≡ x.refine)
+    × (((e.code ≡ code.RefineTarget) × (x.target ≡ None))
+    ⊎ ((e.code ≡ code.BadRefine) × IsUnfit files spots x))
 
 -- one of these is
 abbrev pub IsAnyRefused : Files → List Spot → List RefineMeaning → Wrong → Type 0
@@ -21,4 +23,5 @@ IsAnyRefused files spots (x ∷ xs) e = IsRefused files spots x e ⊎ IsAnyRefus
 -- of what is refused in the end these refines are refused, and all else was before
 abbrev pub Refuse : Files → List Spot → List RefineMeaning → (old last : List Wrong) → Type 0
 Refuse files spots xs old last =
-    (e : Wrong) → (Contains last e → Contains old e ⊎ IsAnyRefused files spots xs e) × (Contains old e ⊎ IsAnyRefused files spots xs e → Contains last e)
+    (e : Wrong) → (Contains last e → Contains old e ⊎ IsAnyRefused files spots xs e)
+    × (Contains old e ⊎ IsAnyRefused files spots xs e → Contains last e)

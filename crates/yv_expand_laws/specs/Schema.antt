@@ -23,13 +23,18 @@ use Rattle.yv_expand_laws.specs.Shows.{Items}
 -- what nodes by number show
 abbrev pub shown_nodes : Items → Nodes → Forest
 shown_nodes its by_number.none = none
-shown_nodes its (by_number.item i below behind) = node (its.node_of i) (shown_nodes its below) (shown_nodes its behind)
+shown_nodes its (by_number.item i below behind) =
+    node (its.node_of i) (shown_nodes its below) (shown_nodes its behind)
 
 -- what is left of the final tree shows the nodes of the schema, where nothing is refused of the
 -- features and `truth` tells which expressions hold
 abbrev pub LeftShows : Files → Type 0
 LeftShows files =
-    (choice : Selected) (truth : Truth) (f : Final) (its : Items) (m : Product) (nodes : Nodes) → AreSound files → HaveRoots files
-    → IsLeast (BadFeatures files) None → ((file : ℕ) (text : List ℕ) → Holds files choice file text (truth file text)) → IsFinal choice files f
-    → ShowFiles files (marks_of choice files) f.items its → Expand files (marks_of choice files) (order_of choice files) m
+    (choice : Selected) (truth : Truth) (f : Final) (its : Items) (m : Product) (nodes : Nodes)
+    → AreSound files → HaveRoots files
+    → IsLeast (BadFeatures files) None
+    → ((file : ℕ) (text : List ℕ) → Holds files choice file text (truth file text))
+    → IsFinal choice files f
+    → ShowFiles files (marks_of choice files) f.items its
+    → Expand files (marks_of choice files) (order_of choice files) m
     → AreLeft truth files f nodes → AreNodes choice files (shown_nodes its nodes)

@@ -19,12 +19,15 @@ use Rattle.yv_expand_laws.specs.ItemProperties.{AreItems}
 pub record ShowsBlock (w : Whole) (items : List Item) (n : ℕ) : Type 0 where
   pub copies : ℕ
   pub block : Block 0 n (length w.augments) copies
-  pub shows : (its : Items) (f : Forest) → AreItems w items its → Comes (labels_of (layout_of w items).spots) its _ _ _ _ block f
+  pub shows : (its : Items) (f : Forest) → AreItems w items its
+      → Comes (labels_of (layout_of w items).spots) its _ _ _ _ block f
       → Shows its (placement w (layout_of w items)).groups 0 0 n f
 
--- Statements of which all stand at the top, and none in the block of an augment of a module, show
+-- Statements of which all are at the top, and none in the block of an augment of a module, show
 -- what they give.
 abbrev pub StartShows : Whole → Type 0
 StartShows w =
-    (numbers : List ℕ) (t : expansion.Tree) → Expands w.files w.rows numbers t → AllRefer w.files w.rows → w.items ≡ count t
-    → ((k : ℕ) (r : Row) → Contains numbers k → slice_get w.rows k ≡ Some r → top_group w (Some r) ≡ 0) → ShowsBlock w (item_list None 0 t) (count t)
+    (numbers : List ℕ) (t : expansion.Tree) → Expands w.files w.rows numbers t
+    → AllRefer w.files w.rows → w.items ≡ count t
+    → ((k : ℕ) (r : Row) → Contains numbers k → slice_get w.rows k ≡ Some r
+    → top_group w (Some r) ≡ 0) → ShowsBlock w (item_list None 0 t) (count t)

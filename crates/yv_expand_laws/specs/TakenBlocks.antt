@@ -8,7 +8,7 @@ use Rattle.yv_expand_augments.specs.Placement.{augment_around}
 use Rattle.yv_expand_rounds.specs.Kinds.{takes}
 use Rattle.yv_expand_definition.specs.Gives.{takes_block}
 
--- a statement that gives an item stands in the block of an augment, and a node of this kind doesn't
+-- a statement that gives an item is in the block of an augment, and a node of this kind doesn't
 -- take the item
 pub record IsNotTaken (rows : List Row) (augment : ℕ) (node : StatementKind) : Type 0 where
   pub statement : ℕ
@@ -21,4 +21,5 @@ pub record IsNotTaken (rows : List Row) (augment : ℕ) (node : StatementKind) :
 -- a target doesn't take the block where there is one
 abbrev pub TargetsTake : List Row → Type 0
 TargetsTake rows =
-    (a : ℕ) (q : Row) (node : StatementKind) → slice_get rows a ≡ Some q → is_augment q ≡ true → takes_block rows a node ≡ false ↔ IsNotTaken rows a node
+    (a : ℕ) (q : Row) (node : StatementKind) → slice_get rows a ≡ Some q → is_augment q ≡ true
+    → takes_block rows a node ≡ false ↔ IsNotTaken rows a node

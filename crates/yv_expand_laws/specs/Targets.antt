@@ -23,12 +23,16 @@ use Rattle.yv_expand_laws.specs.Shows.{Items}
 abbrev pub RefusesTarget : Files → (modules : List Bool) → Product → Refusal → Type 0
 RefusesTarget files modules m f =
     (a : ℕ) × Contains (augments_of (map brief_of files) (rows_of files) modules) a
-    × Contains m.wrong (record { code = code.AugmentTarget; statement = a }) × (r : Row) × (slice_get (rows_of files) a ≡ Some r)
+    × Contains m.wrong (record { code = code.AugmentTarget; statement = a }) × (r : Row)
+    × (slice_get (rows_of files) a ≡ Some r)
     × (f ≡ refusal_at code.AugmentTarget r.file r.head)
 
 -- the same is refused by number
 abbrev pub TargetsAreOne : Files → Type 0
 TargetsAreOne files =
-    (choice : Selected) (f : Final) (its : Items) (m : Product) (r : Refusal) → AreSound files → HaveRoots files → IsFinal choice files f
-    → ShowFiles files (marks_of choice files) f.items its → Expand files (marks_of choice files) (order_of choice files) m
-    → BadTarget (whole_of files f) f.items f.state r ↔ RefusesTarget files (marks_of choice files) m r
+    (choice : Selected) (f : Final) (its : Items) (m : Product) (r : Refusal) → AreSound files
+    → HaveRoots files → IsFinal choice files f
+    → ShowFiles files (marks_of choice files) f.items its
+    → Expand files (marks_of choice files) (order_of choice files) m
+    → BadTarget (whole_of files f) f.items f.state r
+    ↔ RefusesTarget files (marks_of choice files) m r

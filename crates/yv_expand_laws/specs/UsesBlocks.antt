@@ -38,9 +38,11 @@ pub record HasUntaken (w : Whole) (items : List Item) (number augment : ℕ) : T
   pub place : ℕ
   pub there : slice_get (augments_in w.rows spot.statement) place ≡ Some augment
   pub target : ℕ
-  pub reaches : node_reached w (labels_of (layout_of w items).spots) spot (end_at items number) (next_number w.rows spot place) augment
+  pub reaches : node_reached w (labels_of (layout_of w items).spots) spot (end_at items number)
+      (next_number w.rows spot place) augment
       (after_turns w (labels_of (layout_of w items).spots) spot place
-      (placed_from w (labels_of (layout_of w items).spots) (layout_of w items).copies (number + 1) (drop (number + 1) (layout_of w items).spots))) ≡ Some target
+      (placed_from w (labels_of (layout_of w items).spots) (layout_of w items).copies (number + 1)
+      (drop (number + 1) (layout_of w items).spots))) ≡ Some target
   pub node : Spot
   pub target_at : slice_get (layout_of w items).spots target ≡ Some node
   pub untaken : takes_block w.rows augment node.label.kind ≡ false
@@ -48,19 +50,24 @@ pub record HasUntaken (w : Whole) (items : List Item) (number augment : ℕ) : T
 -- an augment of a uses of the final tree is so
 abbrev pub Untaken : Whole → List Item → List ItemRow → Refusal → Type 0
 Untaken w items tree f =
-    Among tree (λ place x r. (a : ℕ) × HasUntaken w items x.number a × (q : Row) × (slice_get w.rows a ≡ Some q) × (r ≡ refusal_at code.BadAugment q.file q.head))
+    Among tree (λ place x r. (a : ℕ) × HasUntaken w items x.number a × (q : Row)
+    × (slice_get w.rows a ≡ Some q) × (r ≡ refusal_at code.BadAugment q.file q.head))
     (length tree) f
 
--- what the files expand to refuses an augment for what it adds that is none of a module
+-- the expansion refuses, for what it adds, an augment that isn't one of a module
 abbrev pub RefusesUsesBlock : Files → (modules : List Bool) → Product → Refusal → Type 0
 RefusesUsesBlock files modules m f =
     (a : ℕ) × (Contains (augments_of (map brief_of files) (rows_of files) modules) a → ⊥)
-    × Contains m.wrong (record { code = code.BadAugment; statement = a }) × (r : Row) × (slice_get (rows_of files) a ≡ Some r)
+    × Contains m.wrong (record { code = code.BadAugment; statement = a }) × (r : Row)
+    × (slice_get (rows_of files) a ≡ Some r)
     × (f ≡ refusal_at code.BadAugment r.file r.head)
 
 -- the same is refused by number
 abbrev pub UsesBlocksAreOne : Files → Type 0
 UsesBlocksAreOne files =
-    (choice : Selected) (f : Final) (its : Items) (m : Product) (r : Refusal) → AreSound files → HaveRoots files → IsFinal choice files f
-    → ShowFiles files (marks_of choice files) f.items its → Expand files (marks_of choice files) (order_of choice files) m
-    → Untaken (whole_of files f) f.items (final_items f) r ↔ RefusesUsesBlock files (marks_of choice files) m r
+    (choice : Selected) (f : Final) (its : Items) (m : Product) (r : Refusal) → AreSound files
+    → HaveRoots files → IsFinal choice files f
+    → ShowFiles files (marks_of choice files) f.items its
+    → Expand files (marks_of choice files) (order_of choice files) m
+    → Untaken (whole_of files f) f.items (final_items f) r
+    ↔ RefusesUsesBlock files (marks_of choice files) m r

@@ -19,16 +19,20 @@ use Rattle.yv_expand_laws.specs.Files.{HaveRoots, ShowFiles}
 use Rattle.yv_expand_laws.specs.StatementItems.{AreSound}
 use Rattle.yv_expand_laws.specs.Shows.{Items}
 
--- what the files expand to refuses an augment for its target that is none of a module
+-- the expansion refuses, for its target, an augment that isn't one of a module
 abbrev pub RefusesUsesTarget : Files → (modules : List Bool) → Product → Refusal → Type 0
 RefusesUsesTarget files modules m f =
     (a : ℕ) × (Contains (augments_of (map brief_of files) (rows_of files) modules) a → ⊥)
-    × Contains m.wrong (record { code = code.AugmentTarget; statement = a }) × (r : Row) × (slice_get (rows_of files) a ≡ Some r)
+    × Contains m.wrong (record { code = code.AugmentTarget; statement = a }) × (r : Row)
+    × (slice_get (rows_of files) a ≡ Some r)
     × (f ≡ refusal_at code.AugmentTarget r.file r.head)
 
 -- the same is refused by number
 abbrev pub UsesTargetsAreOne : Files → Type 0
 UsesTargetsAreOne files =
-    (choice : Selected) (f : Final) (its : Items) (m : Product) (r : Refusal) → AreSound files → HaveRoots files → IsFinal choice files f
-    → ShowFiles files (marks_of choice files) f.items its → Expand files (marks_of choice files) (order_of choice files) m
-    → MissesTarget (whole_of files f) f.items (final_items f) r ↔ RefusesUsesTarget files (marks_of choice files) m r
+    (choice : Selected) (f : Final) (its : Items) (m : Product) (r : Refusal) → AreSound files
+    → HaveRoots files → IsFinal choice files f
+    → ShowFiles files (marks_of choice files) f.items its
+    → Expand files (marks_of choice files) (order_of choice files) m
+    → MissesTarget (whole_of files f) f.items (final_items f) r
+    ↔ RefusesUsesTarget files (marks_of choice files) m r

@@ -6,11 +6,14 @@ ghost use Rattle.yv_expand_rounds.specs.declared.label.Label.{Label};
 ghost use Rattle.yv_expand_uses.specs.Spots.{Whole};
 ghost use Rattle.yv_expand_laws.specs.{FirstItems.{BeginningShows}, Conditions.{FilesAsk, MarksAreConditions, MarksAsk}, Conformance.{AreAccepted, ConformingLeftIsSchema, ConformingRefusalsAreOne, NoFileIsBad}, CopiesGive.{CopiesGive}, CopyEnds.{CopiesEnd}, Depths.{DepthsAreOne}, BlockEntry.{BlockKeeps, BlockShows, SpotsEnter}, Expansions.{ExpansionLies, PlacedIsTold}, Files.{FilesShow, HaveRoots, ItemsShow, ModulesShow}, FinalTree.{FinalTreeShows}, StatementItems.{AreSound, StatementsShow}, Impositions.{ImpositionsAreOne, UsesAreOptional}, Marks.{BlocksAreMarked}, LeftSchema.{LeftIsSchema}, Misplacements.{MisplacementsAreOne, MisplacementsByModulesAreOne, MisplacementsByUsesAreOne}, ModuleBlocks.{ModuleBlocksAreOne}, PathTargets.{PathsReach}, RefinedBlocks.{BlockIsMissed, BlockIsRefined}, Refines.{RefinesAreOne}, RefineStep.{RefineChanges, RefineMisses}, Refusals.{FinalRefusalsAreOne, RefusalsAreOne}, Rounds.{RoundAdds, RoundMisses, RoundTakes, RoundWaits}, Schema.{LeftShows}, Shows.{AreLabels, Items}, Start.{StartShows}, TakenBlocks.{TargetsTake}, Targets.{TargetsAreOne}, ItemProperties.{ExpansionsHaveStatements, LabelsTell, PathsAgree}, Trees.{TreeShows}, Turn.{TurnAdds, TurnMisses}, Under.{BeginningStands, BlockStands, FinalStands}, UsesBlocks.{UsesBlocksAreOne}, UsesTargets.{UsesTargetsAreOne}, WholeRounds.{RoundsShow}};
 
-/// What an augment of a uses gives comes to stand, in its turn, behind what the node has to which
-/// its path leads; where the path leads to no such node nothing moves (RFC 7950, section 7.17).
+/// What an augment of a uses gives is added, in its turn, after what the node has to which its
+/// path leads; where the path leads to no such node nothing moves (RFC 7950, section 7.17).
 pub fn a_turn_adds_to_its_target()
+    // In its turn, an augment of a uses puts its items after those of the node to which its path
+    // leads.
     ensures adds { (labels : List Label) (its : Items) (mark : ℕ → Bool) → AreLabels labels its
         → TurnAdds labels its mark }
+    // If there is no such node nothing moves.
     ensures misses { (labels : List Label) (its : Items) (mark : ℕ → Bool) → AreLabels labels its
         → TurnMisses labels its mark }
 {}
@@ -29,16 +32,18 @@ pub fn a_block_shows_what_it_gives()
         → BlockShows labels its mark }
 {}
 
-/// The items of an expansion lie in blocks as they are laid, one behind the other: a uses above its
+/// The items of an expansion lie in blocks as they are laid, one after the other: a uses above its
 /// copies and what its augments give (RFC 7950, sections 7.12 to 7.17).
 pub fn an_expansion_lies_in_blocks()
     ensures { (w : Whole) (labels : List Label) → ExpansionLies w labels }
 {}
 
 /// Items that lie in a block enter as the block does, and of a spot no more is asked than what is
-/// told of it.
+/// known of it.
 pub fn what_lies_in_a_block_enters_so()
+    // Of a spot no more is asked than what is known of it.
     ensures tells { (w : Whole) (labels : List Label) → PlacedIsTold w labels }
+    // Items in a block enter as the block does.
     ensures enters { (labels : List Label) → SpotsEnter labels }
 {}
 
@@ -46,14 +51,17 @@ pub fn what_lies_in_a_block_enters_so()
 /// the nodes do that they show. A path by numbers names the nodes that the path by steps does,
 /// where no more statements are than `yv_link_scopes` reads (RFC 7950, section 6.5).
 pub fn what_is_told_of_items_is_so()
+    // Each item of an expansion is made of a statement that is there.
     ensures statements { (files : Briefs) (rows : List Row) → ExpansionsHaveStatements files rows }
+    // Labels tell of items what their nodes do.
     ensures labels { (w : Whole) (items : List Item) (its : Items) → LabelsTell w items its }
+    // A path by numbers names the nodes that the path by steps does.
     ensures paths { (files : Files) (augments : List ℕ) (count : ℕ) (items : List Item)
         (its : Items) → PathsAgree files augments count items its }
 {}
 
 /// In a block of an expansion an augment of a module gives all items of a group or none, so that
-/// the first of a name is the first also of those that stand before a limit.
+/// the first of a name is the first also of those that come before a limit.
 pub fn groups_of_blocks_have_one_mark()
     ensures { (w : Whole) (items : List Item) → BlocksAreMarked w items }
 {}
@@ -75,15 +83,17 @@ pub fn modules_and_their_augments_begin_apart()
 /// A refine means the item that shows the node to which its path leads, and no item where its path
 /// leads to no node (RFC 7950, section 7.13.2).
 pub fn a_refine_means_the_node_of_its_path()
+    // A refine means the item of the node to which its path leads.
     ensures changes { (labels : List Label) (its : Items) → AreLabels labels its
         → RefineChanges labels its }
+    // It means none if there is no such node.
     ensures misses { (labels : List Label) (its : Items) → AreLabels labels its
         → RefineMisses labels its }
 {}
 
 /// Statements of one module show what they give, when their items are laid and have entered: a uses
-/// shows the copies of what stands in its grouping, changed by its refines, with what its augments
-/// add (RFC 7950, sections 7.12 to 7.17).
+/// shows the copies of what is in its grouping, changed by its refines, with what its augments add
+/// (RFC 7950, sections 7.12 to 7.17).
 pub fn statements_show_what_they_give()
     ensures { (files : Files) (augments : List ℕ) → StatementsShow files augments }
 {
@@ -108,15 +118,18 @@ pub fn modules_show_what_they_give()
 /// When a refine means an item of a block, and that item has it, the block gives the nodes with it.
 /// Where the refine's path leads to no node, it means no item (RFC 7950, section 7.13.2).
 pub fn a_refined_block_gives_refined_nodes()
+    // A refine means an item of the block of its uses, and if that item has it the block gives the
+    // nodes with it.
     ensures changes { (labels : List Label) (its : Items) (mark : ℕ → Bool) → AreLabels labels its
         → ((x : ℕ) → x ≤ length labels → mark x ≡ false)
         → BlockIsRefined labels its mark }
+    // If its path leads to no node it means no item.
     ensures misses { (labels : List Label) (its : Items) (mark : ℕ → Bool) → AreLabels labels its
         → ((x : ℕ) → x ≤ length labels → mark x ≡ false)
         → BlockIsMissed labels its mark }
 {}
 
-/// What an augment of a module gives comes to stand, in its turn, behind what its target has, but
+/// What an augment of a module gives is added, in its turn, after what its target has, but
 /// before what later augments gave, in whichever round that is (RFC 7950, section 7.17).
 pub fn a_round_adds_to_its_target()
     ensures { (labels : List Label) (its : Items) (giver_of : ℕ → Option ℕ) → AreLabels labels its
@@ -131,25 +144,27 @@ pub fn rounds_show_what_they_make()
 {}
 
 /// An augment of a module whose path leads nowhere waits on. One whose path leads to some end is
-/// applied; where that is no node to which it may add, nothing moves (RFC 7950, section 7.17).
+/// applied; where that isn't a node to which it may add, nothing moves (RFC 7950, section 7.17).
 pub fn a_round_takes_what_leads_somewhere()
+    // An augment of a module whose path leads nowhere waits on and changes nothing.
     ensures waits { (labels : List Label) (its : Items) → AreLabels labels its
         → RoundWaits labels its }
+    // One whose path leads to some end is applied.
     ensures takes { (labels : List Label) (its : Items) → AreLabels labels its
         → RoundTakes labels its }
+    // If that isn't a node to which it may add, nothing moves.
     ensures misses { (labels : List Label) (its : Items) → AreLabels labels its
         → RoundMisses labels its }
 {}
 
-/// What the items at the top show, with all that stands below, is what the final tree by number
-/// shows.
+/// What the items at the top show, with all that is below, is what the final tree by number shows.
 pub fn the_final_tree_shows_the_same()
     ensures { (labels : List Label) (its : Items) → AreLabels labels its → TreeShows labels its }
 {}
 
 /// When no augment of a module can be applied any more, the items of files show at the top, with
-/// all that stands below, what the files expand to, before any condition is asked (RFC 7950,
-/// sections 7.12 to 7.17).
+/// all that is below, what the files expand to, before any condition is asked (RFC 7950, sections
+/// 7.12 to 7.17).
 pub fn files_show_what_they_expand_to()
     ensures { (files : Files) → FilesShow files }
 {
@@ -172,7 +187,7 @@ pub fn conditions_are_asked_at_or_above_a_node()
     ensures { (files : Files) → FilesAsk files }
 {}
 
-/// A numbered statement that is in a block, and is no extension's, has a mark exactly where each
+/// A numbered statement that is in a block, and isn't an extension's, has a mark exactly where each
 /// of its `if-feature` statements is true in its file (RFC 7950, section 7.20.2).
 pub fn marks_tell_which_conditions_hold()
     ensures { (files : Files) → MarksAreConditions files }
@@ -224,17 +239,17 @@ pub fn targets_are_one()
     yv_link_scopes::laws::a_name_means_one_thing();
 }
 
-/// When a block has entered a group, what stands there at any depth is what stood there before and
-/// the items of the block, but for those of augments of uses whose paths lead to no node to which
-/// they may add (RFC 7950, sections 7.13 and 7.17).
+/// When a block has entered a group, what is there at any depth is what was there before and the
+/// items of the block, but for those of augments of uses whose paths lead to no node to which they
+/// may add (RFC 7950, sections 7.13 and 7.17).
 pub fn a_block_keeps_its_items()
     ensures { (labels : List Label) (its : Items) (mark : ℕ → Bool) → AreLabels labels its
         → ((x : ℕ) → x ≤ length labels → mark x ≡ false) → BlockStands labels its mark }
 {}
 
-/// The items of the final tree are those that stood at the top before any augment of a module had
-/// its turn, at any depth, and those of what the augments of modules give that add to a node
-/// (RFC 7950, section 7.17).
+/// The items of the final tree are those that were at the top before any augment of a module had
+/// its turn, at any depth, and those of what the augments of modules give that add to a node (RFC
+/// 7950, section 7.17).
 pub fn items_of_the_final_tree_were_placed()
     ensures { FinalStands }
 {
@@ -256,9 +271,9 @@ pub fn a_target_takes_a_block_item_by_item()
     ensures { (rows : List Row) → TargetsTake rows }
 {}
 
-/// Before any augment of a module has its turn, what stands at the top, at any depth, is what the
-/// block of the modules keeps, and what stands in the group of each of their augments is what its
-/// block keeps (RFC 7950, sections 7.13 and 7.17).
+/// Before any augment of a module has its turn, what is at the top, at any depth, is what the block
+/// of the modules keeps, and what is in the group of each of their augments is what its block keeps
+/// (RFC 7950, sections 7.13 and 7.17).
 pub fn what_blocks_keep_stands_at_first()
     ensures { (labels : List Label) (its : Items) (mark : ℕ → Bool) → AreLabels labels its
         → ((x : ℕ) → x ≤ length labels → mark x ≡ false) → BeginningStands labels its mark }
@@ -302,9 +317,9 @@ pub fn blocks_of_modules_are_one()
     yv_link_scopes::laws::a_name_means_one_thing();
 }
 
-/// An augment of a module is refused by number, at an item of the final tree that stands in its
-/// block and below a node that doesn't take it, exactly where it is refused for its block in what
-/// the files expand to (RFC 7950, section 7.17).
+/// An augment of a module is refused by number, at an item of the final tree that is in its block
+/// and below a node that doesn't take it, exactly where it is refused for its block in what the
+/// files expand to (RFC 7950, section 7.17).
 pub fn misplacements_by_modules_are_one()
     ensures { (files : Files) → MisplacementsByModulesAreOne files }
 {
@@ -343,9 +358,9 @@ pub fn what_a_copy_gives_stands_below_its_target()
     a_copy_ends_where_its_turn_led();
 }
 
-/// An augment of a uses is refused by number, at an item of the final tree that stands in its block
-/// and below a node that doesn't take it, exactly where it is refused for its block in what the
-/// files expand to (RFC 7950, sections 7.13 and 7.17).
+/// An augment of a uses is refused by number, at an item of the final tree that is in its block and
+/// below a node that doesn't take it, exactly where it is refused for its block in what the files
+/// expand to (RFC 7950, sections 7.13 and 7.17).
 pub fn misplacements_by_uses_are_one()
     ensures { (files : Files) → MisplacementsByUsesAreOne files }
 {
@@ -361,9 +376,9 @@ pub fn misplacements_by_uses_are_one()
     blocks_of_uses_are_one();
 }
 
-/// An augment is refused by number, at an item of the final tree that stands in its block and below
-/// a node that doesn't take it, exactly where it is refused for its block in what the files expand
-/// to (RFC 7950, section 7.17).
+/// An augment is refused by number, at an item of the final tree that is in its block and below a
+/// node that doesn't take it, exactly where it is refused for its block in what the files expand to
+/// (RFC 7950, section 7.17).
 pub fn misplacements_are_one()
     ensures { (files : Files) → MisplacementsAreOne files }
 {
@@ -414,7 +429,7 @@ pub fn files_that_conform_have_roots()
 }
 
 /// Where nothing is refused of any file by itself, no uses says that it is mandatory: `mandatory`
-/// and `min-elements` are no substatements of it (RFC 7950, section 7.13.1).
+/// and `min-elements` aren't substatements of it (RFC 7950, section 7.13.1).
 pub fn uses_that_conform_are_optional()
     ensures { (files : Files) → NoFileIsBad files → UsesAreOptional files }
 {

@@ -1,6 +1,6 @@
 //! Numbered items, and the tree that they show.
 //!
-//! The expansion of files is made of numbered items: they enter groups, augments move what stands
+//! The expansion of files is made of numbered items: they enter groups, augments move what is
 //! in a group to another one, and paths go by numbers of names (`yv_expand_rounds`,
 //! `yv_expand_augments`). What files expand to is defined as a tree, without numbers
 //! (`yv_expand_definition`). Here is what the one has to do with the other: `Shows` says that items

@@ -19,4 +19,5 @@ first_some (Some a) b = Some a
 
 -- the first number of a name is kept
 abbrev pub keep_first : (List ℕ → Option ℕ) → List ℕ → ℕ → List ℕ → Option ℕ
-keep_first table name number n = first_some (table n) (if bytes_eq name n then Some number else None)
+keep_first table name number n =
+    first_some (table n) (if bytes_eq name n then Some number else None)

@@ -9,14 +9,18 @@ use Rattle.yv_expand_paths.specs.InnerNameNumbers.{number_of, qualified_name}
 use Rattle.yv_expand_paths.specs.declared.step.SchemaStep.{SchemaStep}
 use Rattle.yv_expand_paths.specs.Paths.{steps_of}
 
-abbrev pub step_with : Briefs → List Row → (file : ℕ) → Option (List ℕ) → (name : ℕ) → Option SchemaStep
+abbrev pub step_with : Briefs → List Row → (file : ℕ) → Option (List ℕ) → (name : ℕ)
+    → Option SchemaStep
 step_with files rows file None name = Some (record { module_file = None; name = name })
-step_with files rows file (Some prefix) name = option_map (λ m. record { module_file = Some m; name = name }) (module_of files rows file prefix)
+step_with files rows file (Some prefix) name =
+    option_map (λ m. record { module_file = Some m; name = name })
+    (module_of files rows file prefix)
 
--- a step of a path of a file as numbers; none where its prefix stands for no module, or no node has
+-- a step of a path of a file as numbers; none where its prefix identifies no module, or no node has
 -- its name
 abbrev pub step_of : Briefs → List Row → (file : ℕ) → List ℕ → Option SchemaStep
-step_of files rows file text = option_and_then (step_with files rows file (prefix_of text)) (number_of rows (local_of text))
+step_of files rows file text =
+    option_and_then (step_with files rows file (prefix_of text)) (number_of rows (local_of text))
 
 -- the number of a step's module and name, where one without prefix is of the module of the file
 -- `own`

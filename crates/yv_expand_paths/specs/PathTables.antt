@@ -18,10 +18,13 @@ pub record AreNames (rows : List Row) (names : NodeNames) : Type 0 where
   pub input : number_of rows (codes "input") ≡ Some names.input
   pub output : number_of rows (codes "output") ≡ Some names.output
 
+-- the steps of a path that may be there
 abbrev pub steps_of : Option (Vec (Option SchemaStep) Global) → List (Option SchemaStep)
 steps_of None = []
 steps_of (Some v) = v.items
 
 -- these are the paths of statements
 pub record ArePaths (files : Briefs) (rows : List Row) (paths : Paths) : Type 0 where
-  pub steps : (statement : ℕ) → steps_of (slice_get paths.paths.items statement) ≡ path_at files rows (slice_get rows statement)
+  pub steps : (statement : ℕ)
+      → steps_of (slice_get paths.paths.items statement)
+      ≡ path_at files rows (slice_get rows statement)

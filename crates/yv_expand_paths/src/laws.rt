@@ -11,12 +11,16 @@ pub fn a_number_has_one_name()
 
 /// The node of each statement has a numbered name, and so have an operation's input and output.
 pub fn names_are_numbered()
+    // The node of each statement has a numbered name.
     ensures numbers { (rows : List Row) (statement : ℕ) → statement < length rows
         → (number : ℕ) × (number_at rows statement ≡ Some number) }
+    // So has the input of an operation.
     ensures input { (rows : List Row) → (number : ℕ)
         × (number_of rows (codes "input") ≡ Some number) }
+    // So has the output.
     ensures output { (rows : List Row) → (number : ℕ)
         × (number_of rows (codes "output") ≡ Some number) }
+    // There are at most two more names than statements.
     ensures within { (rows : List Row) (name : List ℕ) (number : ℕ) → number_of rows name
         ≡ Some number → number < length rows + 2 }
 {}

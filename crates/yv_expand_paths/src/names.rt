@@ -64,7 +64,9 @@ impl<'a> NodeNames<'a> {
     /// Numbers the names of these statements, and those of an operation's input and output, which
     /// may be left out. Takes time n log n in the text. Err only if memory runs out.
     pub fn read(alloc: Global, rows: &Rows<'a, '_>) -> Result<NodeNames<'a>, AllocError>
+        // These are the names of the statements' nodes, with their numbers.
         ensures names { IfOk result (AreNames (rows_in rows.now)) }
+        // Of at most 2^32 - 3 statements.
         ensures few { OnOk result (length (rows_in rows.now) ≤ 4294967293) }
     {
         let count = rows.len();

@@ -126,7 +126,9 @@ impl Paths {
         rows: &Rows<'a, '_>,
         names: &NodeNames<'a>,
     ) -> Result<Paths, AllocError>
+        // The paths of all refines and augments, each read once.
         requires { AreNames (rows_in rows.now) names.now }
+        // The paths of all refines and augments, each read once.
         ensures { IfOk result (ArePaths (files_in rows.now) (rows_in rows.now)) }
     {
         let module_files = PrefixTable::read(alloc, rows)?;

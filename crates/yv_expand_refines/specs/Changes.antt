@@ -8,6 +8,7 @@ pub record ChangesView : Type 0 where
   pub sequences : List (List ℕ)
   pub of : List (Option ℕ)
 
+-- the refines of the sequence at a place; none without one
 abbrev pub sequence_at : List (List ℕ) → Option ℕ → List ℕ
 sequence_at sequences None = []
 sequence_at sequences (Some place) = slice_index_or sequences place []

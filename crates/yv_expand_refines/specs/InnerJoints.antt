@@ -20,9 +20,10 @@ sequences_of runs js = joined_from runs [] js
 -- them, or none
 pub record AreJoined (count : ℕ) (js : List Joint) (of : List (Option ℕ)) : Type 0 where
   pub runs : (place : ℕ) (j : Joint) → slice_get js place ≡ Some j → j.run < count
-  pub fronts : (place : ℕ) (j : Joint) → slice_get js place ≡ Some j → IfSome j.front (λ front. front < place)
+  pub fronts : (place : ℕ) (j : Joint) → slice_get js place ≡ Some j
+      → IfSome j.front (λ front. front < place)
   pub items : (item : ℕ) (place : ℕ) → slice_get of item ≡ Some (Some place) → place < length js
 
--- a sequence was made behind the others, or none was
+-- a sequence was made after the others, or none was
 abbrev pub Grows : Joint → (old new : List Joint) → Type 0
 Grows j old new = (new ≡ old) ⊎ (new ≡ old ++ j ∷ [])

@@ -15,8 +15,10 @@ pub record RefineMeaning : Type 0 where
 
 -- what an aim means at a copy, where the different paths lead to these items
 abbrev pub meaning_of : (item : ℕ) → List (Option ℕ) → RefineTarget → RefineMeaning
-meaning_of item targets aim = record { item = item; refine = aim.refine; target = slice_index_or targets aim.path None }
+meaning_of item targets aim =
+    record { item = item; refine = aim.refine; target = slice_index_or targets aim.path None }
 
+-- the refines of a `uses` with their paths, where it has some
 abbrev pub targets_of : Option (Vec RefineTarget Global) → List RefineTarget
 targets_of None = []
 targets_of (Some aims) = aims.items

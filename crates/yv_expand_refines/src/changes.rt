@@ -44,8 +44,11 @@ pub struct Continuation<'c> {
 impl Changes {
     /// No changes to so many items. Err only if memory runs out.
     pub fn none(alloc: Global, count: usize) -> Result<Changes, AllocError>
+        // There are no runs.
         ensures runs { IfOk result (λ c. c.runs ≡ []) }
+        // There are no sequences.
         ensures sequences { IfOk result (λ c. c.sequences ≡ []) }
+        // There are `count` items, and none has a sequence.
         ensures of { IfOk result (λ c. c.of ≡ replicate count None) }
     {
         Ok(Changes {
@@ -58,10 +61,15 @@ impl Changes {
     /// Keeps a run, and answers its number: how many there were before it. It changes nothing yet.
     /// Err only if memory runs out.
     pub fn add_run(&mut self, refines: Vec<usize>) -> Result<usize, AllocError>
+        // The number of the run is how many runs there were.
         ensures number { IfOk result (λ number. number ≡ length self.old.runs) }
+        // These refines become a run after the others.
         ensures runs { OnOk result (self.new.runs ≡ self.old.runs ++ refines.items ∷ []) }
+        // The sequences stay.
         ensures sequences { self.new.sequences ≡ self.old.sequences }
+        // So do the changes of items.
         ensures of { self.new.of ≡ self.old.of }
+        // After an error all is as before.
         ensures err { OnErr result (self.new ≡ self.old) }
     {
         let number = self.runs.len();
@@ -90,10 +98,14 @@ impl Changes {
     /// item past the last changes nothing, and so does a run that isn't there. Takes time log n in
     /// sequences, whatever the run's length. Err only if memory runs out.
     pub fn note(&mut self, item: usize, run: usize) -> Result<(), AllocError>
+        // The refines of the run change the item, after those that already do; the changes of other
+        // items stay. An item past the last changes nothing, nor does a run that does not exist.
         ensures notes { OnOk result (each self.new
             ≡ slice_set (each self.old) item
             (slice_index_or (each self.old) item [] ++ slice_index_or self.old.runs run [])) }
+        // The runs stay.
         ensures runs { self.new.runs ≡ self.old.runs }
+        // After an error all is as before.
         ensures err { OnErr result (self.new ≡ self.old) }
     {
         if item >= self.of.len() || run >= self.runs.len() {
@@ -111,9 +123,12 @@ impl Changes {
 
     /// The place of the sequence of the refines that change an item, if one does.
     pub fn sequence(&self, item: usize) -> Option<usize>
+        // The place of the item's sequence, if it has one, which is below `count`.
         ensures place { result ≡ slice_index_or self.now.of item None }
+        // The refines that change the item are those of that sequence.
         ensures refines { slice_index_or (each self.now) item []
             ≡ sequence_at self.now.sequences result }
+        // The place is that of a sequence.
         ensures within { IfSome result (λ place. place < length self.now.sequences) }
     {
         self.of.get(item)
@@ -132,8 +147,11 @@ impl Changes {
     /// How a sequence is made, so that what is computed of it goes on from what was computed of the
     /// earlier one.
     pub fn link(&self, sequence: usize) -> Continuation<'_>
+        // How a sequence is made: the one at the place `front`, if there is one, followed by the
+        // refines of `run`.
         ensures sequence { slice_index_or self.now.sequences sequence []
             ≡ sequence_at self.now.sequences result.front ++ result.run.now }
+        // The sequence at `front` is an earlier one.
         ensures before { IfSome result.front (λ front. front < sequence) }
     {
         match self.joints.at(sequence) {

@@ -41,7 +41,7 @@ impl Joints {
         self.made.get(place).copied()
     }
 
-    // This place, if the sequence stands there. That it does is looked at, and not kept as a fact.
+    // This place, if the sequence is there. That it is there is looked at, and not kept as a fact.
     fn if_made(&self, place: usize, joint: Joint) -> Option<usize>
         ensures { IfSome result (λ place. slice_get self.now.made.items place ≡ Some joint) }
     {
@@ -81,7 +81,7 @@ impl Joints {
         Ok(())
     }
 
-    // Makes a sequence behind the others, and answers its place.
+    // Makes a sequence after the others, and answers its place.
     fn make(&mut self, joint: Joint) -> Result<usize, AllocError>
         ensures place { IfOk result (λ place. place ≡ length self.old.made.items) }
         ensures makes { OnOk result (self.new.made.items ≡ self.old.made.items ++ joint ∷ []) }

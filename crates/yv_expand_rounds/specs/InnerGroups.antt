@@ -32,10 +32,12 @@ earlier labels (Some i) item = if is_lt (sibling_cmp labels item i) then item el
 
 -- an item is kept for its name where none is yet, or one that comes later
 abbrev pub keep_first : List Label → (ℕ → Option ℕ) → (name item : ℕ) → ℕ → Option ℕ
-keep_first labels first name item n = if n == name then Some (earlier labels (first n) item) else first n
+keep_first labels first name item n =
+    if n == name then Some (earlier labels (first n) item) else first n
 
 abbrev pub note_item : List Label → (ℕ → Option ℕ) → (item : ℕ) → ℕ → Option ℕ
-note_item labels first item n = if is_named labels n item then Some (earlier labels (first n) item) else first n
+note_item labels first item n =
+    if is_named labels n item then Some (earlier labels (first n) item) else first n
 
 -- the first node of each name is the first still, but for this one
 abbrev pub KeepBut : (old new : ℕ → Option ℕ) → Option ℕ → Type 0
@@ -51,15 +53,18 @@ Keep old new gone = (n i : ℕ) → old n ≡ Some i → (new n ≡ Some i) ⊎ 
 
 -- each of these is less than those before it
 abbrev pub Descend : List ℕ → Type 0
-Descend members = (i j a b : ℕ) → i < j → slice_get members i ≡ Some a → slice_get members j ≡ Some b → b < a
+Descend members =
+    (i j a b : ℕ) → i < j → slice_get members i ≡ Some a → slice_get members j ≡ Some b → b < a
 
 -- an item is less than the last of these
 abbrev pub IsBelowLast : List ℕ → ℕ → Type 0
-IsBelowLast members item = (place last : ℕ) → place + 1 ≡ length members → slice_get members place ≡ Some last → item < last
+IsBelowLast members item = (place last : ℕ) → place + 1 ≡ length members
+    → slice_get members place ≡ Some last → item < last
 
 -- among these are all members that come before the limit
 abbrev pub HaveBefore : (members : List ℕ) → (limit : ℕ) → (few : List ℕ) → Type 0
-HaveBefore members limit few = (place item : ℕ) → slice_get members place ≡ Some item → item < limit → (k : ℕ) × (slice_get few k ≡ Some item)
+HaveBefore members limit few = (place item : ℕ) → slice_get members place ≡ Some item → item < limit
+    → (k : ℕ) × (slice_get few k ≡ Some item)
 
 -- this group has these items
 pub record IsGroup (labels : List Label) (members : List ℕ) (group : Group) : Type 0 where
@@ -69,9 +74,10 @@ pub record IsGroup (labels : List Label) (members : List ℕ) (group : Group) : 
 
 pub record AreGroups (labels : List Label) (groups : Groups) (kept : List Group) : Type 0 where
   pub each : length kept ≡ length groups
-  pub group : (g : ℕ) (x : Group) → slice_get kept g ≡ Some x → IsGroup labels (members_of groups g) x
+  pub group : (g : ℕ) (x : Group) → slice_get kept g ≡ Some x
+      → IsGroup labels (members_of groups g) x
 
--- these items stand so
+-- these items are so
 pub record ArePlaces (labels : List Label) (groups : Groups) (places : ItemPlaces) : Type 0 where
   pub labels_are : places.labels.items ≡ labels
   pub groups_are : AreGroups labels groups places.groups.items

@@ -25,30 +25,33 @@ count_shown marks = count_by (λ m. not m) marks
 abbrev pub Grow : (old new : List Bool) → Type 0
 Grow old new = (i : ℕ) → is_hidden old i ≡ true → is_hidden new i ≡ true
 
--- all that stands below an item is hidden
+-- all that is below an item is hidden
 abbrev pub IsCovered : Groups → List Bool → (item : ℕ) → Type 0
-IsCovered groups marks i = (place j : ℕ) → slice_get (members_of groups (i + 1)) place ≡ Some j → is_hidden marks j ≡ true
+IsCovered groups marks i =
+    (place j : ℕ) → slice_get (members_of groups (i + 1)) place ≡ Some j → is_hidden marks j ≡ true
 
--- all that stands below hidden items is hidden
+-- all that is below hidden items is hidden
 abbrev pub IsClosed : List Label → Groups → List Bool → Type 0
-IsClosed labels groups marks = (i : ℕ) → i < length labels → is_hidden marks i ≡ true → IsCovered groups marks i
+IsClosed labels groups marks =
+    (i : ℕ) → i < length labels → is_hidden marks i ≡ true → IsCovered groups marks i
 
--- items were hidden, and found so behind those that were found before
+-- items were hidden, and found so after those that were found before
 pub record Hides (old new : List Bool) (before after : List ℕ) : Type 0 where
   pub grow : Grow old new
   pub found : (i : ℕ) → is_hidden new i ≡ true → (is_hidden old i ≡ true) ⊎ IsOneOf after i
   pub fewer : count_shown new + length after ≡ count_shown old + length before
   pub kept : (place i : ℕ) → slice_get before place ≡ Some i → slice_get after place ≡ Some i
 
--- all that stands below these items and below what was hidden besides was hidden
+-- all that is below these items and below what was hidden besides was hidden
 pub record Spreads (groups : Groups) (old new : List Bool) (found : List ℕ) : Type 0 where
   pub grow : Grow old new
   pub besides : (i : ℕ) → is_hidden new i ≡ true → (is_hidden old i ≡ true) ⊎ IsCovered groups new i
   pub below : (i : ℕ) → IsOneOf found i → IsCovered groups new i
 
--- nodes were hidden that were displaced when others came to stand below the node at this end, and
--- all that stands below what was hidden besides, or below this node, if it is hidden
-pub record Updates (groups : Groups) (old new : List Bool) (e : Option End) (displaced : List ℕ) : Type 0 where
+-- nodes were hidden that were displaced when others came to be below the node at this end, and all
+-- that is below what was hidden besides, or below this node, if it is hidden
+pub record Updates (groups : Groups) (old new : List Bool) (e : Option End)
+    (displaced : List ℕ) : Type 0 where
   pub grow : Grow old new
   pub displaced_are : (i : ℕ) → IsOneOf displaced i → is_hidden new i ≡ true
   pub besides : (i : ℕ) → is_hidden new i ≡ true → (is_hidden old i ≡ true) ⊎ IsCovered groups new i

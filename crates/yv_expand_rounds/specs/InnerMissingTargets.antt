@@ -14,4 +14,5 @@ place_without (Some target) place = None
 -- the least place, from the numbered augment on
 abbrev pub least_from : List Label → List (Option End) → ℕ → List (Option ℕ) → Option ℕ
 least_from labels ends k [] = None
-least_from labels ends k (place ∷ places) = lesser (place_without (target_of labels ends k) place) (least_from labels ends (k + 1) places)
+least_from labels ends k (place ∷ places) =
+    lesser (place_without (target_of labels ends k) place) (least_from labels ends (k + 1) places)

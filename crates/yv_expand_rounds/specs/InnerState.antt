@@ -6,8 +6,9 @@ use Rattle.yv_expand_rounds.specs.declared.augmentation.Augmentation.{Augmentati
 use Rattle.yv_expand_rounds.specs.Turns.{State, is_some}
 use Rattle.yv_expand_rounds.specs.InnerGroups.{ArePlaces}
 
--- the items with these labels stand so, and the augments have come so far
-pub record IsAugmentation (labels : List Label) (st : State) (grafting : Augmentation) : Type 0 where
+-- the items with these labels are so, and the augments have come so far
+pub record IsAugmentation (labels : List Label) (st : State)
+    (grafting : Augmentation) : Type 0 where
   pub places : ArePlaces labels st.groups grafting.places
   pub ends : grafting.ends.items ≡ st.ends
 

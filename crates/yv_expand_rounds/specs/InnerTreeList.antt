@@ -17,13 +17,15 @@ row parent depth i = record { number = i; parent = parent; depth = depth }
 abbrev pub under : (parent : Option ℕ) → (depth : ℕ) → List ℕ → List ItemRow
 under parent depth items = map (row parent depth) items
 
--- nothing stands twice
+-- nothing is there twice
 abbrev pub StandAtMostOnce : Groups → Type 0
 StandAtMostOnce groups = (i : ℕ) → times i groups ≤ 1
 
--- these items with their parents and depths give these rows, each with what stands below it
+-- these items with their parents and depths give these rows, each with what is below it
 pub data Each (labels : List Label) (groups : Groups) : List ItemRow → List ItemRow → Type 0 where
   none_left : Each labels groups [] []
-  item_then : {w : ItemRow} {items : List ℕ} {others rows : List ItemRow} {below : Tree} → AreInOrder labels groups (w.number + 1) items
+  item_then : {w : ItemRow} {items : List ℕ} {others rows : List ItemRow} {below : Tree}
+      → AreInOrder labels groups (w.number + 1) items
       → Make labels groups items below → Each labels groups others rows
-      → Each labels groups (w ∷ others) (w ∷ (tree_list (Some w.number) (w.depth + 1) below ++ rows))
+      → Each labels groups (w ∷ others)
+      (w ∷ (tree_list (Some w.number) (w.depth + 1) below ++ rows))

@@ -4,19 +4,22 @@ use Rattle.yv_expand_rounds.specs.declared.statement_kind.StatementKind.{Stateme
 use Rattle.yv_expand_rounds.specs.declared.statement_kind.StatementKind.TheVariants as kind
 use Rattle.std.specs.Str.{bytes_eq}
 
--- a uses is no schema node
+-- a uses isn't a schema node
 abbrev pub is_node : StatementKind → Bool
 is_node kind.Uses = false
 is_node _ = true
 
+-- a statement is a `uses`
 abbrev pub is_uses : StatementKind → Bool
 is_uses kind.Uses = true
 is_uses _ = false
 
+-- a statement is a `choice`
 abbrev pub is_choice : StatementKind → Bool
 is_choice kind.Choice = true
 is_choice _ = false
 
+-- a statement is a `case`
 abbrev pub is_case : StatementKind → Bool
 is_case kind.Case = true
 is_case _ = false
@@ -43,11 +46,13 @@ is_data kind.Anydata = true
 is_data kind.Anyxml = true
 is_data _ = false
 
+-- a statement is an `action` or a `notification`
 abbrev pub is_action_or_notification : StatementKind → Bool
 is_action_or_notification kind.Action = true
 is_action_or_notification kind.Notification = true
 is_action_or_notification _ = false
 
+-- a statement is the `input` or `output` of an operation
 abbrev pub is_part : StatementKind → Bool
 is_part kind.Input = true
 is_part kind.Output = true
@@ -69,13 +74,18 @@ takes kind.Rpc given = is_part given
 takes kind.Action given = is_part given
 takes _ given = false
 
+-- the keywords of the statements that give nodes, and of `uses`
 abbrev pub kinds : List (List ℕ × StatementKind)
 kinds =
-    (codes "container", kind.Container) ∷ (codes "leaf", kind.Leaf) ∷ (codes "leaf-list", kind.LeafList) ∷ (codes "list", kind.List)
-    ∷ (codes "choice", kind.Choice) ∷ (codes "case", kind.Case) ∷ (codes "anydata", kind.Anydata) ∷ (codes "anyxml", kind.Anyxml)
-    ∷ (codes "rpc", kind.Rpc) ∷ (codes "action", kind.Action) ∷ (codes "input", kind.Input) ∷ (codes "output", kind.Output)
+    (codes "container", kind.Container) ∷ (codes "leaf", kind.Leaf)
+    ∷ (codes "leaf-list", kind.LeafList) ∷ (codes "list", kind.List)
+    ∷ (codes "choice", kind.Choice) ∷ (codes "case", kind.Case) ∷ (codes "anydata", kind.Anydata)
+    ∷ (codes "anyxml", kind.Anyxml)
+    ∷ (codes "rpc", kind.Rpc) ∷ (codes "action", kind.Action) ∷ (codes "input", kind.Input)
+    ∷ (codes "output", kind.Output)
     ∷ (codes "notification", kind.Notification) ∷ (codes "uses", kind.Uses) ∷ []
 
+-- the kind under a keyword in a table
 abbrev pub kind_in : List (List ℕ × StatementKind) → List ℕ → Option StatementKind
 kind_in [] word = None
 kind_in (w ∷ ws) word = if bytes_eq w.0 word then Some w.1 else kind_in ws word
@@ -84,10 +94,12 @@ kind_in (w ∷ ws) word = if bytes_eq w.0 word then Some w.1 else kind_in ws wor
 unfoldable pub kind_of_keyword : List ℕ → Option StatementKind
 kind_of_keyword word = kind_in kinds word
 
+-- a statement is a `container`
 abbrev pub is_container : StatementKind → Bool
 is_container kind.Container = true
 is_container _ = false
 
+-- a statement is an `rpc`, an `action` or a `notification`
 abbrev pub is_operation_or_notification : StatementKind → Bool
 is_operation_or_notification kind.Rpc = true
 is_operation_or_notification kind.Action = true

@@ -3,6 +3,7 @@ use Rattle.std.specs.Prelude.{ℕ, ◌==◌, ◌&&◌, Bool, false, List, Option
 use Rattle.yv_expand_rounds.specs.declared.label.Label.{Label}
 use Rattle.yv_expand_rounds.specs.Kinds.{is_node}
 
+-- an item is there, is a node, and has this name
 abbrev pub is_some_named : ℕ → Option Label → Bool
 is_some_named name None = false
 is_some_named name (Some l) = is_node l.kind && (l.name == name)

@@ -123,7 +123,7 @@ impl Group {
         }
     }
 
-    // Whether members descend still when an item enters behind them.
+    // Whether members descend still when an item enters after them.
     fn descends_to(&self, item: usize) -> bool
         ensures so_far { result ≡ true → self.now.descending ≡ true }
         ensures last { result ≡ true → IsBelowLast self.now.members.items item }
@@ -199,8 +199,8 @@ impl Group {
         Ok(displaced)
     }
 
-    // How many members are in front of the last ones that come before the limit. None where these
-    // are more than `most`.
+    // How many members are before the last ones that come before the limit. None where these are
+    // more than `most`.
     fn front(&self, limit: usize, most: usize) -> Option<usize>
         ensures within { IfSome result (λ front. front ≤ length self.now.members.items) }
         ensures behind { (labels : List Label) (members : List ℕ) → IsGroup labels members self.now
@@ -220,8 +220,8 @@ impl Group {
         Some(front)
     }
 
-    // So many members are in front of those that may come before the limit. None where these are
-    // more than `most`.
+    // So many members are before those that may come before the limit. None where these are more
+    // than `most`.
     fn count_before(&self, limit: usize, most: usize) -> Option<usize>
         ensures within { IfSome result (λ front. front ≤ length self.now.members.items) }
         ensures behind { (labels : List Label) (members : List ℕ) → IsGroup labels members self.now

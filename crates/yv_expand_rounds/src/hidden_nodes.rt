@@ -73,7 +73,7 @@ impl HiddenNodes {
         Ok(())
     }
 
-    // Hides all that stands below these items.
+    // Hides all that is below these items.
     fn hide_below(&mut self, places: &ItemPlaces, mut found: Vec<usize>) -> Result<(), AllocError>
         ensures { (labels : List Label) (groups : Groups) → ArePlaces labels groups places.now
             → OnOk result (Spreads groups self.old.marks.items self.new.marks.items found.items) }

@@ -28,9 +28,11 @@ pub fn turns_keep_augments()
 /// When all items have entered, each is in exactly one group, once, and still is when the augments
 /// of modules are applied.
 pub fn each_item_stands_once()
+    // When all items have entered, each is in exactly one group, once.
     ensures enters { (labels : List Label) (augments : ℕ) (st : State)
         → HaveEntered labels augments 0 st
         → StandOnce (length labels) st.groups }
+    // So it is after the augments of a module are applied.
     ensures applies { (labels : List Label) (augments first : ℕ) (paths : List (List ℕ))
         (old new : State)
         → HaveEntered labels augments 0 old → first + length paths ≤ augments
@@ -40,9 +42,11 @@ pub fn each_item_stands_once()
 
 /// While items enter there are as many groups and augments as at first.
 pub fn entering_keeps_groups()
+    // There is a group for the top, one for each item, and one for each augment.
     ensures groups { (labels : List Label) (augments first : ℕ) (st : State)
         → HaveEntered labels augments first st
         → length st.groups ≡ length labels + 1 + augments }
+    // There are as many ends as augments.
     ensures augments { (labels : List Label) (augments first : ℕ) (st : State)
         → HaveEntered labels augments first st
         → length st.ends ≡ augments }
@@ -78,11 +82,14 @@ pub fn groups_have_one_tree()
 /// Where each item is in groups once, none is twice in the tree: it has no more items than there
 /// are.
 pub fn a_tree_has_no_item_twice()
+    // The tree has no more items than there are.
     ensures count { (labels : List Label) (groups : Groups) (items : ℕ) (t : Tree)
         → IsTree labels groups t → StandOnce items groups → length (tree_list None 1 t) ≤ items }
+    // It has only items that exist.
     ensures within { (labels : List Label) (groups : Groups) (items k : ℕ) (row : ItemRow)
         (t : Tree) → IsTree labels groups t → StandOnce items groups
         → slice_get (tree_list None 1 t) k ≡ Some row → row.number < items }
+    // It has each at one place.
     ensures once { (labels : List Label) (groups : Groups) (items i k : ℕ) (a b : ItemRow)
         (t : Tree) → IsTree labels groups t → StandOnce items groups
         → slice_get (tree_list None 1 t) i ≡ Some a → slice_get (tree_list None 1 t) k ≡ Some b
@@ -92,17 +99,21 @@ pub fn a_tree_has_no_item_twice()
 /// An item of the tree is in the group of the item above it and, where each is in groups once, in
 /// no other.
 pub fn items_stand_in_one_group()
+    // An item of the tree is in the group of the item above it.
     ensures below { (labels : List Label) (groups : Groups) (k : ℕ) (row : ItemRow) (t : Tree)
         → IsTree labels groups t → slice_get (tree_list None 1 t) k ≡ Some row
         → IsIn row.number (group_under row.parent) groups }
+    // It is in no other group.
     ensures one { (groups : Groups) (items i g h : ℕ) → StandOnce items groups → IsIn i g groups
         → IsIn i h groups → g ≡ h }
 {}
 
 /// An item that enters a group is in it, and still is when others enter.
 pub fn items_stay_when_others_enter()
+    // An item that enters a group is in it.
     ensures enters { (i g : ℕ) (st : State) → g < length st.groups
         → IsIn i g (enter i g st).groups }
+    // It stays there when others enter.
     ensures stays { (i g other h : ℕ) (st : State) → IsIn i g st.groups
         → IsIn i g (enter other h st).groups }
 {}
@@ -110,6 +121,7 @@ pub fn items_stay_when_others_enter()
 /// What an augment gives is in its group while it adds to no node, and then below the node to which
 /// it adds: so it is after each turn, and after the rounds.
 pub fn what_is_given_follows_the_augment()
+    // So it is after a turn of any augment.
     ensures turns { (labels : List Label) (number start limit augment item : ℕ) (names : List ℕ)
         (st : State)
         → length st.groups ≡ length labels + 1 + length st.ends → number < length st.ends → augment
@@ -117,6 +129,7 @@ pub fn what_is_given_follows_the_augment()
         → IsIn item (given_group labels st.ends augment) st.groups
         → IsIn item (given_group labels (turn labels number start limit names st).ends augment)
         (turn labels number start limit names st).groups }
+    // So it is after the augments of a module are applied.
     ensures applies { (labels : List Label) (first augment item : ℕ) (paths : List (List ℕ))
         (old new : State)
         → AreApplied labels first paths old new → length old.groups ≡ length labels + 1
@@ -128,12 +141,14 @@ pub fn what_is_given_follows_the_augment()
 
 /// An item at the top or below a node stays there, whatever augments do.
 pub fn items_stay_below_their_nodes()
+    // So it is after a turn of any augment.
     ensures turns { (labels : List Label) (number start limit group item : ℕ) (names : List ℕ)
         (st : State)
         → length st.groups ≡ length labels + 1 + length st.ends → number < length st.ends → group
         ≤ length labels
         → IsIn item group st.groups
         → IsIn item group (turn labels number start limit names st).groups }
+    // So it is after the augments of a module are applied.
     ensures applies { (labels : List Label) (first group item : ℕ) (paths : List (List ℕ))
         (old new : State)
         → AreApplied labels first paths old new → length old.groups ≡ length labels + 1

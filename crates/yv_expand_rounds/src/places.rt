@@ -17,7 +17,7 @@ pub(crate) struct ItemPlaces {
     pub groups: Vec<Group>,
 }
 
-// What was found, if it stands before the limit.
+// What was found, if it comes before the limit.
 fn before(limit: usize, found: Option<usize>) -> Option<usize>
     ensures { result ≡ before limit found }
 {

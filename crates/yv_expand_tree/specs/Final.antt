@@ -20,7 +20,7 @@ use Rattle.yv_node_properties.specs.declared.properties.StatedProperties.{Stated
 use Rattle.yv_expand_changes.specs.Properties.{said_of_all}
 use Rattle.yv_expand_tree.specs.FileOrder.{marks_of, order_of}
 
--- the items of an expansion, the augments of modules by file and statement, where these items stand
+-- the items of an expansion, the augments of modules by file and statement, where these items are
 -- when all augments were applied, and the tree that they then make
 pub record Final : Type 0 where
   pub items : List Item
@@ -36,9 +36,11 @@ whole_of files f = whole (map brief_of files) (rows_of files) f.augments (length
 pub record IsFinal (choice : Selected) (files : Files) (f : Final) : Type 0 where
   pub own : ℕ
   pub expanded : IsWhole files (marks_of choice files) (order_of choice files) own f.items
-  pub augments : f.augments ≡ augments_of (map brief_of files) (rows_of files) (marks_of choice files)
+  pub augments : f.augments
+      ≡ augments_of (map brief_of files) (rows_of files) (marks_of choice files)
   pub grafted : AreAugmented (whole_of files f) f.items f.state
-  pub is_tree : IsTree (labels_of (layout_of (whole_of files f) f.items).spots) f.state.groups f.tree
+  pub is_tree : IsTree (labels_of (layout_of (whole_of files f) f.items).spots) f.state.groups
+      f.tree
 
 -- the items of the final tree in order
 abbrev pub final_items : Final → List ItemRow

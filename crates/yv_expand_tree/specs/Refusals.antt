@@ -15,20 +15,24 @@ use Rattle.yv_expand_changes.specs.Properties.{told_of}
 use Rattle.yv_expand_tree.specs.Final.{Final, IsFinal, refined_of, said_of, spots_of, final_items, whole_of}
 use Rattle.yv_expand_tree.specs.FileOrder.{marks_of}
 
--- an augment adds to no node, or adds what may not stand there
+-- an augment adds to no node, or adds what may not be there
 abbrev pub BadAugments : Files → Final → Refusal → Type 0
 BadAugments files t f =
-    (BadTarget (whole_of files t) t.items t.state f ⊎ MissesTarget (whole_of files t) t.items (final_items t) f)
+    (BadTarget (whole_of files t) t.items t.state f
+    ⊎ MissesTarget (whole_of files t) t.items (final_items t) f)
     ⊎ (PutsMisplaced (rows_of files) (spots_of files t) (final_items t) f
-    ⊎ ImposesMandatory (rows_of files) (spots_of files t) t.augments (told_of (said_of files t)) None nothing_around t.tree f)
+    ⊎ ImposesMandatory (rows_of files) (spots_of files t) t.augments
+    (told_of (said_of files t)) None nothing_around t.tree f)
 
--- a node stands too deep, a refine means no node or isn't fit for it, or an augment is wrong. All
--- is asked of the final tree
+-- a node is too deep, a refine means no node or isn't fit for it, or an augment is wrong. All is
+-- asked of the final tree
 abbrev pub BadStanding : Files → Final → Refusal → Type 0
 BadStanding files t f =
     TooDeep (rows_of files) (spots_of files t) (final_items t) f
-    ⊎ (BadRefines files (spots_of files t) (refined_of files t) (final_items t) f ⊎ BadAugments files t f)
+    ⊎ (BadRefines files (spots_of files t) (refined_of files t) (final_items t) f
+    ⊎ BadAugments files t f)
 
+-- a refusal of the final tree of these files
 pub record BadFinal (choice : Selected) (files : Files) (f : Refusal) : Type 0 where
   pub final : Final
   pub is_final : IsFinal choice files final
@@ -36,4 +40,5 @@ pub record BadFinal (choice : Selected) (files : Files) (f : Refusal) : Type 0 w
 
 -- the expansion passes the limit, or something is wrong with the final tree
 abbrev pub BadExpansion : Selected → Files → (limit : ℕ) → Refusal → Type 0
-BadExpansion choice files limit f = TooMany files (marks_of choice files) limit f ⊎ BadFinal choice files f
+BadExpansion choice files limit f =
+    TooMany files (marks_of choice files) limit f ⊎ BadFinal choice files f

@@ -18,9 +18,11 @@ nodes_of none = nodes.none
 nodes_of (item i below behind) = nodes.item i (nodes_of below) (nodes_of behind)
 
 -- these are the nodes that are left: the items of the final tree that are there by their conditions
--- and by those of what gave them, as all nodes above them are; a uses is no node
+-- and by those of what gave them, as all nodes above them are; a uses isn't a node
 pub record AreLeft (truth : Truth) (files : Files) (f : Final) (left_nodes : Nodes) : Type 0 where
   pub marks : List Bool
-  pub on : AreOn (rows_of files) (spots_of files f) f.items (is_marked (statement_marks truth files))
-      (is_marked (item_marks (statement_marks truth files) (spots_of files f) (changes_of files f))) marks
+  pub on : AreOn (rows_of files) (spots_of files f) f.items
+      (is_marked (statement_marks truth files))
+      (is_marked (item_marks (statement_marks truth files) (spots_of files f) (changes_of files f)))
+      marks
   pub are : left_nodes ≡ nodes_of (remains (is_left (spots_of files f) marks) f.tree)

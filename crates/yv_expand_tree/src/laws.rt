@@ -60,7 +60,7 @@ pub fn nodes_are_within_items()
     yv_expand_augments::laws::items_stand_once();
 }
 
-/// What is left are items that are no uses.
+/// What is left are items that aren't uses.
 pub fn what_is_left_are_nodes()
     ensures { (choice : Selected) (files : Files) (truth : Truth) (f : Final) (nodes : Nodes)
         (place : ℕ) (x : Node)
@@ -112,7 +112,7 @@ pub fn given_nodes_stand_below_their_target()
     yv_expand_augments::laws::what_is_given_stands_below_its_target();
 }
 
-/// In files that conform, a node that is left and isn't at the top is below one that is no leaf,
+/// In files that conform, a node that is left and isn't at the top is below one that isn't a leaf,
 /// leaf-list, anydata or anyxml.
 pub fn nothing_stands_below_a_leaf()
     ensures { (choice : Selected) (files : Files) (truth : Truth) (f : Final) (nodes : Nodes)

@@ -21,7 +21,7 @@ fn put(places: &mut Vec<Option<usize>>, depth: usize, place: usize) -> Result<()
     Ok(())
 }
 
-// The place of the node above what stands at a depth: the last of the depth before.
+// The place of the node above what is at a depth: the last of the depth before.
 fn above(places: &[Option<usize>], depth: usize) -> Option<usize>
     ensures { result ≡ last_above (λ d. slice_index_or places.now d None) depth }
 {

@@ -33,8 +33,7 @@ impl Model for FinalTree {
     } };
 }
 
-// The place of the augment of a module in whose block an item stands, of so many items and
-// augments.
+// The place of the augment of a module in whose block an item is, of so many items and augments.
 fn source_of(items: usize, augments: usize, spot: &Spot) -> Option<usize>
     ensures { (list : List ℕ) → length list ≡ augments → result
         ≡ source_of_spot items list (Some spot.now) }
@@ -49,7 +48,9 @@ fn source_of(items: usize, augments: usize, spot: &Spot) -> Option<usize>
 impl FinalTree {
     /// How many items there are.
     pub fn len(&self) -> u32
+        // The number of items.
         ensures count { result ≡ length self.now.items }
+        // There are no more than the limit.
         ensures within { length self.now.items ≤ self.now.limit }
     {
         self.expansion.len()

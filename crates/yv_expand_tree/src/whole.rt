@@ -177,16 +177,24 @@ pub fn final_tree<'a, 'b>(
     selection: &Selection,
     limit: u32,
 ) -> Result<FinalTree, Stop>
+    // The names are those of these files.
     requires { AreNames (lent_in rows.now) names.now }
+    // What is kept of the implemented modules: the items of their expansion in schema order, what
+    // the refines change, and the nodes of the final tree that remain by their own conditions,
+    // those of their refines, of what gave them, and of what is above them.
     ensures keeps { AreNames (lent_in rows.now) names.now
         → IfOk result
         (AreKept (selected_of selection.now) (lent_in rows.now) (truth_in linked.now)) }
+    // The limit is this one.
     ensures limit { IfOk result (λ t. t.limit ≡ limit) }
+    // A tree is returned only if nothing is refused of the expansion.
     ensures clear { AreNames (lent_in rows.now) names.now
         → OnOk result
         (IsLeast (BadExpansion (selected_of selection.now) (lent_in rows.now) limit) None) }
+    // A refusal is the least that applies to it.
     ensures refusal { AreNames (lent_in rows.now) names.now → (r : Refusal) → result ≡ Err (Fault r)
         → IsLeast (BadExpansion (selected_of selection.now) (lent_in rows.now) limit) (Some r) }
+    // `PatternBuild` is never returned.
     ensures builds { result ≢ Err PatternBuild }
 {
     match expand_files(alloc, rows, names, selection, limit) {

@@ -1,4 +1,4 @@
--- Only private clauses cite this: how many numbers of each place were told.
+-- Only private clauses cite this: how many numbers of each place were known.
 use Rattle.std.specs.Prelude.{ℕ, ◌+◌, List, set, Option, Some, None, slice_index_or}
 
 abbrev pub count_at : List ℕ → Option ℕ → ℕ

@@ -16,7 +16,7 @@ IsNumbered rows s = s.first + copies_of rows s < 2 ^ 63
 abbrev pub AreNumbered : List Row → List Spot → Type 0
 AreNumbered rows spots = (k : ℕ) (s : Spot) → slice_get spots k ≡ Some s → IsNumbered rows s
 
--- an item stands within so many groups and copies
+-- an item is within so many groups and copies
 pub record Fits (w : Whole) (total : ℕ) (s : Spot) : Type 0 where
   pub group : s.group < w.items + 1 + total
   pub copies : s.first + copies_of w.rows s ≤ total
@@ -24,7 +24,7 @@ pub record Fits (w : Whole) (total : ℕ) (s : Spot) : Type 0 where
 abbrev pub AllFit : Whole → ℕ → List Spot → Type 0
 AllFit w total spots = (k : ℕ) (s : Spot) → slice_get spots k ≡ Some s → Fits w total s
 
--- all items stand within what there is
+-- all items are within what there is
 pub record AreLaid (w : Whole) (l : LayoutView) : Type 0 where
   pub all : AllFit w l.copies l.spots
   pub modules : length w.augments ≤ l.copies

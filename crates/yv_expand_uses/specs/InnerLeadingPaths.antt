@@ -18,11 +18,14 @@ abbrev pub targets_of : List Arrival → List (Option ℕ)
 targets_of arrivals = map (λ a. node_at a.end) (filter is_led arrivals)
 
 -- of the numbered paths those that lead to a node, and where each leads
-pub record IsLed (lead : List ℕ → Option ℕ) (all : List (List ℕ)) (led : LeadingPaths) : Type 0 where
+pub record IsLed (lead : List ℕ → Option ℕ) (all : List (List ℕ))
+    (led : LeadingPaths) : Type 0 where
   pub each : length led.targets.items ≡ length led.paths.items
-  pub leads : (place path : ℕ) (steps : List ℕ) → slice_get led.paths.items place ≡ Some path → slice_get all path ≡ Some steps
+  pub leads : (place path : ℕ) (steps : List ℕ) → slice_get led.paths.items place ≡ Some path
+      → slice_get all path ≡ Some steps
       → slice_index_or led.targets.items place None ≡ lead steps
-  pub whole : (path item : ℕ) (steps : List ℕ) → slice_get all path ≡ Some steps → lead steps ≡ Some item
+  pub whole : (path item : ℕ) (steps : List ℕ) → slice_get all path ≡ Some steps
+      → lead steps ≡ Some item
       → (place : ℕ) × (slice_get led.paths.items place ≡ Some path)
 
 -- the first place of a path among these, whose places begin with this one
@@ -30,6 +33,7 @@ abbrev pub first_from : (place : ℕ) → List ℕ → (path : ℕ) → Option �
 first_from place [] path = None
 first_from place (p ∷ ps) path = if p == path then Some place else first_from (place + 1) ps path
 
--- an aim by the place of its path among these; behind the last where it isn't among them
+-- an aim by the place of its path among these; after the last where it isn't among them
 abbrev pub place_aim : List ℕ → RefineTarget → RefineTarget
-place_aim paths a = record { refine = a.refine; path = unwrap_or (first_from 0 paths a.path) (length paths) }
+place_aim paths a =
+    record { refine = a.refine; path = unwrap_or (first_from 0 paths a.path) (length paths) }

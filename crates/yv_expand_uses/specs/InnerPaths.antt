@@ -9,4 +9,5 @@ use Rattle.yv_expand_uses.specs.RefineTargets.{node_at}
 
 -- the node to which a path leads from a group
 abbrev pub target_of_path : List Label → State → (end group : ℕ) → List ℕ → Option ℕ
-target_of_path labels st end group path = option_and_then node_at (path_end labels st.groups end path (Start group))
+target_of_path labels st end group path =
+    option_and_then node_at (path_end labels st.groups end path (Start group))

@@ -18,12 +18,15 @@ use Rattle.yv_expand_uses.specs.declared.refine_targets.KeptTargets.{KeptTargets
 
 -- these are the refines of a block in order, each with the number of the path that it has in the
 -- module of the file `module_file`
-pub record AreTargets (w : Whole) (statement module_file : ℕ) (aims : List RefineTarget) (paths : List (List ℕ)) : Type 0 where
+pub record AreTargets (w : Whole) (statement module_file : ℕ) (aims : List RefineTarget)
+    (paths : List (List ℕ)) : Type 0 where
   pub refines : map (λ a. a.refine) aims ≡ refines_in w.rows statement
-  pub each : map (λ a. slice_get paths a.path) aims ≡ map (λ k. Some (path_in w module_file k)) (refines_in w.rows statement)
+  pub each : map (λ a. slice_get paths a.path) aims
+      ≡ map (λ k. Some (path_in w module_file k)) (refines_in w.rows statement)
 
 -- the same, where the paths are those of a tree
-pub record IsUsesTargets (w : Whole) (statement module_file : ℕ) (aimed : UsesTargets) : Type 0 where
+pub record IsUsesTargets (w : Whole) (statement module_file : ℕ)
+    (aimed : UsesTargets) : Type 0 where
   pub all : List (List ℕ)
   pub tree : IsPathTree all aimed.paths
   pub aims : AreTargets w statement module_file aimed.aims.items all
@@ -40,7 +43,8 @@ abbrev pub number_in : RefineTargets → (statement module_file : ℕ) → Optio
 number_in aims statement module_file = get key_cmp aims.known (statement, module_file)
 
 -- what the refines of a `uses` aim at in a module has this number
-pub record HasNumber (w : Whole) (aims : RefineTargets) (statement module_file number : ℕ) : Type 0 where
+pub record HasNumber (w : Whole) (aims : RefineTargets)
+    (statement module_file number : ℕ) : Type 0 where
   pub aimed : UsesTargets
   pub at : slice_get aims.aimed.items number ≡ Some aimed
   pub is : IsUsesTargets w statement module_file aimed
@@ -58,7 +62,10 @@ StandWithin places us = (k : ℕ) (u : RefinedUses) → slice_get us k ≡ Some 
 -- the aims that are known have their numbers, those that are kept stand at their places, and those
 -- of each copy do
 pub record AreRefineTargets (w : Whole) (aims : RefineTargets) : Type 0 where
-  pub known : (statement module_file number : ℕ) → number_in aims statement module_file ≡ Some number → HasNumber w aims statement module_file number
+  pub known : (statement module_file number : ℕ)
+      → number_in aims statement module_file ≡ Some number
+      → HasNumber w aims statement module_file number
   pub each : length aims.kept.items ≡ length aims.aimed.items
-  pub kept : (number : ℕ) (k : KeptTargets) → slice_get aims.kept.items number ≡ Some (Some k) → IsPlaced aims number k.paths.items k.place
+  pub kept : (number : ℕ) (k : KeptTargets) → slice_get aims.kept.items number ≡ Some (Some k)
+      → IsPlaced aims number k.paths.items k.place
   pub uses : StandWithin (length aims.refinements.aims.items) aims.refinements.uses.items

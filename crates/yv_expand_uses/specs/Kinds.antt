@@ -10,6 +10,7 @@ use Rattle.yv_expand_rounds.specs.declared.statement_kind.StatementKind.{Stateme
 use Rattle.yv_expand_rounds.specs.declared.statement_kind.StatementKind.TheVariants as kind
 use Rattle.yv_expand_rounds.specs.Kinds.{kind_of_keyword}
 
+-- what a statement is: a node of some kind, or a `uses`
 abbrev pub kind_at : Option Row → StatementKind
 kind_at None = kind.Leaf
 kind_at (Some r) = unwrap_or (kind_of_keyword r.head.keyword) kind.Uses
@@ -30,4 +31,8 @@ name_number rows (Output k) = number_of rows (codes "output")
 -- augment of a module gives or none
 abbrev pub label_of : List Row → (module_file : ℕ) → Origin → (given : Bool) → Label
 label_of rows module_file origin given =
-    record { kind = kind_of rows origin; name = qualified_name module_file (unwrap_or (name_number rows origin) 0); given = given }
+    record {
+      kind = kind_of rows origin;
+      name = qualified_name module_file (unwrap_or (name_number rows origin) 0);
+      given = given;
+    }

@@ -8,6 +8,7 @@ use Rattle.yv_expand_uses.specs.Spots.{Whole, own_module_file}
 abbrev pub no_name : ℕ
 no_name = 4294967295
 
+-- the number of the name of a step; no name where its prefix refers to no module
 abbrev pub step_name : (module_file : ℕ) → Option SchemaStep → ℕ
 step_name module_file None = no_name
 step_name module_file (Some s) = step_number module_file s

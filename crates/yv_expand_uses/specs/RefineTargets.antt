@@ -15,7 +15,7 @@ use Rattle.yv_expand_uses.specs.Spots.{Whole}
 use Rattle.yv_expand_uses.specs.declared.spot.Spot.{Spot}
 use Rattle.yv_expand.specs.StatementBlocks.{is_refine}
 
--- for each refine the block in which it stands
+-- for each refine the block in which it is
 abbrev pub refine_places : List Row → List (Option ℕ)
 refine_places rows = map (λ r. if is_refine r then Some r.scope else None) rows
 
@@ -23,20 +23,22 @@ refine_places rows = map (λ r. if is_refine r then Some r.scope else None) rows
 abbrev pub refines_in : List Row → (block : ℕ) → List ℕ
 refines_in rows block = numbers_at (refine_places rows) block
 
--- a case that is left out is no node
+-- a case that is left out isn't a node
 abbrev pub node_at : End → Option ℕ
 node_at (Node i) = Some i
 node_at _ = None
 
--- the node that a refine of a uses means, among what the uses gives: what its own augments give
--- stands nowhere yet
+-- the node that a refine of a uses means, among what the uses gives: what its own augments give is
+-- nowhere yet
 abbrev pub node_meant : Whole → List Label → Spot → (end refine : ℕ) → State → Option ℕ
-node_meant w labels s end refine st = option_and_then node_at (path_end labels st.groups end (path_in w s.module_file refine) (Start s.group))
+node_meant w labels s end refine st =
+    option_and_then node_at
+    (path_end labels st.groups end (path_in w s.module_file refine) (Start s.group))
 
--- what those of the item of this number mean, if it is a uses, when all items behind it have
--- entered
+-- what those of the item of this number mean, if it is a uses, when all items after it have entered
 abbrev pub refined_at : Whole → List Label → Spot → (number end : ℕ) → State → List RefineMeaning
 refined_at w labels s number end st =
     if is_uses s.label.kind
-    then map (λ k. record { item = number; refine = k; target = node_meant w labels s end k st }) (refines_in w.rows s.statement)
+    then map (λ k. record { item = number; refine = k; target = node_meant w labels s end k st })
+    (refines_in w.rows s.statement)
     else []

@@ -12,7 +12,7 @@ use yv_base_tables::Families;
 use yv_link_scopes::{Entry, Rows};
 use yv_statement::Keyword;
 
-// The block in which a statement stands that is an item.
+// The block in which a statement is that is an item.
 fn item_place(entry: &Entry<'_, '_>) -> Option<usize>
     ensures { result
         ≡ (if is_node_or_uses (row entry.now) then Some (row entry.now).scope else None) }
@@ -24,7 +24,7 @@ fn item_place(entry: &Entry<'_, '_>) -> Option<usize>
     }
 }
 
-// The block in which a statement stands that is an augment.
+// The block in which a statement is that is an augment.
 fn augment_place(entry: &Entry<'_, '_>) -> Option<usize>
     ensures { result ≡ (if is_augment (row entry.now) then Some (row entry.now).scope else None) }
 {
@@ -51,7 +51,7 @@ pub(crate) fn augment_places(
     Ok(places)
 }
 
-// The block in which a statement stands that is a refine.
+// The block in which a statement is that is a refine.
 fn refine_place(entry: &Entry<'_, '_>) -> Option<usize>
     ensures { result ≡ (if is_refine (row entry.now) then Some (row entry.now).scope else None) }
 {
@@ -91,7 +91,7 @@ fn item_places(alloc: Global, rows: &Rows<'_, '_>) -> Result<Vec<Option<usize>>,
     Ok(places)
 }
 
-// Whether a numbered statement is an augment in whose block an item stands.
+// Whether a numbered statement is an augment in whose block an item is.
 fn gives(items: &Families, number: usize, entry: &Entry<'_, '_>) -> bool
     ensures { (rows : List Row) → items.now ≡ by_place (item_places rows) (length rows) → number
         < length rows
@@ -101,7 +101,7 @@ fn gives(items: &Families, number: usize, entry: &Entry<'_, '_>) -> bool
     is_augment(entry) && !items.at(number).is_empty()
 }
 
-// The block in which such an augment stands.
+// The block in which such an augment is.
 fn giving_place(items: &Families, number: usize, entry: &Entry<'_, '_>) -> Option<usize>
     ensures { (rows : List Row) → items.now ≡ by_place (item_places rows) (length rows) → number
         < length rows
@@ -145,7 +145,7 @@ pub(crate) fn giving_places(
     places_of(alloc, rows, &items)
 }
 
-// How many numbers of a place were told, of which one more is now.
+// How many numbers of a place were known, of which one more is now.
 fn next(counts: &mut Vec<usize>, place: Option<usize>) -> usize
     requires within { (k : ℕ) → place ≡ Some k → k < length counts.old.items }
     requires room { (k : ℕ) → place ≡ Some k → slice_index_or counts.old.items k 0 + 1 < 2 ^ 64 }

@@ -5,7 +5,7 @@ ghost use Rattle.yv_expand_uses.specs.{Ends.{end_at}, InnerEnds.{AreEnds, is_fro
 use std::alloc::{AllocError, Global};
 use yv_expand::Item;
 
-// Whether there is a next item, and it stands below this one or one behind it.
+// Whether there is a next item, and it is below this one or one after it.
 fn is_from(items: &[Item], number: usize, next: usize) -> bool
     ensures { result ≡ is_from_at number (slice_get items.now next) }
 {
@@ -18,7 +18,7 @@ fn is_from(items: &[Item], number: usize, next: usize) -> bool
     }
 }
 
-// The number behind the last item below this one, where that of each item behind it is known.
+// The number after the last item below this one, where that of each item after it is known.
 fn end(items: &[Item], ends: &[usize], number: usize) -> usize
     requires within { number < length items.now }
     requires each { length ends.now ≡ length items.now }

@@ -18,7 +18,7 @@ pub fn is_marked(marks: &[bool], number: usize) -> bool
     marks.get(number).copied().unwrap_or(false)
 }
 
-// Whether what stands in an item is there by the conditions of the item, if that is a uses.
+// Whether what is in an item is there by the conditions of the item, if that is a uses.
 fn uses_on(spot: Option<Spot>, mark: bool) -> bool
     ensures { result ≡ uses_on spot mark }
 {
@@ -28,7 +28,7 @@ fn uses_on(spot: Option<Spot>, mark: bool) -> bool
     }
 }
 
-// The same of what stands below the item of a number, if there is one.
+// The same of what is below the item of a number, if there is one.
 fn above_on(spots: &[Spot], marks: &[bool], parent: Option<usize>) -> bool
     ensures { result ≡ above_on spots.now marks.now parent }
 {
@@ -45,7 +45,7 @@ pub fn is_augment(entry: &Entry<'_, '_>) -> bool
     entry.is(Keyword::Augment)
 }
 
-// Whether what stands in a block is there by the conditions of the block, if that is an augment.
+// Whether what is in a block is there by the conditions of the block, if that is an augment.
 fn block_on(rows: &Rows<'_, '_>, statements: &[bool], block: usize) -> bool
     ensures { result
         ≡ block_on (is_marked statements.now) block (slice_get (rows_in rows.now) block) }
@@ -62,7 +62,7 @@ fn block_on(rows: &Rows<'_, '_>, statements: &[bool], block: usize) -> bool
     }
 }
 
-// The same of the block in which a numbered statement stands.
+// The same of the block in which a numbered statement is.
 fn augment_on(rows: &Rows<'_, '_>, statements: &[bool], statement: usize) -> bool
     ensures { result
         ≡ augment_on (rows_in rows.now) (is_marked statements.now)
@@ -101,7 +101,11 @@ pub fn items_on(
     statements: &[bool],
     own: &[bool],
 ) -> Result<Vec<bool>, AllocError>
+    // A mark for each item that has one of its own, if each uses above it has one, and the augment
+    // in whose block its statement is has one. Precondition: each item comes after its parent.
     requires { ParentsComeFirst items.now }
+    // A mark for each item that has one of its own, if each uses above it has one, and the augment
+    // in whose block its statement is has one. Precondition: each item comes after its parent.
     ensures { IfOk result
         (λ marks. AreOn (rows_in rows.now) spots.now items.now (is_marked statements.now)
         (is_marked own.now)

@@ -44,7 +44,9 @@ impl Plan<'_, '_, '_> {
 
     /// The group of what the numbered copy of an augment gives, until the augment is applied.
     pub fn copy_group(&self, number: usize) -> usize
+        // The group of what the numbered copy of an augment gives.
         requires { number < 2 ^ 63 }
+        // The group of what the numbered copy of an augment gives.
         ensures { result ≡ copy_group (whole_in self.now) number }
     {
         self.items.len() + 1 + number
@@ -173,9 +175,13 @@ impl Plan<'_, '_, '_> {
     /// copies. Err only if memory runs out.
     #[tactic(auto, unfolding(crate::specs::Spots::layout_of))]
     pub fn lay(&self, alloc: Global, items: &[Item]) -> Result<Layout, AllocError>
+        // The plan is one of statements.
         requires { IsPlan self.now }
+        // For each item its statement, the file of its module, its kind, the number of its module
+        // and name, and where it is before any augment is applied.
         ensures lays { IfOk result
             (λ layout. laid_in layout ≡ layout_of (whole_in self.now) items.now) }
+        // And how many copies of augments there are, fewer than 2 to the 63.
         ensures few { IfOk result (λ layout. layout.copies < 2 ^ 63) }
     {
         let mut spots = Vec::with_capacity(alloc, items.len())?;

@@ -88,7 +88,9 @@ impl<'r, 'a, 'b> Plan<'r, 'a, 'b> {
         augments: &'r [usize],
         items: &'r [Item],
     ) -> Result<Plan<'r, 'a, 'b>, AllocError>
+        // A plan of these statements, augments and items.
         ensures plan { IfOk result IsPlan }
+        // It is that of these files, augments and items.
         ensures whole { IfOk result
             (λ plan. whole_in plan
             ≡ whole (files_in rows.now) (rows_in rows.now) augments.now (length items.now)) }
@@ -142,7 +144,9 @@ impl<'r, 'a, 'b> Plan<'r, 'a, 'b> {
 
     /// Whether a numbered statement is an augment of this block that gives something.
     pub fn is_giving(&self, block: usize, augment: usize) -> bool
+        // Whether the statement is an augment of this block that gives something.
         requires { IsPlan self.now }
+        // Whether the statement is an augment of this block that gives something.
         ensures { result ≡ is_giving (rows_in self.now.rows.now) block augment }
     {
         is_in(block, self.places.get(augment).copied())
@@ -167,7 +171,9 @@ impl<'r, 'a, 'b> Plan<'r, 'a, 'b> {
 
     /// The augments of a block, in order.
     pub fn augments_in(&self, block: usize) -> &[usize]
+        // The augments of a block, in order.
         requires { IsPlan self.now }
+        // The augments of a block, in order.
         ensures { result.now ≡ augments_in (rows_in self.now.rows.now) block }
     {
         yv_base_tables::laws::each_place_has_its_numbers();
@@ -200,7 +206,11 @@ impl<'r, 'a, 'b> Plan<'r, 'a, 'b> {
         module_file: u32,
         augment: usize,
     ) -> Result<Vec<usize>, AllocError>
+        // The path of an augment or a refine, each step as a number, where names without prefix are
+        // of the module of this file.
         requires { IsPlan self.now }
+        // The path of an augment or a refine, each step as a number, where names without prefix are
+        // of the module of this file.
         ensures { IfOk result
             (λ path. path.items ≡ path_in (whole_in self.now) module_file augment) }
     {
@@ -210,7 +220,11 @@ impl<'r, 'a, 'b> Plan<'r, 'a, 'b> {
     /// The paths of the augments of modules, where names without prefix are of the module of the
     /// augment's file. Err only if memory runs out.
     pub fn module_paths(&self, alloc: Global) -> Result<Vec<Vec<usize>>, AllocError>
+        // The paths of the augments of modules, where names without prefix are of the module of the
+        // augment's file.
         requires { IsPlan self.now }
+        // The paths of the augments of modules, where names without prefix are of the module of the
+        // augment's file.
         ensures { IfOk result
             (λ paths. map (λ p. p.items) paths.items ≡ module_paths (whole_in self.now)) }
     {

@@ -51,7 +51,9 @@ impl RefineTargets {
 
     /// No item was looked at.
     pub fn new(alloc: Global) -> RefineTargets
+        // Nothing is noted.
         ensures aims { (w : Whole) → AreRefineTargets w result }
+        // No refine means anything yet.
         ensures means { all_meant result.refinements ≡ [] }
     {
         RefineTargets {
@@ -279,9 +281,14 @@ impl Plan<'_, '_, '_> {
         end: usize,
         aims: &mut RefineTargets,
     ) -> Result<(), AllocError>
+        // The plan is one of statements.
         requires plan { IsPlan self.now }
+        // What was noted is of this plan.
         requires aims { AreRefineTargets (whole_in self.now) aims.old }
+        // So is what is noted then, also after an error.
         ensures aims { OnOk result (AreRefineTargets (whole_in self.now) aims.new) }
+        // What the refines of an item mean is added to what is noted: the node that each means
+        // among what the `uses` gives, if the item is a `uses`.
         ensures means { (labels : List Label) (st : State) → IsAugmentation labels st grafting.now
             → OnOk result (all_meant aims.new.refinements
             ≡ all_meant aims.old.refinements

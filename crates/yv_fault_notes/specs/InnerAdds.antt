@@ -5,4 +5,5 @@ use Rattle.yv_fault_notes.specs.Sentences.{AreSentences}
 
 -- sentences on these faults were put after those on others
 abbrev pub AddsSentences : List Flaw → (old new : List ℕ) → Type 0
-AddsSentences fs old new = (start : List Flaw) → AreSentences start old → AreSentences (start ++ fs) new
+AddsSentences fs old new =
+    (start : List Flaw) → AreSentences start old → AreSentences (start ++ fs) new

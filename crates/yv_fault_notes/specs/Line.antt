@@ -27,13 +27,15 @@ number_text n = if n == 0 then [] else codes " " ++ decimal n
 -- a fault's line with two dots in place of the first steps of its path, of which these are the
 -- others
 abbrev pub shortened_line : Flaw → (others : List Place) → List ℕ
-shortened_line f others = kind_name f.kind ++ codes " .." ++ places_text others ++ number_text f.number
+shortened_line f others =
+    kind_name f.kind ++ codes " .." ++ places_text others ++ number_text f.number
 
 -- how the sentence on a fault begins: as the fault's line on standard output, or, where that is
 -- long, with two dots in place of the first steps
 pub data Begins (f : Flaw) (front : List ℕ) : Type 0 where
   whole : front ≡ line_text f → Begins f front
-  short : (first others : List Place) → f.path ≡ first ++ others → front ≡ shortened_line f others → Begins f front
+  short : (first others : List Place) → f.path ≡ first ++ others → front ≡ shortened_line f others
+      → Begins f front
 
 -- the line of a sentence: the fault, and after a colon and a blank what is wrong and what to do
 pub record IsSentence (f : Flaw) (line : List ℕ) : Type 0 where

@@ -4,6 +4,7 @@ use Rattle.std.specs.List.{AllZip, flat_map, list_all}
 use Rattle.yv_faults.specs.Flaw.{Flaw}
 use Rattle.yv_fault_notes.specs.Line.{IsSentence, cleared_line, is_visible}
 
+-- lines, one after the other
 abbrev pub join_lines : List (List ℕ) → List ℕ
 join_lines lines = flat_map (λ line. line) lines
 
@@ -13,6 +14,7 @@ pub record AreSentences (fs : List Flaw) (text : List ℕ) : Type 0 where
   pub each : AllZip IsSentence fs lines
   pub is : text ≡ join_lines lines
 
+-- the line on the faults that have no line
 abbrev pub more_line : ℕ → List ℕ
 more_line count = cleared_line (codes "more faults: " ++ decimal count)
 

@@ -25,8 +25,12 @@ pub fn sentences(
     document: &Value,
     faults: &[Fault],
 ) -> Result<String, AllocError>
+    // A line for each of the first 20 faults, in their order, each beginning with the fault's line,
+    // or if that is long with two dots and its last steps; then how many more there are, if any.
     ensures tells { IfOk result (λ text. Tells faults.now (string_bytes text)) }
+    // No character controls a terminal.
     ensures clear { IfOk result (λ text. is_clear (string_bytes text) ≡ true) }
+    // The text has fewer than 30,000 bytes.
     ensures short { IfOk result (λ text. length (string_bytes text) < 30000) }
 {
     let mut text = String::new(alloc);

@@ -21,13 +21,14 @@ pub record Name : Type 0 where
 
 abbrev pub way_names : Way → List Name
 way_names Start = []
-way_names (After' p before is_entry step) = record { member = step.member; is_in_entry = is_entry } ∷ way_names before
+way_names (After' p before is_entry step) =
+    record { member = step.member; is_in_entry = is_entry } ∷ way_names before
 
 abbrev pub numbers : Entries → List ℕ
 numbers Outside = []
 numbers (Within' p outer number count) = number ∷ numbers outer
 
--- the first number, where one is taken, and those that are left
+-- the first number, if there is one, and those that are left
 abbrev pub first_if : Bool → List ℕ → Option ℕ
 first_if true (n ∷ ns) = Some n
 first_if _ _ = None
@@ -40,7 +41,8 @@ rest_if _ ns = ns
 abbrev pub places_of : List Name → List ℕ → Option ℕ → List Place
 places_of [] ns item = []
 places_of (name ∷ names) ns item =
-    places_of names (rest_if name.is_in_entry ns) (first_if name.is_in_entry ns) ++ record { member = name.member; item = item } ∷ []
+    places_of names (rest_if name.is_in_entry ns) (first_if name.is_in_entry ns)
+    ++ record { member = name.member; item = item } ∷ []
 
 abbrev pub kept_steps : KeptWay → List Place
 kept_steps (Shared way entries item) = places_of (way_names way.value) (numbers entries.value) item
@@ -58,7 +60,9 @@ is_entry (Below' p trail id item) = is_some item
 
 abbrev pub trail_names : Rows → Trail → List Name
 trail_names s Root = []
-trail_names s (Below' p trail id item) = record { member = step_name (row_at s id).label; is_in_entry = is_entry trail } ∷ trail_names s trail
+trail_names s (Below' p trail id item) =
+    record { member = step_name (row_at s id).label; is_in_entry = is_entry trail }
+    ∷ trail_names s trail
 
 abbrev pub number_if : Option ℕ → List ℕ → List ℕ
 number_if None ns = ns

@@ -6,6 +6,7 @@ use Rattle.yv_faults.specs.declared.fault.FaultKind.TheVariants.{Unknown, Shape,
 use Rattle.yv_leafref_values.specs.Place.{Place}
 use Rattle.yv_faults.specs.Flaw.{Flaw}
 
+-- the name of a kind of fault
 abbrev pub kind_name : FaultKind → List ℕ
 kind_name Unknown = codes "unknown"
 kind_name Shape = codes "shape"
@@ -28,25 +29,34 @@ is_plain b = nat_le 33 b && nat_le b 126 && not (b == 37)
 abbrev pub hexadecimal : ℕ → ℕ
 hexadecimal n = if nat_lt n 10 then 48 + n else 65 + n - 10
 
+-- a byte of a name as a line shows it: plain, or as two hexadecimal digits after `%`
 abbrev pub escaped_byte : ℕ → List ℕ
-escaped_byte b = if is_plain b then b ∷ [] else 37 ∷ hexadecimal (b / 16) ∷ hexadecimal (b % 16) ∷ []
+escaped_byte b =
+    if is_plain b then b ∷ [] else 37 ∷ hexadecimal (b / 16) ∷ hexadecimal (b % 16) ∷ []
 
+-- a name as a line shows it
 abbrev pub escape : List ℕ → List ℕ
 escape name = flat_map escaped_byte name
 
+-- the number of a list entry or item, in brackets
 abbrev pub item_text : Option ℕ → List ℕ
 item_text None = []
 item_text (Some n) = codes "[" ++ decimal n ++ codes "]"
 
+-- a step of a path
 abbrev pub place_text : Place → List ℕ
 place_text p = codes "/" ++ escape p.member ++ item_text p.item
 
+-- the steps of a path
 abbrev pub places_text : List Place → List ℕ
 places_text ps = flat_map place_text ps
 
+-- a path; `/` is the whole document
 abbrev pub path_text : List Place → List ℕ
 path_text [] = codes "/"
 path_text (p ∷ ps) = places_text (p ∷ ps)
 
+-- the line of a fault: its kind, its path, and the number of a `unique` statement
 abbrev pub line_text : Flaw → List ℕ
-line_text f = kind_name f.kind ++ codes " " ++ path_text f.path ++ (if f.number == 0 then [] else codes " " ++ decimal f.number)
+line_text f = kind_name f.kind ++ codes " " ++ path_text f.path
+    ++ (if f.number == 0 then [] else codes " " ++ decimal f.number)

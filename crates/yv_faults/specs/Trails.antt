@@ -12,7 +12,8 @@ pub record Flaws : Type 0 where
 -- the places on a way
 abbrev pub places : Rows → Trail → List Place
 places s Root = []
-places s (Below' p trail id item) = places s trail ++ record { member = step_name (row_at s id).label; item = item } ∷ []
+places s (Below' p trail id item) =
+    places s trail ++ record { member = step_name (row_at s id).label; item = item } ∷ []
 
 -- each node on it is one of the schema
 abbrev pub IsWithin : Rows → Trail → Type 0

@@ -154,8 +154,10 @@ pub fn line(alloc: Global, fault: &Fault) -> Result<String, AllocError>
 /// Appends a fault's line to a text. The line is made first, so that the text stays as it is where
 /// memory runs out.
 pub fn push_line(text: &mut String, fault: &Fault) -> Result<(), AllocError>
+    // That line is appended to the text.
     ensures line { OnOk result
         (string_bytes text.new ≡ string_bytes text.old ++ line_text fault.now) }
+    // After an error the text is as it was.
     ensures same { OnErr result (string_bytes text.new ≡ string_bytes text.old) }
 {
     let line = line(*text.allocator(), fault)?;

@@ -36,7 +36,7 @@ pub enum FaultKind {
     /// path reaches (RFC 7950, sections
     /// 9.9 and 9.9.3).
     Reference,
-    /// State is in a document that is to have configuration alone (RFC 7950, section 7.21.1).
+    /// State is in a document that is to have configuration only (RFC 7950, section 7.21.1).
     State,
 }
 

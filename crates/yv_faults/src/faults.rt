@@ -1,5 +1,5 @@
 //! The faults that a walk has reported, and what their paths share.
-ghost use Rattle.std.specs.Prelude.{◌≡◌, [], ◌∷◌, ◌++◌, true, IfOk, OnOk};
+ghost use Rattle.std.specs.Prelude.{◌≡◌, [], ◌∷◌, ◌++◌, true, IfOk, OnErr, OnOk};
 ghost use Rattle.yv_nodes.specs.Rows.{row_at};
 ghost use Rattle.yv_leafref_values.specs.Place.{step_name, under};
 ghost use Rattle.yv_faults.specs.{InnerPath.{is_entry, numbers, trail_names, trail_numbers, way_names}, Trails.{places, IsWithin}};
@@ -52,9 +52,12 @@ impl Faults {
         self.list
     }
 
-    /// Puts a fault behind the others.
+    /// Puts a fault after the others. Where memory runs out, there are only those as before.
     pub fn push(&mut self, fault: Fault) -> Result<(), AllocError>
-        ensures { OnOk result (self.new.items ≡ self.old.items ++ fault ∷ []) }
+        // The fault comes after the others.
+        ensures items { OnOk result (self.new.items ≡ self.old.items ++ fault ∷ []) }
+        // After an error the faults are as before.
+        ensures keeps { OnErr result (self.new.items ≡ self.old.items) }
     {
         self.list.push(fault)?;
         Ok(())
@@ -67,8 +70,11 @@ impl Faults {
         schema: &Schema,
         trail: &Trail<'_>,
     ) -> Result<Path, AllocError>
+        // The way is one of this schema.
         requires { IsWithin schema.now trail.now }
+        // The path to the end of a way.
         ensures path { IfOk result (λ p. p ≡ places schema.now trail.now) }
+        // The faults stay.
         ensures same { self.new.items ≡ self.old.items }
     {
         let way = way_to(alloc, schema, &mut self.ways, trail)?;
@@ -88,8 +94,11 @@ impl Faults {
         trail: &Trail<'_>,
         member: &str,
     ) -> Result<Path, AllocError>
+        // The way is one of this schema.
         requires { IsWithin schema.now trail.now }
+        // The path to a member that names no node, in the object there.
         ensures path { IfOk result (λ p. p ≡ under (places schema.now trail.now) member.now) }
+        // The faults stay.
         ensures same { self.new.items ≡ self.old.items }
     {
         let way = way_to(alloc, schema, &mut self.ways, trail)?;

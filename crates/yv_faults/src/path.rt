@@ -176,7 +176,7 @@ impl<'p> PathSteps<'p> {
     }
 }
 
-// A name, behind that of its module where it is written with it.
+// A name, after that of its module where it is written with it.
 fn qualified_name(alloc: Global, name: &MemberName<'_>) -> Result<String, AllocError>
     ensures { IfOk result
         (λ text. string_bytes text

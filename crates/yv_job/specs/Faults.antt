@@ -19,7 +19,7 @@ IfUsage (Usage text) P = P (string_bytes text)
 IfUsage (Help text) P = Unit {0}
 IfUsage NoMemory P = Unit {0}
 
--- P holds, where the fault is no fault but help
+-- P holds, where the fault isn't a fault but help
 abbrev pub OnHelp : JobFault → Type 0 → Type 0
 OnHelp (Usage text) P = Unit {0}
 OnHelp (Help text) P = P
@@ -36,12 +36,15 @@ own_usage = codes "yangcheck: usage" ++ 10 ∷ []
 -- what an option takes, and the value in quotes that it was given
 abbrev pub value_line : Text → Text → Option Text → Text
 value_line id wanted value =
-    codes "--" ++ (id ++ (codes " takes " ++ (wanted ++ (codes ", not \"" ++ (unwrap_or value [] ++ (codes "\"" ++ 10 ∷ []))))))
+    codes "--" ++ (id ++ (codes " takes "
+    ++ (wanted ++ (codes ", not \"" ++ (unwrap_or value [] ++ (codes "\"" ++ 10 ∷ []))))))
 
 -- how many files were given, and how many a command takes
 abbrev pub files_line : Option (List Text) → Text
-files_line files = decimal (length (unwrap_or files [])) ++ (codes " files were given; a command takes 1 to 256" ++ 10 ∷ [])
+files_line files = decimal (length (unwrap_or files []))
+    ++ (codes " files were given; a command takes 1 to 256" ++ 10 ∷ [])
 
+-- the reason where the words fit no command
 abbrev pub command_line : Text
 command_line = codes "no command was given, or not what it needs" ++ 10 ∷ []
 
@@ -49,19 +52,24 @@ command_line = codes "no command was given, or not what it needs" ++ 10 ∷ []
 -- tells of one that is wrong
 pub data IsReason (name : Text) (rows : List Row) (line : Text) : Type 0 where
   of_limit : ((n : ℕ) → IsLimit (first_of (codes "max-nodes") rows) n → ⊥)
-      → line ≡ value_line (codes "max-nodes") (codes "a number from 1 to 1000000") (first_of (codes "max-nodes") rows)
+      → line ≡ value_line (codes "max-nodes") (codes "a number from 1 to 1000000")
+      (first_of (codes "max-nodes") rows)
       → IsReason name rows line
   of_kind : ((k : Kind) → IsKindFor (first_of (codes "kind") rows) k → ⊥)
       → line ≡ value_line (codes "kind") (codes "data or config") (first_of (codes "kind") rows)
       → IsReason name rows line
   of_support : ((es : List Entry) → IsSupportFor (first_of (codes "support") rows) es → ⊥)
-      → line ≡ value_line (codes "support") (codes "MODULE:FEATURE,FEATURE/MODULE:") (first_of (codes "support") rows)
+      → line ≡ value_line (codes "support") (codes "MODULE:FEATURE,FEATURE/MODULE:")
+      (first_of (codes "support") rows)
       → IsReason name rows line
   of_imports : ((ns : List Text) → IsImportsFor (first_of (codes "import-only") rows) ns → ⊥)
-      → line ≡ value_line (codes "import-only") (codes "MODULE,MODULE") (first_of (codes "import-only") rows)
+      → line ≡ value_line (codes "import-only") (codes "MODULE,MODULE")
+      (first_of (codes "import-only") rows)
       → IsReason name rows line
-  of_files : ((fs : List Text) → IsFiles rows fs → ⊥) → line ≡ files_line (all_of (codes "file") rows) → IsReason name rows line
-  of_command : ((a : CommandAsked) → IsAsked name rows a → ⊥) → line ≡ command_line → IsReason name rows line
+  of_files : ((fs : List Text) → IsFiles rows fs → ⊥)
+      → line ≡ files_line (all_of (codes "file") rows) → IsReason name rows line
+  of_command : ((a : CommandAsked) → IsAsked name rows a → ⊥) → line ≡ command_line
+      → IsReason name rows line
 
 -- the text is the first line, and the reason why the command that was found asks for no task
 abbrev pub TellsReason : Option (Text × List Row) → Text → Type 0

@@ -20,11 +20,13 @@ pub record Task : Type 0 where
   pub choice : Selected
   pub kind : Kind
 
+-- what a command asks for
 abbrev pub asked_of : Command → CommandAsked
 asked_of Compile = Compiles
 asked_of (Tree m) = Draws (string_bytes m)
 asked_of (Validate f) = Checks (string_bytes f)
 
+-- the task that a job is
 abbrev pub task_of : Job → Task
 task_of j = record {
   asked = asked_of j.command;

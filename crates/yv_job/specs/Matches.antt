@@ -1,4 +1,4 @@
--- Cited by private clauses alone: what comes of one command, and of one error of clap.
+-- Cited by private clauses only: what comes of one command, and of one error of clap.
 use Rattle.std.specs.Prelude.{◌≢◌, List, Option}
 use Rattle.clap.specs.Words.{Text, Row}
 use Rattle.clap.specs.declared.error.kind.ErrorKind.{ErrorKind}
@@ -13,7 +13,7 @@ use Rattle.yv_job.specs.declared.job.JobFault.TheVariants.{Usage, Help, NoMemory
 abbrev pub AsksForNothing : Option (Text × List Row) → Type 0
 AsksForNothing found = (t : Task) → AsksIn found t → ⊥
 
--- what an error of this kind comes to
+-- what an error of this kind means
 abbrev pub IsFaultFor : ErrorKind → JobFault → Type 0
 IsFaultFor k (Usage text) = (k ≢ kind.OutOfMemory) × (IsHelp k → ⊥)
 IsFaultFor k (Help text) = IsHelp k

@@ -7,7 +7,7 @@ ghost use Rattle.yv_statement.specs.Selection.{Entry, entry_of};
 use std::alloc::{AllocError, Global};
 use yv_text_if_feature::is_identifier;
 
-// The parts of a text between the places where a character stands.
+// The parts of a text between the places where a character is.
 fn pieces<'a>(alloc: Global, text: &'a str, at: char) -> Result<Vec<&'a str>, AllocError>
     requires { at < 128 }
     ensures { IfOk result (λ v. map (λ p. p.now) v.items ≡ slice_split (λ b. b == at) text.now) }
@@ -63,7 +63,7 @@ fn features_of(alloc: Global, text: &str) -> Result<Option<Vec<String>>, AllocEr
     }
 }
 
-// What stands before a text's first colon, and after it.
+// What comes before a text's first colon, and after it.
 fn cut(text: &str) -> Option<(&str, &str)>
     ensures joins { IfSome result (λ p. p.0.now ++ (58 ∷ p.1.now) ≡ text.now) }
     ensures first { (before after : List ℕ) → IsIdentifier before
@@ -90,7 +90,7 @@ fn entry(alloc: Global, text: &str) -> Result<Option<(String, Vec<String>)>, All
     Ok(Some((String::from_str(alloc, name)?, features)))
 }
 
-// The entries that texts are, or none where one is no entry.
+// The entries that texts are, or none where one isn't an entry.
 fn entries(alloc: Global, parts: &[&str]) -> Result<Option<Vec<(String, Vec<String>)>>, AllocError>
     ensures { IfOk result (λ o. MatchOption o
         ((es : List Entry) → AllZip (λ p e. IsEntry p.now e) parts.now es → ⊥)

@@ -19,7 +19,7 @@ fn match_words<'a>(alloc: Global, words: &'a [String]) -> Result<ArgMatches<'a>,
     command.try_get_matches_from(words)
 }
 
-// What clap's error comes to.
+// What clap's error means.
 fn job_fault(alloc: Global, error: &Error) -> JobFault
     ensures { IsFaultFor (kind_of error.now) result }
 {
@@ -35,16 +35,24 @@ fn job_fault(alloc: Global, error: &Error) -> JobFault
 
 /// The job that the words ask for. The first word is the program's name.
 pub fn read_job(alloc: Global, words: &[String]) -> Result<Job, JobFault>
+    // The words ask for this job: command, document or module, files in order, limit, selection,
+    // kind.
     ensures job { IfOk result (λ j. WordsAsk (map string_bytes words.now) (task_of j)) }
+    // It has 1 to 256 files.
     ensures files { IfOk result HasFiles }
+    // Its limit is within 1 to 1,000,000.
     ensures limit { IfOk result HasLimit }
+    // After a usage error the words ask for no job.
     ensures usage { IfErr result (λ f. IfUsage f (λ _.
         AskForNothing (map string_bytes words.now))) }
+    // The text of a usage error gives the reason, where the words are understood as options.
     ensures own_text { IfErr result (λ f. IfUsage f (λ text.
         AreUnderstood (map string_bytes words.now)
         → TellsReason (subcommand_of yangcheck_app (map string_bytes words.now)) text)) }
+    // A usage error is not what is answered to a request for help.
     ensures not_help { IfErr result (λ f. IfUsage f (λ _.
         AreUnderstood (map string_bytes words.now) ⊎ AreRefused (map string_bytes words.now))) }
+    // Help is answered only to words that ask for it.
     ensures help { IfErr result (λ f. OnHelp f (AskForHelp (map string_bytes words.now))) }
 {
     match match_words(alloc, words) {

@@ -1,4 +1,4 @@
--- What a walk keeps of what it meets, so that references can be looked up behind it: the values of
+-- What a walk keeps of what it meets, so that references can be looked up after it: the values of
 -- targets, where their defaults are in use, the objects that it entered, and the values of
 -- leafrefs.
 use Rattle.std.specs.Prelude.{◌≡◌, ℕ, ◌-◌, ◌⊎◌, ◌↔◌, List, [], ◌∷◌, ◌++◌, length, Bool, Option, Some, None, if◌then◌else◌}
@@ -46,6 +46,8 @@ pub record LeafrefValue : Type 0 where
   pub item : Option ℕ
   pub value : Val
 
+-- what contracts see of what a walk found: values and defaults of targets of leafrefs, objects, and
+-- values of leafrefs
 pub record FindingsView : Type 0 where
   pub kept : List TargetValue
   pub used : List TargetDefault
@@ -60,6 +62,7 @@ abbrev pub first_of : List ℕ → ℕ
 first_of [] = 0
 first_of (n ∷ ns) = n
 
+-- the second number of a list
 abbrev pub second_of : List ℕ → ℕ
 second_of [] = 0
 second_of (n ∷ ns) = first_of ns
@@ -67,12 +70,16 @@ second_of (n ∷ ns) = first_of ns
 -- a value of a target
 abbrev pub kept_if : Bool → (n here : ℕ) → Option Val → List TargetValue
 kept_if is_target n here None = []
-kept_if is_target n here (Some v) = if is_target then record { target = n; value = v; place = here } ∷ [] else []
+kept_if is_target n here (Some v) =
+    if is_target then record { target = n; value = v; place = here } ∷ [] else []
 
+-- the value of a target that is met
 abbrev pub kept_at : (is_target : ℕ → Bool) → Meeting → List TargetValue
-kept_at is_target (at_value m) = kept_if (is_target m.node.0) m.node.0 (first_of m.spot.around) (value_of m.label m.found)
+kept_at is_target (at_value m) =
+    kept_if (is_target m.node.0) m.node.0 (first_of m.spot.around) (value_of m.label m.found)
 kept_at is_target _ = []
 
+-- the values of targets that are met, in order
 abbrev pub kept_in : (is_target : ℕ → Bool) → List Meeting → List TargetValue
 kept_in is_target ms = flat_map (kept_at is_target) ms
 
@@ -85,23 +92,29 @@ abbrev pub used_if : Bool → (n here : ℕ) → List Val → List TargetDefault
 used_if is_target n here [] = []
 used_if is_target n here (v ∷ vs) = use_if is_target n here
 
+-- the default of a target that is in use where it is met
 abbrev pub used_at : (is_target : ℕ → Bool) → Meeting → List TargetDefault
 used_at is_target (at_node m) =
-    used_if (is_target m.node.0) m.node.0 (first_of m.spot.around) (in_use m.label.defined.kind m.label m.scope (found_of m))
+    used_if (is_target m.node.0) m.node.0 (first_of m.spot.around)
+    (in_use m.label.defined.kind m.label m.scope (found_of m))
 used_at is_target _ = []
 
+-- the defaults of targets that are in use, in order
 abbrev pub used_in : (is_target : ℕ → Bool) → List Meeting → List TargetDefault
 used_in is_target ms = flat_map (used_at is_target) ms
 
 -- only an object is entered
 abbrev pub position_of : Stand → Data → List Position
-position_of m (object ms) = record { parent = second_of m.spot.around; node = m.node.0; item = m.item; last = m.last } ∷ []
+position_of m (object ms) =
+    record { parent = second_of m.spot.around; node = m.node.0; item = m.item; last = m.last } ∷ []
 position_of m _ = []
 
+-- the object that is met
 abbrev pub positions_at : Meeting → List Position
 positions_at (stand m) = position_of m m.found
 positions_at _ = []
 
+-- the objects that are met, in order
 abbrev pub positions_in : List Meeting → List Position
 positions_in ms = flat_map positions_at ms
 
@@ -109,15 +122,21 @@ positions_in ms = flat_map positions_at ms
 abbrev pub value_notes : Option Link → (here n : ℕ) → Option ℕ → Option Val → List LeafrefValue
 value_notes None here n number v = []
 value_notes (Some link) here n number None = []
-value_notes (Some link) here n number (Some v) = record { position = here; node = n; item = number; value = v } ∷ []
+value_notes (Some link) here n number (Some v) =
+    record { position = here; node = n; item = number; value = v } ∷ []
 
+-- the value of a leafref that is met
 abbrev pub notes_at : (ℕ → Option Link) → Meeting → List LeafrefValue
-notes_at links (at_value m) = value_notes (links m.node.0) (first_of m.spot.around) m.node.0 (number_of m.before) (value_of m.label m.found)
+notes_at links (at_value m) =
+    value_notes (links m.node.0) (first_of m.spot.around) m.node.0 (number_of m.before)
+    (value_of m.label m.found)
 notes_at links _ = []
 
+-- the values of leafrefs that are met, in order
 abbrev pub notes_in : (ℕ → Option Link) → List Meeting → List LeafrefValue
 notes_in links ms = flat_map (notes_at links) ms
 
+-- what is found of all that is met
 abbrev pub met_in : Rows → List Meeting → FindingsView
 met_in s ms = record {
   kept = kept_in (is_target s.links) ms;
@@ -126,13 +145,15 @@ met_in s ms = record {
   notes = notes_in (link_in s.links) ms;
 }
 
--- values of targets alone, defaults of targets alone, and values of leafrefs alone
+-- values of targets only, defaults of targets only, and values of leafrefs alone
 abbrev pub only_kept : List TargetValue → FindingsView
 only_kept ks = record { kept = ks; used = []; positions = []; notes = [] }
 
+-- defaults in use, and nothing else
 abbrev pub only_used : List TargetDefault → FindingsView
 only_used us = record { kept = []; used = us; positions = []; notes = [] }
 
+-- values of leafrefs, and nothing else
 abbrev pub only_notes : List LeafrefValue → FindingsView
 only_notes ns = record { kept = []; used = []; positions = []; notes = ns }
 
@@ -147,6 +168,7 @@ pairs_in (Some pairs) = pairs
 abbrev pub Indexes : Type 0
 Indexes = List (ℕ × List Pair)
 
+-- the values of a node, with their places
 abbrev pub index_of : Indexes → ℕ → List Pair
 index_of indexes n = pairs_in (lookup (is_at (nat_cmp n)) indexes)
 
@@ -159,6 +181,7 @@ places_in (Some places) = places
 abbrev pub Uses : Type 0
 Uses = List (ℕ × List ℕ)
 
+-- the places at which a node's default is in use
 abbrev pub places_of : Uses → ℕ → List ℕ
 places_of uses n = places_in (lookup (is_at (nat_cmp n)) uses)
 
@@ -180,7 +203,8 @@ IsKept (k ∷ ks) n v p = ((k.target ≡ n) × (k.value ≡ v) × (k.place ≡ p
 
 -- the indexes keep what they kept, and these
 pub record Gains (old new : Indexes) (more : List TargetValue) : Type 0 where
-  pub each : (n : ℕ) (v : Val) (p : ℕ) → Keeps (index_of new n) (v ∷ []) p ↔ (Keeps (index_of old n) (v ∷ []) p ⊎ IsKept more n v p)
+  pub each : (n : ℕ) (v : Val) (p : ℕ) → Keeps (index_of new n) (v ∷ []) p
+      ↔ (Keeps (index_of old n) (v ∷ []) p ⊎ IsKept more n v p)
 
 -- the defaults of this target are in use at this place
 abbrev pub IsUsed : List TargetDefault → ℕ → ℕ → Type 0
@@ -189,7 +213,8 @@ IsUsed (u ∷ us) n p = ((u.target ≡ n) × (u.place ≡ p)) ⊎ IsUsed us n p
 
 -- the defaults are in use where they were, and at these places
 pub record Spreads (old new : Uses) (more : List TargetDefault) : Type 0 where
-  pub each : (n p : ℕ) → IsPlace (places_of new n) p ↔ (IsPlace (places_of old n) p ⊎ IsUsed more n p)
+  pub each : (n p : ℕ) → IsPlace (places_of new n) p
+      ↔ (IsPlace (places_of old n) p ⊎ IsUsed more n p)
 
 -- these were met
 pub record Finds (old new : Findings) (more : FindingsView) : Type 0 where
@@ -198,9 +223,11 @@ pub record Finds (old new : Findings) (more : FindingsView) : Type 0 where
   pub positions : new.positions ≡ old.positions ++ more.positions
   pub notes : new.notes ≡ old.notes ++ more.notes
 
+-- no object, for a number that none has
 abbrev pub nowhere : Position
 nowhere = record { parent = 0; node = 0; item = None; last = 0 }
 
+-- the object of a number
 abbrev pub position_at : List Position → ℕ → Position
 position_at ps n = slice_index_or ps n nowhere
 
@@ -208,6 +235,7 @@ position_at ps n = slice_index_or ps n nowhere
 abbrev pub open_object : ℕ → ℕ → Option ℕ → Position
 open_object parent n number = record { parent = parent; node = n; item = number; last = 0 }
 
+-- an object with another last object in it
 abbrev pub with_last : Position → ℕ → Position
 with_last p last = record { parent = p.parent; node = p.node; item = p.item; last = last }
 

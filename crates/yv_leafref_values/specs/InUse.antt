@@ -41,7 +41,7 @@ uses_defaults (InCase those) = any those
 uses_defaults InDefault = true
 uses_defaults Unasked = false
 
--- some rule holds: none does for state where configuration alone is asked for
+-- some rule holds: none does for state where configuration only is asked for
 abbrev pub is_asked : RuleScope → Bool
 is_asked Unasked = false
 is_asked _ = true
@@ -52,15 +52,18 @@ abbrev pub scope_in : Kind → (is_config : Bool) → RuleScope → RuleScope
 scope_in All is_config scope = scope
 scope_in ConfigOnly is_config scope = if is_config then scope else Unasked
 
+-- a node that may be there has this number
 abbrev pub is_number : Option NodeId → ℕ → Bool
 is_number None at = false
 is_number (Some n) at = n.0 == at
 
 -- the scope of a choice's child, a case or a node that is its own: what exists of it in the object;
 -- where no case exists, the default case is in a scope of its own
-abbrev pub case_scope : Rows → (choice : NodeId) → (first : ℕ) → Forest → Members → (at : ℕ) → Tree → RuleScope
+abbrev pub case_scope : Rows → (choice : NodeId) → (first : ℕ) → Forest → Members → (at : ℕ) → Tree
+    → RuleScope
 case_scope s choice first cases ms at t =
-    if is_number (default_case_at s.nodes choice) at && not (any (existence_of first cases ms)) then InDefault else InCase (tree_standing at t ms)
+    if is_number (default_case_at s.nodes choice) at && not (any (existence_of first cases ms))
+    then InDefault else InCase (tree_standing at t ms)
 
 -- ---- the values of leafs
 

@@ -13,7 +13,8 @@ use Rattle.yv_leafref_values.specs.References.{path_unless}
 
 -- the target's value was kept between the two
 abbrev pub is_it : ℕ → Val → ℕ → ℕ → TargetValue → Bool
-is_it n v first last k = (k.target == n) && same_value v k.value && nat_le first k.place && nat_le k.place last
+is_it n v first last k =
+    (k.target == n) && same_value v k.value && nat_le first k.place && nat_le k.place last
 
 abbrev pub is_within : ℕ → Val → ℕ → ℕ → List TargetValue → Bool
 is_within n v first last [] = false
@@ -38,7 +39,8 @@ defaults_at s n = defaults_of (row_at s (record { 0 = n })).label
 
 -- a value of the target between the two is the same, or a default of it that is in use there
 abbrev pub reaches : Rows → Marks → ℕ → Val → ℕ → ℕ → Bool
-reaches s m n v first last = is_within n v first last m.kept || (is_used n first last m.used && is_among v (defaults_at s n))
+reaches s m n v first last =
+    is_within n v first last m.kept || (is_used n first last m.used && is_among v (defaults_at s n))
 
 -- so many objects further out
 abbrev pub further_out : List Position → (many : ℕ) → ℕ → ℕ
@@ -51,7 +53,8 @@ climbed_to ps None n = 0
 climbed_to ps (Some k) n = further_out ps (k - 1) n
 
 abbrev pub place_at : Rows → ℕ → Option ℕ → Place
-place_at s n number = record { member = step_name (row_at s (record { 0 = n })).label; item = number }
+place_at s n number =
+    record { member = step_name (row_at s (record { 0 = n })).label; item = number }
 
 -- where a node is in the object of this number
 abbrev pub location_of : Rows → (outer n : ℕ) → Option ℕ → Location
@@ -68,16 +71,19 @@ paths_of s ps vs = map (value_path (objects_of s ps)) vs
 abbrev pub path_of : Rows → List Position → LeafrefValue → List Place
 path_of s ps n = value_path (objects_of s ps) (location_of s n.position n.node n.item)
 
-abbrev pub judge_link : Rows → Marks → List Position → LeafrefValue → Option Link → List (List Place)
+abbrev pub judge_link : Rows → Marks → List Position → LeafrefValue → Option Link
+    → List (List Place)
 judge_link s m ps n None = []
 judge_link s m ps n (Some link) =
     let from = climbed_to ps link.climbs n.position in
     path_unless (reaches s m link.target n.value from (position_at ps from).last) (path_of s ps n)
 
-abbrev pub judge : Rows → (ℕ → Option Link) → Marks → List Position → LeafrefValue → List (List Place)
+abbrev pub judge : Rows → (ℕ → Option Link) → Marks → List Position → LeafrefValue
+    → List (List Place)
 judge s links m ps n = judge_link s m ps n (links n.node)
 
-abbrev pub judge_all : Rows → (ℕ → Option Link) → Marks → List Position → List LeafrefValue → List (List Place)
+abbrev pub judge_all : Rows → (ℕ → Option Link) → Marks → List Position → List LeafrefValue
+    → List (List Place)
 judge_all s links m ps [] = []
 judge_all s links m ps (n ∷ ns) = judge s links m ps n ++ judge_all s links m ps ns
 
@@ -87,7 +93,8 @@ AreMarks indexes uses m = Gains [] indexes m.kept × Spreads [] uses m.used
 
 -- each node that a link has as its target is one
 abbrev pub AreTargets : (ℕ → Option Link) → (ℕ → Bool) → Type 0
-AreTargets links is_target = (n : ℕ) (link : Link) → links n ≡ Some link → is_target link.target ≡ true
+AreTargets links is_target =
+    (n : ℕ) (link : Link) → links n ≡ Some link → is_target link.target ≡ true
 
 -- how often an index is asked
 abbrev pub asked_once : Option Link → ℕ

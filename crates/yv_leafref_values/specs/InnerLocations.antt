@@ -9,14 +9,16 @@ pub record Location : Type 0 where
   pub place : Place
 
 abbrev pub location_at : List Location → ℕ → Location
-location_at ls n = slice_index_or ls n (record { outer = 0; place = record { member = []; item = None } })
+location_at ls n =
+    slice_index_or ls n (record { outer = 0; place = record { member = []; item = None } })
 
 -- the path of the object of this number, by those around it; `most` is at least as many as there
 -- are
 abbrev pub path_in : List Location → (most : ℕ) → ℕ → List Place
 path_in os zero n = []
 path_in os (suc most) n =
-    if n == 0 || nat_le (length os) n then [] else path_in os most (location_at os n).outer ++ (location_at os n).place ∷ []
+    if n == 0 || nat_le (length os) n then []
+    else path_in os most (location_at os n).outer ++ (location_at os n).place ∷ []
 
 -- the path of something in such an object
 abbrev pub value_path : List Location → Location → List Place

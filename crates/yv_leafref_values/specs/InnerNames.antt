@@ -8,4 +8,6 @@ use Rattle.yv_leafref_values.specs.declared.names.StepNames.{StepNames}
 
 -- what is kept at a number is the name of that node
 abbrev pub AreNames : Rows → StepNames → Type 0
-AreNames s names = (n : ℕ) → IfSome (get_by (nat_cmp n) names.steps) (λ name. name.value.member ≡ (place_at s n None).member)
+AreNames s names = (n : ℕ)
+    → IfSome (get_by (nat_cmp n) names.steps)
+    (λ name. name.value.member ≡ (place_at s n None).member)

@@ -67,6 +67,7 @@ pub record Node : Type 0 where
   pub members : Members
   pub kids : Forest
 
+-- what a walk over a document meets: an object, a value, the end of a list entry, or a data node
 pub data Meeting : Type 0 where
   stand : Stand → Meeting
   at_value : WrittenValue → Meeting
@@ -82,10 +83,12 @@ abbrev pub is_entered : Data → ℕ
 is_entered (object ms) = 1
 is_entered _ = 0
 
+-- how many objects are entered where something is met
 abbrev pub entered_at : Meeting → ℕ
 entered_at (stand m) = is_entered m.found
 entered_at _ = 0
 
+-- how many objects are entered in all
 abbrev pub count_entered : List Meeting → ℕ
 count_entered ms = sum_by entered_at ms
 
@@ -99,85 +102,131 @@ pub record Below : Type 0 where
   pub cases : List Meeting
   pub nodes : List Meeting
 
+-- the place inside a container
 abbrev pub in_container : Spot → ℕ → Label → Spot
-in_container spot next l = record { path = at spot l None; around = next ∷ spot.around; entry = spot.entry }
+in_container spot next l =
+    record { path = at spot l None; around = next ∷ spot.around; entry = spot.entry }
 
+-- the place inside a container that isn't written
 abbrev pub in_no_object : Spot → Label → Spot
 in_no_object spot l = record { path = at spot l None; around = spot.around; entry = spot.entry }
 
+-- the place inside a list entry
 abbrev pub in_entry : Spot → ℕ → Label → ℕ → Spot
-in_entry spot next l number = record { path = at spot l (Some number); around = next ∷ spot.around; entry = next }
+in_entry spot next l number =
+    record { path = at spot l (Some number); around = next ∷ spot.around; entry = next }
 
 -- only an object is entered
 abbrev pub meetings_inside : Data → (Members → List Meeting) → List Meeting
 meetings_inside (object ms) inside = inside ms
 meetings_inside _ inside = []
 
+-- what is met at an object and in it
 abbrev pub object_met : NodeId → Option ℕ → Forest → Spot → ℕ → Data → Below → List Meeting
 object_met n number kids spot next d below =
     let inside : List Meeting = meetings_inside d (λ ms. below.inside spot (next + 1) Always ms) in
-    stand (record { node = n; item = number; spot = spot; last = next + count_entered inside; trees = kids; found = d }) ∷ inside
+    stand (record {
+      node = n;
+      item = number;
+      spot = spot;
+      last = next + count_entered inside;
+      trees = kids;
+      found = d;
+    }) ∷ inside
 
 -- ---- a node, by its kind
 
 -- a container that isn't written and means nothing by itself has its nodes where it is, in its own
 -- scope (section 7.5.1)
-abbrev pub container_met : NodeId → Label → Forest → Spot → RuleScope → ℕ → Option Data → Below → List Meeting
+abbrev pub container_met : NodeId → Label → Forest → Spot → RuleScope → ℕ → Option Data → Below
+    → List Meeting
 container_met n l kids spot scope next None below =
     if l.defined.has_presence then [] else below.inside (in_no_object spot l) next scope no_members
-container_met n l kids spot scope next (Some d) below = object_met n None kids (in_container spot next l) next d below
+container_met n l kids spot scope next (Some d) below =
+    object_met n None kids (in_container spot next l) next d below
 
+-- what is met at the value of a leaf
 abbrev pub leaf_met : NodeId → Label → Spot → Option Data → List Meeting
 leaf_met n l spot None = []
-leaf_met n l spot (Some d) = at_value (record { node = n; label = l; spot = spot; before = None; found = d }) ∷ []
+leaf_met n l spot (Some d) =
+    at_value (record { node = n; label = l; spot = spot; before = None; found = d }) ∷ []
 
+-- what is met at the values of a leaf-list, in order
 abbrev pub items_met : NodeId → Label → Spot → List Data → Items → List Meeting
 items_met n l spot before no_items = []
 items_met n l spot before (item d ds) =
-    at_value (record { node = n; label = l; spot = spot; before = Some before; found = d }) ∷ items_met n l spot (before ++ d ∷ []) ds
+    at_value (record { node = n; label = l; spot = spot; before = Some before; found = d })
+    ∷ items_met n l spot (before ++ d ∷ []) ds
 
+-- what is met at a list entry: the object, and its end
 abbrev pub entry_met : NodeId → Label → Forest → Spot → ℕ → List Data → Data → Below → List Meeting
 entry_met n l kids spot next before d below =
-    object_met n (Some (length before + 1)) kids (in_entry spot next l (length before + 1)) next d below
-    ++ at_end (record { node = n; label = l; spot = spot; before = before; trees = kids; found = d }) ∷ []
+    object_met n (Some (length before + 1)) kids
+    (in_entry spot next l (length before + 1)) next d below
+    ++ at_end (record {
+      node = n;
+      label = l;
+      spot = spot;
+      before = before;
+      trees = kids;
+      found = d;
+    }) ∷ []
 
-abbrev pub entries_met : NodeId → Label → Forest → Spot → ℕ → List Data → Items → Below → List Meeting
+-- what is met at the entries of a list, in order
+abbrev pub entries_met : NodeId → Label → Forest → Spot → ℕ → List Data → Items → Below
+    → List Meeting
 entries_met n l kids spot next before no_items below = []
 entries_met n l kids spot next before (item d ds) below =
     entry_met n l kids spot next before d below
-    ++ entries_met n l kids spot (next + count_entered (entry_met n l kids spot next before d below)) (before ++ d ∷ []) ds below
+    ++ entries_met n l kids spot
+    (next + count_entered (entry_met n l kids spot next before d below))
+    (before ++ d ∷ []) ds below
 
 -- an array, item by item
 abbrev pub array_met : Option Data → (Items → List Meeting) → List Meeting
 array_met (Some (array ds)) each = each ds
 array_met _ each = []
 
-abbrev pub kind_met : NodeKind → NodeId → Label → Forest → Spot → RuleScope → ℕ → Option Data → Below → List Meeting
-kind_met kind.Container n l kids spot scope next found below = container_met n l kids spot scope next found below
+-- what is met at a node, by its kind
+abbrev pub kind_met : NodeKind → NodeId → Label → Forest → Spot → RuleScope → ℕ → Option Data
+    → Below → List Meeting
+kind_met kind.Container n l kids spot scope next found below =
+    container_met n l kids spot scope next found below
 kind_met kind.Leaf n l kids spot scope next found below = leaf_met n l spot found
-kind_met kind.LeafList n l kids spot scope next found below = array_met found (items_met n l spot [])
-kind_met kind.List n l kids spot scope next found below = array_met found (λ ds. entries_met n l kids spot next [] ds below)
+kind_met kind.LeafList n l kids spot scope next found below =
+    array_met found (items_met n l spot [])
+kind_met kind.List n l kids spot scope next found below =
+    array_met found (λ ds. entries_met n l kids spot next [] ds below)
 kind_met kind.Choice n l kids spot scope next found below = below.cases
 kind_met kind.Case n l kids spot scope next found below = below.nodes
 kind_met _ n l kids spot scope next found below = []
 
--- state is written where configuration alone is asked for: it isn't entered
+-- state is written where configuration only is asked for: it isn't entered
 abbrev pub is_left : NodeKind → RuleScope → Option Data → Bool
 is_left k scope found = is_data k && not (is_asked scope) && is_some found
 
 -- a node after what is below it; operations, notifications and what is in them are in no document
-abbrev pub node_met : NodeId → Label → Forest → Spot → RuleScope → ℕ → Members → Below → List Meeting
+abbrev pub node_met : NodeId → Label → Forest → Spot → RuleScope → ℕ → Members → Below
+    → List Meeting
 node_met n l kids spot scope next ms below =
     if is_operation_or_notification l.defined.kind then []
     else (if is_left l.defined.kind scope (get_member l.member ms) then []
     else kind_met l.defined.kind n l kids spot scope next (get_member l.member ms) below)
-    ++ at_node (record { node = n; label = l; spot = spot; scope = scope; members = ms; kids = kids }) ∷ []
+    ++ at_node (record {
+      node = n;
+      label = l;
+      spot = spot;
+      scope = scope;
+      members = ms;
+      kids = kids;
+    }) ∷ []
 
 -- ---- all nodes
 
 -- what is met by these trees in an object with these members: the first node has the number
 -- `first`, each tree its scope, and the next object the number `next`
-abbrev pub meetings : Kind → Rows → (ℕ → Tree → RuleScope) → Spot → (next first : ℕ) → Forest → Members → List Meeting
+abbrev pub meetings : Kind → Rows → (ℕ → Tree → RuleScope) → Spot → (next first : ℕ) → Forest
+    → Members → List Meeting
 meetings k s scope_of spot next first no_trees ms = []
 meetings k s scope_of spot next first (tree (node l kids) ts) ms =
     let n : NodeId = record { 0 = first } in

@@ -10,15 +10,18 @@ pub record Place : Type 0 where
   pub member : List ℕ
   pub item : Option ℕ
 
--- what a member of this name is called in a path: behind the name of its module, where it is
--- written with it, and a choice, which no member writes, in parentheses
-abbrev pub member_text : (is_choice : Bool) → (module_file : Option (List ℕ)) → (name : List ℕ) → List ℕ
-member_text is_choice module_file name = if is_choice then codes "(" ++ behind module_file name ++ codes ")" else behind module_file name
+-- what a member of this name is called in a path: after the name of its module, where it is written
+-- with it, and a choice, which no member writes, in parentheses
+abbrev pub member_text : (is_choice : Bool) → (module_file : Option (List ℕ)) → (name : List ℕ)
+    → List ℕ
+member_text is_choice module_file name =
+    if is_choice then codes "(" ++ behind module_file name ++ codes ")" else behind module_file name
 
 -- what a node is called in a path: a choice, which no member writes, by its name in parentheses
 abbrev pub step_name : Label → List ℕ
 step_name l = if is_choice l.defined.kind then codes "(" ++ l.member ++ codes ")" else l.member
 
+-- a path with one more step
 abbrev pub under : List Place → List ℕ → List Place
 under path name = path ++ record { member = name; item = None } ∷ []
 

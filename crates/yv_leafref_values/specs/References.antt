@@ -24,33 +24,42 @@ is_reached target from v = (v.node == target) && is_in v.spot.around from
 -- of all values those that the path of a leafref at this spot reaches: those of its target in the
 -- object to which it climbs
 abbrev pub values_reached : List ValueAt → Link → Spot → List Val
-values_reached all link spot = map (λ v. v.value) (filter (is_reached link.target (climb 0 link.climbs spot.around)) all)
+values_reached all link spot =
+    map (λ v. v.value) (filter (is_reached link.target (climb 0 link.climbs spot.around)) all)
 
 -- the number of an item from 1
 abbrev pub number_of : Option (List Data) → Option ℕ
 number_of before = option_map (λ ds. length ds + 1) before
 
+-- a path, unless this holds
 abbrev pub path_unless : Bool → List Place → List (List Place)
 path_unless b here = if b then [] else here ∷ []
 
 -- a value that was read is reported by its path, where no value that is reached is the same
-abbrev pub references_of : List ValueAt → Option Link → WrittenValue → Option Val → List (List Place)
-references_of all (Some link) m (Some v) = path_unless (is_among v (values_reached all link m.spot)) (at m.spot m.label (number_of m.before))
+abbrev pub references_of : List ValueAt → Option Link → WrittenValue → Option Val
+    → List (List Place)
+references_of all (Some link) m (Some v) =
+    path_unless (is_among v (values_reached all link m.spot))
+    (at m.spot m.label (number_of m.before))
 references_of all _ m _ = []
 
+-- the path of a value that is met, if it is that of a leafref that reaches no such value
 abbrev pub references_at : (ℕ → Option Link) → List ValueAt → Meeting → List (List Place)
-references_at links all (at_value m) = references_of all (links m.node.0) m (value_of m.label m.found)
+references_at links all (at_value m) =
+    references_of all (links m.node.0) m (value_of m.label m.found)
 references_at links all _ = []
 
 -- those of a whole document, in the order in which they are met
 abbrev pub all_references : Kind → Rows → Data → List (List Place)
-all_references k s d = flat_map (references_at (link_in s.links) (values_in (all_met k s d))) (all_met k s d)
+all_references k s d =
+    flat_map (references_at (link_in s.links) (values_in (all_met k s d))) (all_met k s d)
 
 -- a value that was read of a leafref with a link is looked up once among those of its target
 abbrev pub value_lookups : Option Link → Option Val → ℕ
 value_lookups (Some link) (Some v) = 1
 value_lookups _ _ = 0
 
+-- how many look-ups a value that is met takes
 abbrev pub lookups_at : (ℕ → Option Link) → Meeting → ℕ
 lookups_at links (at_value m) = value_lookups (links m.node.0) (value_of m.label m.found)
 lookups_at links _ = 0

@@ -16,12 +16,17 @@ pub record ValueAt : Type 0 where
   pub value : Val
   pub spot : Spot
 
+-- these values, as those of a node at a place
 abbrev pub values_of_node : NodeId → Label → Spot → List Val → List ValueAt
-values_of_node n l spot vs = map (λ v. record { node = n.0; kind = l.defined.kind; value = v; spot = spot }) vs
+values_of_node n l spot vs =
+    map (λ v. record { node = n.0; kind = l.defined.kind; value = v; spot = spot }) vs
 
+-- the values that are met, written or by default
 abbrev pub values_at : Meeting → List ValueAt
-values_at (at_value m) = values_of_node m.node m.label m.spot (some_value (value_of m.label m.found))
-values_at (at_node m) = values_of_node m.node m.label m.spot (in_use m.label.defined.kind m.label m.scope (found_of m))
+values_at (at_value m) =
+    values_of_node m.node m.label m.spot (some_value (value_of m.label m.found))
+values_at (at_node m) =
+    values_of_node m.node m.label m.spot (in_use m.label.defined.kind m.label m.scope (found_of m))
 values_at _ = []
 
 -- all values

@@ -26,13 +26,18 @@ pub fn answer(
     found: Findings,
     meter: &mut Meter,
 ) -> Result<Vec<ValuePath>, AllocError>
+    // If a walk has found what is to be found in a document of a kind: exactly the paths of the
+    // values that equal none of those that their leafrefs' paths reach, in the order in which they
+    // are met.
     ensures tells { IfOk result (λ paths. (k : Kind) (ms : Members) → HasMet k schema.now ms found
         → paths.items ≡ all_references k schema.now (object ms)) }
+    // The meter counts each look-up.
     ensures steps { OnOk result ((k : Kind) (ms : Members) → HasMet k schema.now ms found
         → count_up meter.new
         ≡ count_up
         (meter.old
         + sum_by (lookups_at (link_in schema.now.links)) (all_met k schema.now (object ms)))) }
+    // After an error the meter is as it was.
     ensures same { OnErr result (meter.new ≡ meter.old) }
 {
     let Findings {

@@ -119,12 +119,18 @@ impl Findings {
     /// with its number from 1, where it is a list entry. It answers the number of the object. The
     /// document is entered first, with the root as its node and 0 as its parent.
     pub fn enter(&mut self, parent: u64, node: NodeId, item: Option<u64>) -> Result<u64, AllocError>
+        // The object has the next number, and comes after those that were entered.
         ensures number { IfOk result (λ n. n ≡ length self.old.positions) }
+        // The object is noted after the others.
         ensures positions { OnOk result
             (self.new.positions ≡ self.old.positions ++ open_object parent node.0 item ∷ []) }
+        // The values stay.
         ensures indexes { self.new.indexes ≡ self.old.indexes }
+        // The defaults in use stay.
         ensures uses { self.new.uses ≡ self.old.uses }
+        // The values of leafrefs stay.
         ensures notes { self.new.notes ≡ self.old.notes }
+        // Where memory runs out, all is as before.
         ensures same { OnErr result (self.new ≡ self.old) }
     {
         let number = self.positions.len() as u64;
@@ -134,10 +140,15 @@ impl Findings {
 
     /// Leaves the object with this number: the last object that was entered is the last one in it.
     pub fn leave(&mut self, number: u64)
+        // The object was entered.
         requires { number < length self.old.positions }
+        // The last object that was entered is the last in this one.
         ensures positions { self.new.positions ≡ end_object self.old.positions number }
+        // The values stay.
         ensures indexes { self.new.indexes ≡ self.old.indexes }
+        // The defaults in use stay.
         ensures uses { self.new.uses ≡ self.old.uses }
+        // The values of leafrefs stay.
         ensures notes { self.new.notes ≡ self.old.notes }
     {
         let last = self.positions.len() as u64 - 1;
@@ -152,9 +163,11 @@ impl Findings {
         value: &Value,
         position: u64,
     ) -> Result<(), AllocError>
+        // The value is kept for the object if the node is a target, and nothing else.
         ensures keeps { OnOk result
             (Finds self.old self.new
             (only_kept (kept_if (is_target links.now node.0) node.0 position (Some value.now)))) }
+        // Where memory runs out, all is as before.
         ensures same { OnErr result (self.new ≡ self.old) }
     {
         if !links.is_target(node) {
@@ -172,9 +185,12 @@ impl Findings {
         node: NodeId,
         position: u64,
     ) -> Result<(), AllocError>
+        // That all defaults of the node are in use in the object is kept if the node is a target,
+        // and nothing else.
         ensures uses { OnOk result
             (Finds self.old self.new
             (only_used (use_if (is_target links.now node.0) node.0 position))) }
+        // Where memory runs out, all is as before.
         ensures same { OnErr result (self.new ≡ self.old) }
     {
         if !links.is_target(node) {
@@ -193,10 +209,12 @@ impl Findings {
         value: &Value,
         position: u64,
     ) -> Result<(), AllocError>
+        // The value is noted if the leafref has a link, and nothing else.
         ensures notes { OnOk result
             (Finds self.old self.new
             (only_notes
             (value_notes (link_in links.now node.0) position node.0 item (Some value.now)))) }
+        // Where memory runs out, all is as before.
         ensures same { OnErr result (self.new ≡ self.old) }
     {
         if links.link(node).is_none() {

@@ -14,7 +14,7 @@ pub enum RuleScope {
     InCase(Existence),
     /// In the default case of a choice, if no case of it exists (RFC 7950, section 7.9.3).
     InDefault,
-    /// Nowhere: the node is state, and configuration alone is asked for (RFC 7950, section 7.21.1).
+    /// Nowhere: the node is state, and configuration only is asked for (RFC 7950, section 7.21.1).
     Unasked,
 }
 

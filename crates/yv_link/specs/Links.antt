@@ -10,4 +10,5 @@ use Rattle.yv_link_identities.specs.Refusals.{BadIdentities}
 -- f is wrong with the files: with modules, imports, prefixes and submodules; with features; or with
 -- identities
 abbrev pub BadLinks : Files → Refusal → Type 0
-BadLinks files f = BadModules (map brief_of files) (rows_of files) f ⊎ (BadFeatures files f ⊎ BadIdentities (map brief_of files) (rows_of files) f)
+BadLinks files f = BadModules (map brief_of files) (rows_of files) f
+    ⊎ (BadFeatures files f ⊎ BadIdentities (map brief_of files) (rows_of files) f)

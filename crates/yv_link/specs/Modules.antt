@@ -9,8 +9,10 @@ use Rattle.yv_link.specs.declared.modules.ModuleRef.{ModuleRef}
 
 -- the module whose file is that of number n, if it is one
 abbrev pub ref_of : Selected → ℕ → Brief → Option ModuleRef
-ref_of choice n f = if f.is_module then Some (record { file = n; implemented = is_implemented choice f.name }) else None
+ref_of choice n f = if f.is_module
+    then Some (record { file = n; implemented = is_implemented choice f.name }) else None
 
+-- what is known of the module in a numbered file
 abbrev pub ref_at : Selected → Briefs → ℕ → Option ModuleRef
 ref_at choice files n = option_and_then (ref_of choice n) (slice_get files n)
 
@@ -18,11 +20,13 @@ ref_at choice files n = option_and_then (ref_of choice n) (slice_get files n)
 abbrev pub named_module : Selected → Briefs → List ℕ → Option ModuleRef
 named_module choice files name = option_and_then (ref_at choice files) (file_named files name)
 
--- the module that a prefix stands for in a file
+-- the module that a prefix refers to in a file
 abbrev pub prefixed_module : Selected → Briefs → List Row → ℕ → List ℕ → Option ModuleRef
-prefixed_module choice files rows file prefix = option_and_then (ref_at choice files) (module_of files rows file prefix)
+prefixed_module choice files rows file prefix =
+    option_and_then (ref_at choice files) (module_of files rows file prefix)
 
 -- for each file the module, where it is one
-pub record AreModules (choice : Selected) (files : Briefs) (modules : List (Option ModuleRef)) : Type 0 where
+pub record AreModules (choice : Selected) (files : Briefs)
+    (modules : List (Option ModuleRef)) : Type 0 where
   pub each : length modules ≡ length files
   pub are : (n : ℕ) → n < length files → slice_get modules n ≡ Some (ref_at choice files n)

@@ -15,6 +15,8 @@ pub fn linked_files_tell_what_holds()
 
 /// What is wrong with modules, features and identities is refused in the phases 3, 4 and 5.
 pub fn links_have_phases()
+    // They are of phase 3 or a later one.
     ensures first { (files : Files) (f : Refusal) → BadLinks files f → 3 ≤ phase_of f.code }
+    // They are of phase 5 or an earlier one.
     ensures last { (files : Files) (f : Refusal) → BadLinks files f → phase_of f.code ≤ 5 }
 {}

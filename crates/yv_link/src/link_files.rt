@@ -70,11 +70,16 @@ pub fn link<'a, 'b>(
     files: &'a [Statement<'b>],
     selection: &Selection,
 ) -> Result<Linked<'a, 'b>, Stop>
+    // They are these files under this selection.
     ensures links { IfOk result (AreLinked files.now (selected_of selection.now)) }
+    // Linked files are returned only if nothing is refused.
     ensures clear { OnOk result (IsLeast (BadLinks files.now) None) }
+    // A refusal is the least that applies to the modules, the features and the identities.
     ensures refusal { (r : Refusal) → result ≡ Err (Fault r)
         → IsLeast (BadLinks files.now) (Some r) }
+    // `PatternBuild` is never returned.
     ensures builds { result ≢ Err PatternBuild }
+    // More than 2^32 - 3 statements are answered with `NoMemory`.
     ensures many { 4294967293 < length (rows_of files.now) → result ≡ Err NoMemory }
 {
     match read_rows(alloc, files) {

@@ -63,7 +63,9 @@ impl<'a, 'b> Linked<'a, 'b> {
     /// Whether the expression of an `if-feature` holds in a file (RFC 7950, section 7.20.2). A text
     /// that is not an expression doesn't, nor does one with a name that means no feature.
     pub fn holds(&self, file: u32, if_feature: &'a str) -> bool
+        // The result is that of one function of file and text.
         ensures truth { result ≡ truth_in self.now file if_feature.now }
+        // Whether the expression holds in the file.
         ensures holds { (files : Files) (choice : Selected) → AreLinked files choice self.now
             → Holds files choice file if_feature.now result }
     {

@@ -1,4 +1,4 @@
--- Names of definitions that are taken already.
+-- Names of definitions that are used already.
 use Rattle.std.specs.Prelude.{◌≡◌, ◌≢◌, ℕ, ◌<◌, Bool, true, false, List, Option, Some, None, if◌then◌else◌}
 use Rattle.yv_link_scopes.specs.Files.{has_word}
 use Rattle.yv_link_scopes.specs.Rows.{Row, name_in}
@@ -8,6 +8,7 @@ use Rattle.yv_link_scopes.specs.declared.kind.NameKind.{NameKind}
 use Rattle.yv_link_scopes.specs.declared.kind.NameKind.TheVariants.{Typedef, Grouping, Feature, Identity, Extension}
 use Rattle.yv_link_definitions.specs.BuiltIn.{is_built_in}
 
+-- a statement is a definition of this kind
 abbrev pub is_of : NameKind → Row → Bool
 is_of kind r = has_word (word_of kind) r.head
 
@@ -29,7 +30,7 @@ is_scoped kind = false
 
 -- The numbered definition has a name that an earlier one of its kind has in its block (RFC 7950,
 -- section 6.2.1), or, if it is a typedef or a grouping, that one has in a block around its own,
--- before or behind it (section 5.5), or, if it is a typedef, that a built-in type has (section
+-- before or after it (section 5.5), or, if it is a typedef, that a built-in type has (section
 -- 7.3).
 pub data IsTaken (rows : List Row) (k : ℕ) (r : Row) : Type 0 where
   again : {kind : NameKind} (e : ℕ) → kind_defined r ≡ Some kind → e < k

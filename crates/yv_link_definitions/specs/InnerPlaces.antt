@@ -1,4 +1,4 @@
--- Inner definitions, which only private clauses and the tables cite: where statements stand first.
+-- Inner definitions, which only private clauses and the tables cite: where statements are first.
 use Rattle.std.specs.Prelude.{◌≡◌, ℕ, ◌<◌, ◌==◌, ◌&&◌, ◌||◌, Bool, true, List, Option, Some, None, if◌then◌else◌, slice_get}
 use Rattle.std.specs.BTreeMap.{BTreeMap, get}
 use Rattle.std.specs.Ordering.{nat_cmp}
@@ -19,7 +19,8 @@ keep_first table f o number file offset =
     (if (f == file) && (o == offset) then Some number else None)
 
 abbrev pub IsKept : Place → PlaceList → PlaceList → Type 0
-IsKept p old new = (f o : ℕ) → placed_in new f o ≡ keep_first (placed_in old) p.file p.offset p.number f o
+IsKept p old new =
+    (f o : ℕ) → placed_in new f o ≡ keep_first (placed_in old) p.file p.offset p.number f o
 
 -- a typedef or a grouping
 abbrev pub is_definition : Row → Bool

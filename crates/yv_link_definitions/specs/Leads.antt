@@ -8,14 +8,14 @@ use Rattle.yv_link_scopes.specs.declared.kind.NameKind.TheVariants.{Typedef, Gro
 use Rattle.yv_link_definitions.specs.Duplicates.{is_of}
 use Rattle.yv_link_definitions.specs.Refers.{Refers, is_type}
 
--- A type may stand in the type of a union, as one of its members (RFC 7950, section 9.12), and a
--- uses in anything that is no grouping itself.
+-- A type may be in the type of a union, as one of its members (RFC 7950, section 9.12), and a uses
+-- in anything that isn't a grouping itself.
 abbrev pub is_between : NameKind → Row → Bool
 is_between Typedef s = is_type s
 is_between Grouping s = not (is_of Grouping s)
 is_between kind s = false
 
--- the numbered statement counts for definition d: it stands in its block, or in a block between
+-- the numbered statement counts for definition d: it is in its block, or in a block between
 pub data CountsFor (rows : List Row) (kind : NameKind) : ℕ → ℕ → Type 0 where
   directly : {k d : ℕ} {r s : Row} → slice_get rows k ≡ Some r → r.scope ≡ d
       → slice_get rows d ≡ Some s → is_of kind s ≡ true
@@ -34,7 +34,7 @@ pub data LeadsTo (files : Briefs) (rows : List Row) : ℕ → ℕ → Type 0 whe
   by_step : {k a b : ℕ} → Joins files rows k a b → LeadsTo files rows a b
   by_way : {k a b c : ℕ} → Joins files rows k a b → LeadsTo files rows b c → LeadsTo files rows a c
 
--- all statements, each once and behind all that it leads to
+-- all statements, each once and after all that it leads to
 pub record IsOrderOf (files : Briefs) (rows : List Row) (order : List ℕ) : Type 0 where
   pub within : All (λ a. a < length rows) order
   pub stands : (a : ℕ) → a < length rows → Contains order a

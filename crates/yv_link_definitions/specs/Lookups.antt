@@ -4,6 +4,7 @@ use Rattle.std.specs.List.{find}
 use Rattle.std.specs.Option.{option_map}
 use Rattle.yv_link_definitions.specs.declared.place.Place.{Place}
 
+-- a place is this one
 abbrev pub is_there : ℕ → ℕ → Place → Bool
 is_there file offset p = (p.file == file) && (p.offset == offset)
 

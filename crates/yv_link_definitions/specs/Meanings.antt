@@ -12,9 +12,11 @@ use Rattle.yv_link_definitions.specs.InnerPlaces.{is_definition, ref_in}
 use Rattle.yv_link_definitions.specs.declared.references.DefRef.{DefRef}
 use Rattle.yv_link_definitions.specs.declared.meaning_table.Names.{Names}
 
+-- the number of the definition that a numbered statement means
 abbrev pub meant_in : Names → ℕ → Option ℕ
 meant_in names k = option_and_then (λ meant. meant) (slice_get names.meanings.items k)
 
+-- that definition
 abbrev pub definition_in : Names → ℕ → Option DefRef
 definition_in names k =
     option_and_then (λ meant. ref_in names.definitions meant) (meant_in names k)

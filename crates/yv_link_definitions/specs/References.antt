@@ -11,6 +11,7 @@ use Rattle.yv_link_definitions.specs.declared.references.DefRef.{DefRef}
 abbrev pub ref_of : Row → DefRef
 ref_of r = record { file = r.file; offset = r.head.offset }
 
+-- a statement with this keyword has this place
 abbrev pub is_at : List ℕ → ℕ → ℕ → Row → Bool
 is_at word file offset r = has_word word r.head && ((r.file == file) && (r.head.offset == offset))
 

@@ -8,9 +8,11 @@ use Rattle.yv_link_scopes.specs.declared.kind.NameKind.{NameKind}
 use Rattle.yv_link_scopes.specs.declared.kind.NameKind.TheVariants.{Typedef, Grouping}
 use Rattle.yv_link_definitions.specs.BuiltIn.{is_built_in}
 
+-- a statement is a `type`
 abbrev pub is_type : Row → Bool
 is_type r = has_word (codes "type") r.head
 
+-- a statement is a `uses`
 abbrev pub is_uses : Row → Bool
 is_uses r = has_word (codes "uses") r.head
 

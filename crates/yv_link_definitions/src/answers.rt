@@ -1,4 +1,4 @@
-//! What is told of statements.
+//! What is known of statements.
 ghost use Rattle.std.specs.Prelude.{◌≡◌, ◌+◌, ◌<◌, ◌≤◌, Some, OnOk, IfOk, IfSome, length, slice_get};
 ghost use Rattle.yv_link_scopes.specs.{Rows.{row}, Views.{files_in, rows_in}};
 ghost use Rattle.yv_link_definitions.specs.InnerAnswers.{TellFirst};
@@ -33,7 +33,7 @@ fn narrow(number: Option<usize>) -> Option<u32>
 }
 
 impl Answers {
-    // Adds what is told of the next statement.
+    // Adds what is known of the next statement.
     fn add<'a, 'b>(
         &mut self,
         draft: &Draft<'_, 'a, 'b>,

@@ -36,7 +36,7 @@ impl Draft<'_, '_, '_> {
         Ok(refusal)
     }
 
-    // The numbers of all statements, each definition behind all to which it leads; or the least
+    // The numbers of all statements, each definition after all to which it leads; or the least
     // refusal.
     fn order(&self, alloc: Global, meanings: &[Option<u32>]) -> Result<Vec<usize>, Stop>
         requires { let rows = self.now.rows.now
@@ -65,10 +65,14 @@ impl Draft<'_, '_, '_> {
 /// What types and uses mean in files, or the least refusal of these: a definition with a name that
 /// is in use, a type or a uses that means nothing, a typedef or a grouping that leads to itself.
 pub fn names<'a, 'b>(alloc: Global, rows: &Rows<'a, 'b>) -> Result<Names, Stop>
+    // They are the names of these files.
     ensures makes { IfOk result (AreNames (lent_in rows.now)) }
+    // Names are returned only if nothing is refused of them.
     ensures clear { OnOk result (IsLeast (BadNames (lent_in rows.now)) None) }
+    // A refusal is the least that applies to them.
     ensures refusal { (r : Refusal) → result ≡ Err (Fault r)
         → IsLeast (BadNames (lent_in rows.now)) (Some r) }
+    // `PatternBuild` is never returned.
     ensures builds { result ≢ Err PatternBuild }
 {
     let draft = Draft::read(alloc, rows)?;

@@ -22,7 +22,7 @@ fn kind_defined(entry: &Entry<'_, '_>) -> Option<NameKind>
     }
 }
 
-// Whether definitions of the kind may stand in inner blocks.
+// Whether definitions of the kind may be in inner blocks.
 fn is_scoped(kind: NameKind) -> bool
     ensures { result ≡ is_scoped kind }
 {

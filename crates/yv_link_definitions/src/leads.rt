@@ -7,7 +7,7 @@ use crate::draft::{Draft, is_of};
 use crate::meanings::is_type;
 use yv_link_scopes::{Entry, NameKind};
 
-// Whether a statement may stand between a type or a uses and the definition for which that counts.
+// Whether a statement may be between a type or a uses and the definition for which that counts.
 fn is_between(kind: NameKind, entry: &Entry<'_, '_>) -> bool
     ensures { result ≡ is_between kind (row entry.now) }
 {

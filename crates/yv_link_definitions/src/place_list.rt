@@ -28,7 +28,7 @@ impl PlaceList {
         }
     }
 
-    /// Adds a place behind the others.
+    /// Adds a place after the others.
     pub(crate) fn add(&mut self, place: Place) -> Result<(), AllocError>
         ensures { OnOk result (IsKept place self.old self.new) }
     {

@@ -5,3 +5,4 @@ pub mod Steps
 pub mod Agreeing
 pub mod Ordered
 pub mod Once
+pub mod Fronts

@@ -6,4 +6,5 @@ use Rattle.yv_link_scopes.specs.Files.{has_word}
 
 -- each statement of a block is no `if-feature`, or its expression is true
 abbrev pub all_hold : (is_true : List ℕ → Bool) → List Tree → Bool
-all_hold is_true ss = list_all (λ s. not (has_word (codes "if-feature") s.head) || is_true (name_of s.head)) ss
+all_hold is_true ss =
+    list_all (λ s. not (has_word (codes "if-feature") s.head) || is_true (name_of s.head)) ss

@@ -19,7 +19,8 @@ from_marks marks feature = slice_index_or marks feature false
 
 -- what names mean to the features that were found
 abbrev pub meaning_in : Features → Files → Meaning
-meaning_in features files = looked_up (table_of features.places) (map brief_of files) (rows_of files)
+meaning_in features files =
+    looked_up (table_of features.places) (map brief_of files) (rows_of files)
 
 -- which features are on of those that were found
 abbrev pub on_in : Features → Assignment
@@ -33,7 +34,8 @@ AreFeatures files choice features =
 
 -- what the features that were found tell of an expression in a file is its value by them
 abbrev pub Tell : Features → Files → ℕ → List ℕ → Bool → Type 0
-Tell features files file text value = HasValue (meaning_in features files) (on_in features) file text value
+Tell features files file text value =
+    HasValue (meaning_in features files) (on_in features) file text value
 
 -- a text spells a condition, or none
 abbrev pub IsSpelledOrNot : List ℕ → Type 0
@@ -46,4 +48,6 @@ value_of_text value text (inr none) = false
 
 -- the one value that they tell; a text spells a condition or none, as is proved
 unfoldable pub truth_of : Features → Files → ℕ → List ℕ → Bool
-truth_of features files file text = value_of_text (value_of (meaning_in features files) (on_in features) file) text (spelled_by text)
+truth_of features files file text =
+    value_of_text (value_of (meaning_in features files) (on_in features) file) text
+    (spelled_by text)

@@ -47,15 +47,18 @@ steps_of means rows lists = map (λ v. meant_from means rows v.items) lists
 
 -- the numbered condition has the value true
 abbrev pub IsTrueAt : Meaning → List Row → Assignment → ℕ → Type 0
-IsTrueAt means rows on i = (q : Row) → slice_get rows i ≡ Some q → HasValue means on q.file (name_in q) true
+IsTrueAt means rows on i =
+    (q : Row) → slice_get rows i ≡ Some q → HasValue means on q.file (name_in q) true
 
 -- the numbered conditions have
 abbrev pub AllTrue : Meaning → List Row → Assignment → List ℕ → Type 0
 AllTrue means rows on conditions = (i : ℕ) → Contains conditions i → IsTrueAt means rows on i
 
--- all statements, each once and behind all that it leads to
+-- all statements, each once and after all that it leads to
 pub record IsOrderOf (means : Meaning) (rows : List Row) (order : List ℕ) : Type 0 where
   pub within : All (λ a. a < length rows) order
   pub stands : (a : ℕ) → a < length rows → Contains order a
-  pub once : (i j : ℕ) → i < length order → j < length order → slice_index order i ≡ slice_index order j → i ≡ j
-  pub behind : (i b : ℕ) → i < length order → LeadsTo means rows (slice_index order i) b → Contains (take i order) b
+  pub once : (i j : ℕ) → i < length order → j < length order
+      → slice_index order i ≡ slice_index order j → i ≡ j
+  pub behind : (i b : ℕ) → i < length order → LeadsTo means rows (slice_index order i) b
+      → Contains (take i order) b

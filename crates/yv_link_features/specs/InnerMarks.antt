@@ -13,7 +13,8 @@ use Rattle.yv_link_features.specs.InnerNames.{means_in}
 use Rattle.yv_link_features.specs.declared.names.FeatureNames.{FeatureNames}
 
 abbrev pub BadIn : FeatureNames → Refusal → Type 0
-BadIn names f = Among (rows_in names.rows.now) (BadRow (means_in names) (rows_in names.rows.now)) (length (rows_in names.rows.now)) f
+BadIn names f = Among (rows_in names.rows.now) (BadRow (means_in names) (rows_in names.rows.now))
+    (length (rows_in names.rows.now)) f
 
 abbrev pub AreOnIn : FeatureNames → Selected → Assignment → Type 0
 AreOnIn names choice on =

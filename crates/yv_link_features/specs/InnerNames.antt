@@ -9,7 +9,8 @@ use Rattle.yv_link_features.specs.Meaning.{Meaning, looked_up}
 use Rattle.yv_link_features.specs.declared.names.FeatureNames.{FeatureNames}
 
 abbrev pub means_in : FeatureNames → Meaning
-means_in names = looked_up (table_of names.places.now) (files_in names.rows.now) (rows_in names.rows.now)
+means_in names =
+    looked_up (table_of names.places.now) (files_in names.rows.now) (rows_in names.rows.now)
 
 -- the feature that a word means, if it is a name
 abbrev pub feature_of_word : Meaning → ℕ → Token → Option ℕ
@@ -24,4 +25,5 @@ is_settled t feature = true
 -- the features that words mean, in order
 abbrev pub meant_among : Meaning → ℕ → List Token → List ℕ
 meant_among means file [] = []
-meant_among means file (t ∷ ts) = option_to_list (feature_of_word means file t) ++ meant_among means file ts
+meant_among means file (t ∷ ts) =
+    option_to_list (feature_of_word means file t) ++ meant_among means file ts

@@ -15,12 +15,14 @@ Meaning = ℕ → List ℕ → Option ℕ
 -- a name is looked up at the root of the file's module, or of the module for which its prefix
 -- stands
 abbrev pub looked_up : Table → Briefs → List Row → Meaning
-looked_up table files rows file name = option_and_then (λ block. table block (local_of name)) (block_of files rows file name)
+looked_up table files rows file name =
+    option_and_then (λ block. table block (local_of name)) (block_of files rows file name)
 
 -- a name means the first feature there that has it
 abbrev pub meaning_of : Briefs → List Row → Meaning
 meaning_of files rows = looked_up (first_of Feature rows) files rows
 
+-- a statement is a `feature`
 abbrev pub is_feature : Row → Bool
 is_feature r = has_word (codes "feature") r.head
 

@@ -25,4 +25,5 @@ BadRow means rows k r f =
 -- a statement of the files is refused
 abbrev pub BadFeatures : Files → Refusal → Type 0
 BadFeatures files f =
-    Among (rows_of files) (BadRow (meaning_of (map brief_of files) (rows_of files)) (rows_of files)) (length (rows_of files)) f
+    Among (rows_of files) (BadRow (meaning_of (map brief_of files) (rows_of files)) (rows_of files))
+    (length (rows_of files)) f

@@ -27,10 +27,14 @@ impl<'a> Features<'a> {
         rows: &Rows<'a, '_>,
         selection: &Selection,
     ) -> Result<Features<'a>, Stop>
+        // Features are returned only if none is unknown and none depends on itself.
         ensures clear { OnOk result (IsLeast (BadFeatures (lent_in rows.now)) None) }
+        // A refusal is the least `UnknownFeature` or `FeatureCycle`.
         ensures refusal { (r : Refusal) → result ≡ Err (Fault r)
             → IsLeast (BadFeatures (lent_in rows.now)) (Some r) }
+        // `PatternBuild` is never returned.
         ensures builds { result ≢ Err PatternBuild }
+        // They are the features of these files under this selection.
         ensures features { IfOk result
             (AreFeatures (lent_in rows.now) (selected_of selection.now)) }
     {
@@ -48,7 +52,9 @@ impl<'a> Features<'a> {
     /// Whether the expression of an `if-feature` holds in a file. A text that is not an expression
     /// doesn't, nor does one with a name that means no feature.
     pub fn holds(&self, rows: &Rows<'a, '_>, file: usize, text: &'a str) -> bool
+        // The result is that of one function of file and text.
         ensures truth { result ≡ truth_of self.now (lent_in rows.now) file text.now }
+        // Whether the expression holds in the file.
         ensures holds { (choice : Selected) → AreFeatures (lent_in rows.now) choice self.now
             → Holds (lent_in rows.now) choice file text.now result }
     {

@@ -7,8 +7,10 @@ ghost use Rattle.yv_link_features.specs.{Refusals.{BadFeatures}, Features.{AreFe
 /// What the features that were found answer for an expression in a file is its value by them, and
 /// no other.
 pub fn features_tell_the_value()
+    // What that function gives is the expression's value, under the features that were found.
     ensures tells { (features : Features) (files : Files) (file : ℕ) (text : List ℕ)
         → Tell features files file text (truth_of features files file text) }
+    // No other value is.
     ensures alone { (features : Features) (files : Files) (file : ℕ) (text : List ℕ) (value : Bool)
         → Tell features files file text value → value ≡ truth_of features files file text }
 {

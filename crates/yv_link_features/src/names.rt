@@ -1,5 +1,5 @@
 //! What the names in conditions mean, and the value that a condition has by it.
-ghost use Rattle.std.specs.{Prelude.{◌≡◌, ◌++◌, ◌&&◌, OnOk, slice_get}, List.{list_all}, Option.{option_map}};
+ghost use Rattle.std.specs.{Prelude.{◌≡◌, ◌++◌, ◌&&◌, ℕ, OnOk, slice_get, take}, List.{list_all}, Option.{option_map}};
 ghost use Rattle.yv_text_if_feature.specs.{WordTokens.{token_shown}, Tokens.{names_among, tokens}};
 ghost use Rattle.yv_link_scopes.specs.{Views.{rows_in}, Rows.{row}};
 ghost use Rattle.yv_link_features.specs.{Features.{from_marks}, InnerNames.{is_settled, means_in, meant_among, feature_of_word}, Value.{HasValue, is_known, is_on}};
@@ -83,16 +83,19 @@ impl<'r, 'a, 'b> FeatureNames<'r, 'a, 'b> {
         known
     }
 
-    /// Adds the features that a text names.
+    /// Adds the features that a text names, or the first of them where memory runs out.
     pub fn add_meanings(
         &self,
         features: &mut Vec<usize>,
         file: usize,
         text: &'a str,
     ) -> Result<(), AllocError>
-        ensures { OnOk result
+        ensures adds { OnOk result
             (features.new.items ≡ features.old.items
             ++ meant_among (means_in self.now) file (tokens text.now)) }
+        ensures part { (n : ℕ)
+            × (features.new.items ≡ features.old.items
+            ++ take n (meant_among (means_in self.now) file (tokens text.now))) }
     {
         for word in Words::new(text) {
             if let Some(feature) = self.feature_of_word(file, word) {

@@ -8,4 +8,5 @@ use Rattle.yv_link_identities.specs.Names.{HasBase}
 -- from itself only on a cycle (RFC 7950, section 7.18.2)
 pub data IsDerivedFrom (files : Briefs) (rows : List Row) : ℕ → ℕ → Type 0 where
   directly : {i b : ℕ} → HasBase files rows i b → IsDerivedFrom files rows i b
-  further : {i b c : ℕ} → HasBase files rows i b → IsDerivedFrom files rows b c → IsDerivedFrom files rows i c
+  further : {i b c : ℕ} → HasBase files rows i b → IsDerivedFrom files rows b c
+      → IsDerivedFrom files rows i c

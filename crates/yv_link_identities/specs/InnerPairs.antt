@@ -9,11 +9,13 @@ use Rattle.yv_link_identities.specs.Names.{is_base, identity_meant, HasBase}
 use Rattle.yv_link_identities.specs.Derivation.{IsDerivedFrom}
 use Rattle.yv_link_identities.specs.InnerIdentityNumbers.{node_of, number_at, count_of}
 
--- the identity in whose block a base stands, and the one that the base means, each by its place
+-- the identity in whose block a base is, and the one that the base means, each by its place
 abbrev pub pair_of : Briefs → List Row → Row → Option (ℕ × ℕ)
 pair_of files rows r =
     if is_base r then
-    option_and_then (λ own. option_and_then (λ meant. option_map (λ base. (own, base)) (node_of rows meant)) (identity_meant files rows r)) (node_of rows r.scope)
+    option_and_then (λ own. option_and_then
+    (λ meant. option_map (λ base. (own, base)) (node_of rows meant))
+    (identity_meant files rows r)) (node_of rows r.scope)
     else None
 
 abbrev pub HasNoEdge : Graph → Type 0
@@ -24,8 +26,10 @@ pub record AreBases (files : Briefs) (rows : List Row) (g : Graph) : Type 0 wher
   pub each : length g ≡ count_of rows
   pub within : IsGraph g
   pub edge : (a b : ℕ) → HasEdge g a b → HasBase files rows (number_at rows a) (number_at rows b)
-  pub all : (a b : ℕ) → a < count_of rows → b < count_of rows → HasBase files rows (number_at rows a) (number_at rows b) → HasEdge g a b
+  pub all : (a b : ℕ) → a < count_of rows → b < count_of rows
+      → HasBase files rows (number_at rows a) (number_at rows b) → HasEdge g a b
 
 -- those are marked that are derived from themselves
 pub record AreIdentityCycles (files : Briefs) (rows : List Row) (marks : List Bool) : Type 0 where
-  pub exact : (a : ℕ) → a < count_of rows → IsMarked marks a ↔ IsDerivedFrom files rows (number_at rows a) (number_at rows a)
+  pub exact : (a : ℕ) → a < count_of rows → IsMarked marks a
+      ↔ IsDerivedFrom files rows (number_at rows a) (number_at rows a)

@@ -20,4 +20,5 @@ first_some (Some a) b = Some a
 -- the first number of a place is kept
 abbrev pub keep_first : (ℕ → ℕ → Option ℕ) → IdentityRef → ℕ → ℕ → ℕ → Option ℕ
 keep_first table ref node file offset =
-    first_some (table file offset) (if is_at (record { file = file; offset = offset }) ref then Some node else None)
+    first_some (table file offset)
+    (if is_at (record { file = file; offset = offset }) ref then Some node else None)

@@ -13,7 +13,8 @@ AreBelow g to found = (a : ℕ) → IsTrue (contains nat_cmp found a) ↔ LeadsT
 
 -- whether there is an edge from a to b
 abbrev pub has_edge : Graph → ℕ → ℕ → Bool
-has_edge g a b = unwrap_or (option_map (λ row. list_any (λ x. x == b) row.items) (slice_get g a)) false
+has_edge g a b =
+    unwrap_or (option_map (λ row. list_any (λ x. x == b) row.items) (slice_get g a)) false
 
 -- an edge back for each edge, and no other
 pub record AreReversed (g back : Graph) : Type 0 where
@@ -33,7 +34,8 @@ HasRank ranks nodes r = (a : ℕ) × Contains nodes a × (slice_index ranks a �
 
 -- the ranks of these nodes are added to a set
 pub record AddsRanks (ranks nodes : List ℕ) (old new : BTreeSet ℕ) : Type 0 where
-  pub rank : (r : ℕ) → IsTrue (contains nat_cmp new r) → IsTrue (contains nat_cmp old r) ⊎ HasRank ranks nodes r
+  pub rank : (r : ℕ) → IsTrue (contains nat_cmp new r)
+      → IsTrue (contains nat_cmp old r) ⊎ HasRank ranks nodes r
   pub kept : (r : ℕ) → IsTrue (contains nat_cmp old r) → IsTrue (contains nat_cmp new r)
   pub all : (a : ℕ) → Contains nodes a → IsTrue (contains nat_cmp new (slice_index ranks a))
 

@@ -9,16 +9,20 @@ use Rattle.yv_link_scopes.specs.Tables.{first_of, word_of}
 use Rattle.yv_link_scopes.specs.Scopes.{block_of}
 use Rattle.yv_link_scopes.specs.declared.kind.NameKind.TheVariants.{Identity}
 
+-- a statement is an `identity`
 abbrev pub is_identity : Row → Bool
 is_identity r = has_word (word_of Identity) r.head
 
+-- a statement is a `base`
 abbrev pub is_base : Row → Bool
 is_base r = has_word (codes "base") r.head
 
 -- the number of the identity that a name means in a file: the first of that name in the file's
--- module, or in the module that the prefix stands for
+-- module, or in the module that the prefix refers to
 abbrev pub meaning_of : Briefs → List Row → ℕ → List ℕ → Option ℕ
-meaning_of files rows file name = option_and_then (λ block. first_of Identity rows block (local_of name)) (block_of files rows file name)
+meaning_of files rows file name =
+    option_and_then (λ block. first_of Identity rows block (local_of name))
+    (block_of files rows file name)
 
 -- what the name of a statement means as an identity
 abbrev pub identity_meant : Briefs → List Row → Row → Option ℕ

@@ -27,7 +27,8 @@ number_of rows ref = first_where (λ r. is_identity r && is_at ref (ref_of r)) r
 
 -- a reference to the identity that a name means in a file
 abbrev pub reference_of : Briefs → List Row → ℕ → List ℕ → Option IdentityRef
-reference_of files rows file name = option_and_then (λ k. option_map ref_of (slice_get rows k)) (meaning_of files rows file name)
+reference_of files rows file name =
+    option_and_then (λ k. option_map ref_of (slice_get rows k)) (meaning_of files rows file name)
 
 -- the reference means an identity that is derived from that of the other
 pub record IsDerived (files : Briefs) (rows : List Row) (identity base : IdentityRef) : Type 0 where
@@ -37,13 +38,17 @@ pub record IsDerived (files : Briefs) (rows : List Row) (identity base : Identit
   pub base_meant : number_of rows base ≡ Some base_number
   pub derived : IsDerivedFrom files rows number base_number
 
+-- numbers ascend
 abbrev pub IsAscending : List ℕ → Type 0
-IsAscending numbers = (i j : ℕ) → i < j → j < length numbers → slice_index numbers i < slice_index numbers j
+IsAscending numbers =
+    (i j : ℕ) → i < j → j < length numbers → slice_index numbers i < slice_index numbers j
 
 -- these are all identities that are derived from that of the reference, in the order of the
 -- statements
-pub record AreDescendants (files : Briefs) (rows : List Row) (base : IdentityRef) (refs : List IdentityRef) : Type 0 where
+pub record AreDescendants (files : Briefs) (rows : List Row) (base : IdentityRef)
+    (refs : List IdentityRef) : Type 0 where
   pub numbers : List ℕ
   pub ascending : IsAscending numbers
-  pub exact : (k : ℕ) → Contains numbers k ↔ ((b : ℕ) × (number_of rows base ≡ Some b) × IsDerivedFrom files rows k b)
+  pub exact : (k : ℕ) → Contains numbers k
+      ↔ ((b : ℕ) × (number_of rows base ≡ Some b) × IsDerivedFrom files rows k b)
   pub each : map Some refs ≡ refs_of rows numbers

@@ -15,5 +15,7 @@ use Rattle.yv_link_identities.specs.declared.identity_table.Identities.{Identiti
 pub record AreIdentities (files : Files) (t : Identities) : Type 0 where
   pub names : table_of t.names ≡ first_of Identity (rows_of files)
   pub refs : map Some t.identities.items ≡ refs_of (rows_of files) (identities_of (rows_of files))
-  pub places : (file offset : ℕ) → placed_in t.places file offset ≡ first_where (is_at (record { file = file; offset = offset })) t.identities.items
+  pub places : (file offset : ℕ)
+      → placed_in t.places file offset
+      ≡ first_where (is_at (record { file = file; offset = offset })) t.identities.items
   pub bases : AreBases (map brief_of files) (rows_of files) t.hierarchy.bases.items

@@ -16,7 +16,7 @@ use yv_base_graph::{Ranking, nodes_on_cycles, rank};
 use yv_link_scopes::Rows;
 use yv_statement::Stop;
 
-// The bases of all identities, and an order in which each stands behind its bases; or the least
+// The bases of all identities, and an order in which each comes after its bases; or the least
 // refusal.
 fn read_hierarchy(alloc: Global, draft: &Draft<'_, '_, '_>) -> Result<Hierarchy, Stop>
     ensures makes { IfOk result
@@ -48,11 +48,15 @@ fn read_hierarchy(alloc: Global, draft: &Draft<'_, '_, '_>) -> Result<Hierarchy,
 /// The identities of these statements, or the least refusal of a base whose name means nothing and
 /// of an identity that is derived from itself.
 pub fn identities<'a, 'b>(alloc: Global, rows: &Rows<'a, 'b>) -> Result<Identities<'a>, Stop>
+    // They are the identities of these files.
     ensures makes { IfOk result (AreIdentities (lent_in rows.now)) }
+    // Identities are returned only if no base is unknown and no identity is derived from itself.
     ensures clear { OnOk result
         (IsLeast (BadIdentities (files_in rows.now) (rows_in rows.now)) None) }
+    // A refusal is the least `UnknownIdentity` or `IdentityCycle`.
     ensures refusal { (r : Refusal) → result ≡ Err (Fault r)
         → IsLeast (BadIdentities (files_in rows.now) (rows_in rows.now)) (Some r) }
+    // `PatternBuild` is never returned.
     ensures builds { result ≢ Err PatternBuild }
 {
     let draft = Draft::read(alloc, rows)?;

@@ -56,7 +56,7 @@ impl Hierarchy {
     }
 
     // The last of the identities that are reached while there is one base alone, which isn't the
-    // one sought.
+    // one looked for.
     fn stem(&self, from: usize, to: usize) -> usize
         requires { from < length self.now.bases.items }
         ensures within { result < length self.now.bases.items }
@@ -135,7 +135,7 @@ impl Hierarchy {
         false
     }
 
-    // Whether a base of a node, up to the middle rank, is the one sought or leads to it.
+    // Whether a base of a node, up to the middle rank, is the one looked for, or leads to it.
     #[cycle(ways)]
     fn enters(&self, node: usize, to: usize, middle: usize) -> bool
         requires node { node < length self.now.bases.items }

@@ -51,4 +51,5 @@ is_other dates date (Some file) = not (is_date (date_at dates file) date)
 -- by the dates that are kept, a revision-date isn't the revision of its file
 abbrev pub is_other_date : Briefs → List Row → Dates → Row → Bool
 is_other_date files rows dates r =
-    has_word (codes "revision-date") r.head && is_other dates (name_in r) (dated_file files rows r.scope)
+    has_word (codes "revision-date") r.head
+    && is_other dates (name_in r) (dated_file files rows r.scope)

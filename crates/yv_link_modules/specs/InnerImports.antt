@@ -42,4 +42,5 @@ closes_cycle leads module_file (Some b) = is_marked leads b module_file
 
 -- by these marks an import is on a cycle
 abbrev pub is_import_cycle : Briefs → Marks → Row → Bool
-is_import_cycle files leads r = closes_cycle leads (module_file_at files r.file) (imported_module files r)
+is_import_cycle files leads r =
+    closes_cycle leads (module_file_at files r.file) (imported_module files r)

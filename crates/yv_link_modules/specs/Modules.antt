@@ -15,8 +15,10 @@ use Rattle.yv_link_modules.specs.Imports.{IsImportCycle}
 -- what is wrong with the file of number n
 abbrev pub BadFile : Briefs → List Row → ℕ → Brief → Refusal → Type 0
 BadFile files rows n g f =
-    Stands (not (is_at n (file_named files g.name)) ≡ true) (refusal_at code.DuplicateModule n g.head) f
-    ⊎ Stands (is_not_included files (first_of Include rows) g ≡ true) (refusal_at code.Submodule n g.head) f
+    Stands (not (is_at n (file_named files g.name)) ≡ true)
+    (refusal_at code.DuplicateModule n g.head) f
+    ⊎ Stands (is_not_included files (first_of Include rows) g ≡ true)
+    (refusal_at code.Submodule n g.head) f
 
 -- what is wrong with the statement of number k
 abbrev pub BadRow : Briefs → List Row → ℕ → Row → Refusal → Type 0
@@ -28,9 +30,11 @@ BadRow files rows k r f =
     (refusal_at code.UnknownPrefix r.file r.head) f
     ⊎ Stands (is_wrong_link files r ≡ true) (refusal_at code.Submodule r.file r.head) f)))
 
+-- a refusal applies to one of the files
 abbrev pub BadFiles : Briefs → List Row → Refusal → Type 0
 BadFiles files rows f = Among files (BadFile files rows) (length files) f
 
+-- a refusal applies to one of the statements
 abbrev pub BadRows : Briefs → List Row → Refusal → Type 0
 BadRows files rows f = Among rows (BadRow files rows) (length rows) f
 

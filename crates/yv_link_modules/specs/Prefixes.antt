@@ -11,15 +11,18 @@ use Rattle.yv_link_modules.specs.Links.{is_at}
 
 -- where words end: at a blank, a parenthesis or a slash
 abbrev pub is_cut : ℕ → Bool
-is_cut b = (b == 32) || ((b == 9) || ((b == 13) || ((b == 10) || ((b == 40) || ((b == 41) || (b == 47))))))
+is_cut b =
+    (b == 32) || ((b == 9) || ((b == 13) || ((b == 10) || ((b == 40) || ((b == 41) || (b == 47))))))
 
+-- a prefix is there, and the file doesn't declare it
 abbrev pub is_undeclared : Table → ℕ → Option (List ℕ) → Bool
 is_undeclared prefixes file None = false
 is_undeclared prefixes file (Some prefix) = is_none (prefixes file prefix)
 
 -- a word of the text has a prefix that the file doesn't declare
 abbrev pub has_undeclared : Table → ℕ → List ℕ → Bool
-has_undeclared prefixes file text = list_any (λ word. is_undeclared prefixes file (prefix_of word)) (slice_split is_cut text)
+has_undeclared prefixes file text =
+    list_any (λ word. is_undeclared prefixes file (prefix_of word)) (slice_split is_cut text)
 
 -- the statements whose arguments have names with prefixes
 unfoldable pub has_names : Head → Bool
@@ -31,8 +34,10 @@ has_names h =
 -- an extension's keyword, or a name in the argument, has a prefix that the file doesn't declare
 abbrev pub is_unknown : Table → Row → Bool
 is_unknown prefixes r =
-    is_undeclared prefixes r.file (prefix_of r.head.keyword) || (has_names r.head && has_undeclared prefixes r.file (name_in r))
+    is_undeclared prefixes r.file (prefix_of r.head.keyword)
+    || (has_names r.head && has_undeclared prefixes r.file (name_in r))
 
 -- a prefix that an earlier statement of the file declares
 abbrev pub is_second : Table → ℕ → Row → Bool
-is_second prefixes k r = has_word (codes "prefix") r.head && not (is_at k (prefixes r.file (name_in r)))
+is_second prefixes k r =
+    has_word (codes "prefix") r.head && not (is_at k (prefixes r.file (name_in r)))

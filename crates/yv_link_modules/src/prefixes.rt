@@ -7,7 +7,7 @@ use crate::links::is_at;
 use yv_link_scopes::{Entry, NamePlaces, name_of};
 use yv_statement::Keyword;
 
-// What stands before the first colon of a word.
+// What comes before the first colon of a word.
 fn prefix_of(word: &[u8]) -> Option<&[u8]>
     ensures { option_map (λ p. p.now) result ≡ prefix_at word.now }
 {

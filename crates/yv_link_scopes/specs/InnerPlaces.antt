@@ -11,7 +11,8 @@ first_some (Some a) b = Some a
 
 -- the first place of a name is kept
 abbrev pub keep_first : Table → ℕ → List ℕ → ℕ → Table
-keep_first table scope name place s n = first_some (table s n) (if is_same s n scope name then Some place else None)
+keep_first table scope name place s n =
+    first_some (table s n) (if is_same s n scope name then Some place else None)
 
 -- the lesser of two, or the one that there is
 abbrev pub lesser_of : Option ℕ → Option ℕ → Option ℕ

@@ -7,17 +7,19 @@ use Rattle.std.specs.Option.{option_map}
 abbrev pub first_where : {X : Type 0} → (X → Bool) → List X → Option ℕ
 first_where {X} p xs = position_from p 0 xs
 
+-- the place of the first colon
 abbrev pub first_colon : List ℕ → Option ℕ
 first_colon text = first_where (λ byte. byte == 58) text
 
--- what stands before the first colon
+-- what comes before the first colon
 abbrev pub prefix_of : List ℕ → Option (List ℕ)
 prefix_of text = option_map (λ i. take i text) (first_colon text)
 
+-- what comes after a place; all, where there is none
 abbrev pub behind : List ℕ → Option ℕ → List ℕ
 behind text None = text
 behind text (Some i) = drop (i + 1) text
 
--- what stands behind the first colon, or the whole
+-- what comes after the first colon, or the whole
 abbrev pub local_of : List ℕ → List ℕ
 local_of text = behind text (first_colon text)

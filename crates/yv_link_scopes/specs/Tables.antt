@@ -16,8 +16,10 @@ use Rattle.yv_link_scopes.specs.declared.kind.NameKind.TheVariants.{Prefix, Incl
 abbrev pub Table : Type 0
 Table = ℕ → List ℕ → Option ℕ
 
+-- the table that a map of the code is
 abbrev pub lookup_in : BTreeMap (ℕ × Bor (List ℕ)) ℕ → Table
-lookup_in m scope name = get_by (λ k. ordering_then (nat_cmp scope k.0) (slice_cmp nat_cmp name k.1.now)) m
+lookup_in m scope name =
+    get_by (λ k. ordering_then (nat_cmp scope k.0) (slice_cmp nat_cmp name k.1.now)) m
 
 -- what is looked up in places
 abbrev pub table_of : NamePlaces → Table
@@ -27,6 +29,7 @@ table_of places = lookup_in places.map
 abbrev pub is_same : ℕ → List ℕ → ℕ → List ℕ → Bool
 is_same s n scope name = (scope == s) && bytes_eq name n
 
+-- the keyword of the definitions of a kind
 abbrev pub word_of : NameKind → List ℕ
 word_of Prefix = codes "prefix"
 word_of Include = codes "include"
@@ -36,7 +39,7 @@ word_of Feature = codes "feature"
 word_of Identity = codes "identity"
 word_of Extension = codes "extension"
 
--- a prefix and an include count for their file, all else stands in a block
+-- a prefix and an include count for their file, all else is in a block
 abbrev pub place_of_kind : NameKind → Row → ℕ
 place_of_kind Prefix r = r.file
 place_of_kind Include r = r.file
@@ -45,4 +48,5 @@ place_of_kind _ r = r.scope
 -- the first statement of a kind with a name
 abbrev pub first_of : NameKind → List Row → Table
 first_of kind rows s n =
-    first_where (λ (r : Row). has_word (word_of kind) r.head && is_same s n (place_of_kind kind r) (name_in r)) rows
+    first_where (λ (r : Row). has_word (word_of kind) r.head
+    && is_same s n (place_of_kind kind r) (name_in r)) rows

@@ -16,7 +16,7 @@ fn is_extended(statement: &Statement<'_>) -> bool
     statement.is(Keyword::Extended)
 }
 
-// Lists a statement and what stands below it.
+// Lists a statement and what is below it.
 fn add<'a, 'b>(
     entries: &mut Vec<Entry<'a, 'b>>,
     file: u32,
@@ -45,7 +45,7 @@ fn add<'a, 'b>(
     Ok(())
 }
 
-// Lists the statements of a block, and what stands below them.
+// Lists the statements of a block, and what is below them.
 fn add_block<'a, 'b>(
     entries: &mut Vec<Entry<'a, 'b>>,
     file: u32,

@@ -26,8 +26,10 @@ impl Entry<'_, '_> {
 
     /// Whether the statement has this keyword.
     pub fn is(&self, keyword: Keyword) -> bool
+        // Whether the keyword of its statement means this one.
         ensures kind { result
             ≡ same (keyword_of self.now.statement.now.head.keyword) keyword }
+        // That is whether the texts are equal, where the keyword has one.
         ensures text { IfSome (written keyword)
             (λ text. result ≡ bytes_eq self.now.statement.now.head.keyword text) }
     {

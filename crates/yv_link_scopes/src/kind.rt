@@ -143,14 +143,19 @@ pub fn definition_places<'a>(
     alloc: Global,
     rows: &Rows<'a, '_>,
 ) -> Result<DefinitionPlaces<'a>, AllocError>
+    // The first feature of each name in its block.
     ensures features { IfOk result
         (λ places. table_of places.features ≡ first_of Feature (rows_in rows.now)) }
+    // The first identity of each.
     ensures identities { IfOk result
         (λ places. table_of places.identities ≡ first_of Identity (rows_in rows.now)) }
+    // The first extension of each.
     ensures extensions { IfOk result
         (λ places. table_of places.extensions ≡ first_of Extension (rows_in rows.now)) }
+    // The first typedef of each.
     ensures typedefs { IfOk result
         (λ places. table_of places.typedefs ≡ first_of Typedef (rows_in rows.now)) }
+    // The first grouping of each.
     ensures groupings { IfOk result
         (λ places. table_of places.groupings ≡ first_of Grouping (rows_in rows.now)) }
 {

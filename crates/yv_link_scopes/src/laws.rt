@@ -23,19 +23,25 @@ pub fn blocks_are_nested()
 
 /// Each statement is one of the files, whose roots come first and have their numbers.
 pub fn roots_come_first()
+    // There are at least as many statements as files.
     ensures count { (files : Files) → length files ≤ length (rows_of files) }
+    // The root of a file has the number of the file.
     ensures roots { (files : Files) (n : ℕ) (t : Tree) → slice_get files n ≡ Some t
         → slice_get (rows_of files) n ≡ Some (record { file = n; scope = n; head = t.head }) }
+    // The file of each statement is one of the files.
     ensures files { (files : Files) (number : ℕ) (r : Row) → slice_get (rows_of files) number
         ≡ Some r → r.file < length files }
 {}
 
 /// What is found by a name or a prefix is one of the files.
 pub fn modules_are_files()
+    // What a name names is one of the files.
     ensures names { (files : Briefs) (name : List ℕ) (m : ℕ) → file_named files name ≡ Some m → m
         < length files }
+    // The file of the module that a prefix identifies is one of them.
     ensures prefixes { (files : Briefs) (rows : List Row) (file : ℕ) (prefix : List ℕ) (m : ℕ)
         → module_of files rows file prefix ≡ Some m → m < length files }
+    // So is the file of the module to which a file belongs.
     ensures module_files { (files : Briefs) (n : ℕ) → n < length files → module_file_at files n
         < length files }
 {}

@@ -72,7 +72,9 @@ impl<'a> PrefixTable<'a> {
 
     /// The prefixes that files declare.
     pub fn read(alloc: Global, rows: &Rows<'a, '_>) -> Result<PrefixTable<'a>, AllocError>
+        // It holds the modules that the prefixes of these files identify.
         ensures table { IfOk result (IsPrefixTable (files_in rows.now) (rows_in rows.now)) }
+        // The same, said of the roots that were lent.
         ensures files { IfOk result
             (IsPrefixTable (map brief_of (lent_in rows.now)) (rows_of (lent_in rows.now))) }
     {

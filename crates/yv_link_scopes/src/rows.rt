@@ -41,9 +41,13 @@ impl<'a, 'b> Rows<'a, 'b> {
     /// The statements of files that have these roots. Err if memory runs out, and where there are
     /// more than 2^32 - 3 statements.
     pub fn read(alloc: Global, roots: &'a [Statement<'b>]) -> Result<Rows<'a, 'b>, AllocError>
+        // The roots that it lends are these.
         ensures lends { IfOk result (λ rows. lent_in rows ≡ roots.now) }
+        // Its files are those of the roots.
         ensures files { IfOk result (λ rows. files_in rows ≡ map brief_of roots.now) }
+        // Its statements are theirs, in order.
         ensures rows { IfOk result (λ rows. rows_in rows ≡ rows_of roots.now) }
+        // More than 2^32 - 3 statements are answered as if memory ran out.
         ensures many { 4294967293 < length (rows_of roots.now) → IsErr result }
     {
         if roots.len() > MOST_STATEMENTS {
@@ -70,7 +74,9 @@ impl<'a, 'b> Rows<'a, 'b> {
     /// How many statements there are, without those inside extensions' statements: never more than
     /// 2^32 - 3.
     pub fn len(&self) -> usize
+        // The number of statements.
         ensures count { result ≡ length (rows_in self.now) }
+        // There are at most 2^32 - 3.
         ensures few { length (rows_in self.now) ≤ 4294967293 }
     {
         self.entries.len()
@@ -92,7 +98,9 @@ impl<'a, 'b> Rows<'a, 'b> {
 
     /// The files, in the order of their roots.
     pub fn files(&self) -> &[File<'a, 'b>]
+        // The files, each with the head of its root.
         ensures each { map brief result.now ≡ files_in self.now }
+        // There are at most 2^32.
         ensures few { length result.now ≤ 4294967296 }
     {
         &self.files

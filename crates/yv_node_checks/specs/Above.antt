@@ -11,11 +11,12 @@ use Rattle.yv_nodes.specs.Tree.{Label, Forest}
 use Rattle.yv_nodes.specs.Places.{Place, places}
 use Rattle.yv_nodes.specs.Refusals.{refusal_of}
 
+-- a node is an action
 abbrev pub is_action : NodeKind → Bool
 is_action kind.Action = true
 is_action _ = false
 
--- what may stand below a data node, and not only at the top
+-- what may be below a data node, and not only at the top
 abbrev pub is_nested : NodeKind → Bool
 is_nested kind.Action = true
 is_nested kind.Notification = true
@@ -25,15 +26,16 @@ is_nested _ = false
 abbrev pub is_keyless : Label → Bool
 is_keyless l = is_list l.defined.kind && is_empty l.defined.keys
 
--- an `if-feature` statement stands at a node: the texts of these statements are kept (RFC 7950,
--- section 7.20.2)
+-- an `if-feature` statement is at a node: the texts of these statements are kept (RFC 7950, section
+-- 7.20.2)
 abbrev pub has_if_feature : Label → Bool
 has_if_feature l = not (length l.defined.features == 0)
 
 -- one of these nodes is an operation or a notification
 abbrev pub in_operation_or_notification : List Label → Bool
 in_operation_or_notification [] = false
-in_operation_or_notification (l ∷ ls) = is_operation_or_notification l.defined.kind || in_operation_or_notification ls
+in_operation_or_notification (l ∷ ls) =
+    is_operation_or_notification l.defined.kind || in_operation_or_notification ls
 
 -- one of these nodes is a list without key
 abbrev pub in_keyless : List Label → Bool
@@ -59,25 +61,30 @@ in_config (l ∷ ls) = l.is_config
 abbrev pub line : Place → List Label
 line p = p.label ∷ p.above
 
+-- what is stated is true
 abbrev pub says_true : Option Bool → Bool
 says_true None = false
 says_true (Some stated) = stated
 
--- `config true` below a node that is no configuration, outside operations and notifications (RFC 7950, section 7.21.1)
+-- `config true` below a node that isn't a configuration, outside operations and notifications (RFC
+-- 7950, section 7.21.1)
 abbrev pub is_misconfigured : Place → Bool
-is_misconfigured p = not (in_operation_or_notification (line p)) && (says_true p.label.defined.stated_config && not (in_config p.above))
+is_misconfigured p = not (in_operation_or_notification (line p))
+    && (says_true p.label.defined.stated_config && not (in_config p.above))
 
 -- an action or notification in an operation or notification, in a list without key, in a case, or
 -- an action at the top (RFC 7950, sections 7.15 and 7.16)
 abbrev pub is_misplaced : Place → Bool
 is_misplaced p =
     is_nested p.label.defined.kind
-    && (in_operation_or_notification p.above || in_keyless p.above || in_case p.above || is_action p.label.defined.kind && is_top p.above)
+    && (in_operation_or_notification p.above || in_keyless p.above || in_case p.above
+    || is_action p.label.defined.kind && is_top p.above)
 
 -- a list of configuration without key (RFC 7950, section 7.8.2)
 abbrev pub lacks_key : Place → Bool
 lacks_key p = is_keyless p.label && p.label.is_config
 
+-- two truths differ
 abbrev pub differ : Bool → Bool → Bool
 differ true other = not other
 differ false other = other
@@ -87,9 +94,10 @@ differ false other = other
 abbrev pub is_misfit : Place → Bool
 is_misfit p =
     p.label.is_key
-    && (has_if_feature p.label || not (in_operation_or_notification (line p)) && differ p.label.is_config (in_config p.above))
+    && (has_if_feature p.label || not (in_operation_or_notification (line p))
+    && differ p.label.is_config (in_config p.above))
 
--- f stands at the nearest of these nodes, the list of a key
+-- f is at the nearest of these nodes, the list of a key
 abbrev pub AtNearest : List Label → Bool → Refusal → Type 0
 AtNearest [] is_wrong f = ⊥
 AtNearest (l ∷ ls) is_wrong f = Stands (is_wrong ≡ true) (refusal_of code.BadKey l) f
@@ -102,6 +110,6 @@ BadBelow p f =
     ⊎ (Stands (lacks_key p ≡ true) (refusal_of code.BadKey p.label) f
     ⊎ AtNearest p.above (is_misfit p) f)
 
--- f stands in a schema tree
+-- f is in a schema tree
 abbrev pub BadByAbove : Forest → Refusal → Type 0
 BadByAbove ts f = Among (places ts) (λ k. BadBelow) (length (places ts)) f

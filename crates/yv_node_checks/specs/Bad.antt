@@ -6,5 +6,6 @@ use Rattle.yv_nodes.specs.Tree.{Forest}
 use Rattle.yv_node_checks.specs.Above.{BadByAbove}
 use Rattle.yv_node_checks.specs.Mandatory.{BadByDefault}
 
+-- a refusal by what is above a node, or by a default
 abbrev pub BadTree : Forest → Refusal → Type 0
 BadTree ts f = BadByAbove ts f ⊎ BadByDefault ts f

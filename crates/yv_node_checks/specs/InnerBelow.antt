@@ -30,19 +30,22 @@ abbrev pub is_named_at : List Row → (module_file : ℕ) → (name : List ℕ) 
 is_named_at rows module_file name c = is_some_named (slice_get rows c.0) module_file name
 
 -- of these nodes the first that has this module and this name
-abbrev pub case_among : List Row → (module_file : ℕ) → Option TextInFile → List NodeId → Option NodeId
+abbrev pub case_among : List Row → (module_file : ℕ) → Option TextInFile → List NodeId
+    → Option NodeId
 case_among rows module_file None cs = None
 case_among rows module_file (Some written) cs = find (is_named_at rows module_file written.text) cs
 
 abbrev pub is_some_undone : Option Row → Bool → Bool
 is_some_undone None below = false
-is_some_undone (Some r) below = if is_case r.label.defined.kind then below else is_needed r.label below
+is_some_undone (Some r) below =
+    if is_case r.label.defined.kind then below else is_needed r.label below
 
--- a mandatory node stands directly under the case of a number
+-- a mandatory node is directly under the case of a number
 abbrev pub is_undone_at : List Row → List Bool → Option NodeId → Bool
 is_undone_at rows below None = false
 is_undone_at rows below (Some c) = is_some_undone (slice_get rows c.0) (kept_at below c)
 
--- of the nodes from number n on it is kept whether a mandatory node stands directly under them
+-- of the nodes from number n on it is kept whether a mandatory node is directly under them
 abbrev pub AreBelow : Forest → List Bool → ℕ → Type 0
-AreBelow ts below n = (k : ℕ) (p : Place) → n ≤ k → slice_get (places ts) k ≡ Some p → slice_get below k ≡ Some (has_mandatory p.kids)
+AreBelow ts below n = (k : ℕ) (p : Place) → n ≤ k → slice_get (places ts) k ≡ Some p
+    → slice_get below k ≡ Some (has_mandatory p.kids)

@@ -19,7 +19,8 @@ HaveName rows name (Some n) = HasName rows name n.0
 
 -- it has the name that a default says
 abbrev pub NamesDefault : List Row → Option TextInFile → Option NodeId → Type 0
-NamesDefault rows default namesake = (written : TextInFile) → default ≡ Some written → HaveName rows written.text namesake
+NamesDefault rows default namesake =
+    (written : TextInFile) → default ≡ Some written → HaveName rows written.text namesake
 
 abbrev pub case_of_row : List Row → Row → Option NodeId
 case_of_row rows r = case_among rows r.label.module_file (own_default r.label.defined) r.children
@@ -30,4 +31,5 @@ case_at rows n = case_of_row rows (slice_index_or rows n blank_row)
 
 -- these are the default cases of the first nodes
 abbrev pub AreCases : List Row → List (Option NodeId) → Type 0
-AreCases rows cases = (k : ℕ) (case : NodeId) → slice_get cases k ≡ Some (Some case) → case_at rows k ≡ Some case
+AreCases rows cases =
+    (k : ℕ) (case : NodeId) → slice_get cases k ≡ Some (Some case) → case_at rows k ≡ Some case

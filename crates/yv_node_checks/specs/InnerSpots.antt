@@ -21,8 +21,13 @@ node_id n = record { 0 = n }
 abbrev pub spots_below : NodeId → List Label → ℕ → Forest → List Spot
 spots_below parent above first no_trees = []
 spots_below parent above first (tree (node l kids) ts) =
-    record { place = record { label = l; above = above; kids = kids }; parent = parent; children = numbers_from (first + 1) kids }
-    ∷ spots_below (node_id first) (l ∷ above) (first + 1) kids ++ spots_below parent above (first + 1 + count kids) ts
+    record {
+      place = record { label = l; above = above; kids = kids };
+      parent = parent;
+      children = numbers_from (first + 1) kids;
+    }
+    ∷ spots_below (node_id first) (l ∷ above) (first + 1) kids
+    ++ spots_below parent above (first + 1 + count kids) ts
 
 abbrev pub spots : Forest → List Spot
 spots ts = spots_below root [] 0 ts
@@ -37,9 +42,10 @@ place_of s = s.place
 abbrev pub IsUnder : List Spot → ℕ → NodeId → List Label → Type 0
 IsUnder all at p above =
     ((p ≡ root) × (above ≡ []))
-    ⊎ ((p.0 < at) × ((q : Spot) × (slice_get all p.0 ≡ Some q) × (above ≡ q.place.label ∷ q.place.above)))
+    ⊎ ((p.0 < at) × ((q : Spot) × (slice_get all p.0 ≡ Some q)
+    × (above ≡ q.place.label ∷ q.place.above)))
 
--- the spots of these trees stand among others, the first at this number
+-- the spots of these trees are among others, the first at this number
 pub record Sits (all : List Spot) (at : ℕ) (ts : Forest) : Type 0 where
   pub parent : NodeId
   pub above : List Label

@@ -27,6 +27,7 @@ is_needed_as kind.LeafList d below = nat_lt 0 d.min
 is_needed_as kind.Container d below = not d.has_presence && below
 is_needed_as _ d below = false
 
+-- a node has to be there, by itself or by what is below it
 abbrev pub is_needed : Label → (below : Bool) → Bool
 is_needed l below = is_needed_as l.defined.kind l.defined below
 
@@ -42,8 +43,10 @@ is_called module_file name l = l.module_file == module_file && bytes_eq l.define
 -- the first of these trees whose node has this module and this name
 abbrev pub child_named : (module_file : ℕ) → (name : List ℕ) → Forest → Option Tree
 child_named module_file name no_trees = None
-child_named module_file name (tree (node l kids) ts) = if is_called module_file name l then Some (node l kids) else child_named module_file name ts
+child_named module_file name (tree (node l kids) ts) =
+    if is_called module_file name l then Some (node l kids) else child_named module_file name ts
 
+-- the child that a text names, if there is a text
 abbrev pub child_of_text : (module_file : ℕ) → Option TextInFile → Forest → Option Tree
 child_of_text module_file None ts = None
 child_of_text module_file (Some written) ts = child_named module_file written.text ts
@@ -53,10 +56,11 @@ child_of_text module_file (Some written) ts = child_named module_file written.te
 abbrev pub default_case : Place → Option Tree
 default_case p = child_of_text p.label.module_file (own_default p.label.defined) p.kids
 
--- a mandatory node stands directly under a case: the node itself, where that is a case of its own
+-- a mandatory node is directly under a case: the node itself, where that is a case of its own
 abbrev pub is_needed_in : Option Tree → Bool
 is_needed_in None = false
-is_needed_in (Some (node l kids)) = if is_case l.defined.kind then has_mandatory kids else is_needed l (has_mandatory kids)
+is_needed_in (Some (node l kids)) =
+    if is_case l.defined.kind then has_mandatory kids else is_needed l (has_mandatory kids)
 
 -- a node of a kind may have no default of its own: a leaf or choice with `mandatory true`, and a
 -- leaf-list with an entry at least (RFC 7950, sections 7.6.4, 7.7.4 and 7.9.3)
@@ -70,7 +74,7 @@ forbids_default_as _ d = false
 abbrev pub is_overruled : Label → Bool
 is_overruled l = forbids_default_as l.defined.kind l.defined && is_some (own_default l.defined)
 
--- a choice whose default is no case of it, where `found` says that it is one
+-- a choice whose default isn't a case of it, where `found` says that it is one
 abbrev pub is_caseless : Label → (found : Bool) → Bool
 is_caseless l found = is_choice l.defined.kind && (is_some (own_default l.defined) && not found)
 
@@ -86,9 +90,10 @@ has_values _ = false
 abbrev pub is_illegible : Label → Bool
 is_illegible l =
     has_values l.defined.kind
-    && (not (l.is_key || l.defined.is_mandatory) && nat_lt (length (defaults_of l)) (length (defaults_said l.defined)))
+    && (not (l.is_key || l.defined.is_mandatory)
+    && nat_lt (length (defaults_of l)) (length (defaults_said l.defined)))
 
--- a node with more defaults of its own than are taken
+-- a node with more defaults of its own than it may have
 abbrev pub is_crowded : Label → Bool
 is_crowded l = nat_lt 1024 (length l.defined.own_defaults)
 
@@ -106,9 +111,10 @@ abbrev pub BadOfDefault : Place → Refusal → Type 0
 BadOfDefault p f =
     (Stands (is_overruled p.label ≡ true) (refusal_of code.BadMandatory p.label) f
     ⊎ Stands (is_needed_in (default_case p) ≡ true) (refusal_of code.BadMandatory p.label) f)
-    ⊎ (Stands (is_caseless p.label (is_some (default_case p)) ≡ true) (refusal_of code.BadDefault p.label) f
+    ⊎ (Stands (is_caseless p.label (is_some (default_case p)) ≡ true)
+    (refusal_of code.BadDefault p.label) f
     ⊎ Stands (has_unfit_default p.label ≡ true) (refusal_of code.BadDefault p.label) f)
 
--- f stands in a schema tree
+-- f is in a schema tree
 abbrev pub BadByDefault : Forest → Refusal → Type 0
 BadByDefault ts f = Among (places ts) (λ k. BadOfDefault) (length (places ts)) f

@@ -28,7 +28,7 @@ pub(crate) fn least_by_above(alloc: Global, nodes: &[Node]) -> Result<Option<Ref
     Ok(least)
 }
 
-// What is kept of the node of a number: the root's number is none of them.
+// What is kept of the node of a number: the root has no such number.
 fn ancestry_at(lineage: &[Ancestry], parent: NodeId) -> Ancestry
     ensures { result ≡ ancestry_at lineage.now parent }
 {
@@ -52,7 +52,7 @@ fn wrong_below(node: &Node, above: Ancestry, nearest: Option<&Node>) -> Option<R
     lesser(lesser(config, operation), lesser(keyless, misfit))
 }
 
-// `config true` below what is no configuration.
+// `config true` below what isn't a configuration.
 fn is_misconfigured(node: &Node, above: Ancestry, own: Ancestry) -> bool
     ensures { (p : Place) → node.now.label ≡ p.label → above ≡ ancestry_of p.above → own
         ≡ ancestry_of (line p)
@@ -82,7 +82,7 @@ fn lacks_key(node: &Node) -> bool
     is_keyless(node) && node.config()
 }
 
-// Whether an `if-feature` statement stands at a node.
+// Whether an `if-feature` statement is at a node.
 fn has_if_feature(node: &Node) -> bool
     ensures { result ≡ has_if_feature node.now.label }
 {

@@ -29,8 +29,8 @@ pub(crate) fn least_by_default(alloc: Global, nodes: &Nodes) -> Result<Option<Re
     Ok(least)
 }
 
-// Of each node whether a mandatory node stands directly under it. Children stand behind their
-// parents, so that they are known first.
+// Of each node whether a mandatory node is directly under it. Children come after their parents, so
+// that they are known first.
 fn mandatory_below(alloc: Global, nodes: &[Node]) -> Result<Vec<bool>, AllocError>
     ensures { (ts : Forest) → AreRows nodes.now ts
         → IfOk result (λ below. AreBelow ts below.items 0) }
@@ -43,7 +43,7 @@ fn mandatory_below(alloc: Global, nodes: &[Node]) -> Result<Vec<bool>, AllocErro
     Ok(below)
 }
 
-// Whether a mandatory node stands directly under the node of this number.
+// Whether a mandatory node is directly under the node of this number.
 fn kept_at(below: &[bool], number: NodeId) -> bool
     ensures { result ≡ kept_at below.now number }
 {
@@ -171,7 +171,7 @@ fn next_case(nodes: &Nodes, cases: &[Option<NodeId>], next: NodeId) -> Option<No
     default_case(nodes, nodes.get(next), kept_case(cases, first))
 }
 
-// Whether a mandatory node stands directly under a case.
+// Whether a mandatory node is directly under a case.
 fn is_undone(nodes: &[Node], below: &[bool], case: Option<NodeId>) -> bool
     ensures { result ≡ is_undone_at nodes.now below.now case }
 {
@@ -203,7 +203,7 @@ fn is_overruled(node: &Node) -> bool
     forbids_default(node) && node.own_default().is_some()
 }
 
-// A choice whose default is no case of it, where this says whether it is one.
+// A choice whose default isn't a case of it, where this says whether it is one.
 fn is_caseless(node: &Node, found: bool) -> bool
     ensures { result ≡ is_caseless node.now.label found }
 {
@@ -226,7 +226,7 @@ fn is_illegible(node: &Node) -> bool
             && node.defaults().len() < node.count_defaults_said())
 }
 
-// A node with more defaults of its own than are taken.
+// A node with more defaults of its own than it may have.
 fn is_crowded(node: &Node) -> bool
     ensures { result ≡ is_crowded node.now.label }
 {

@@ -17,12 +17,13 @@ pub record TextInFile : Type 0 where
   pub text : List ℕ
   pub file : ℕ
 
+-- the text in a file that a value of the code is
 abbrev pub written_of : WrittenText → TextInFile
 written_of w = record { text = rc_str_bytes w.text; file = w.file }
 
 -- what a statement says of the schema node that it defines: `file`, `offset` and `line` say where
--- its keyword stands. `keys` has the names of its `key` statement, each the one step of a path, and
--- `uniques` the paths of each `unique` statement. A step is None where its prefix stands for no
+-- its keyword is. `keys` has the names of its `key` statement, each the one step of a path, and
+-- `uniques` the paths of each `unique` statement. A step is None where its prefix refers to no
 -- module. `path` has the pieces of the path of its leafref, as it is written: nothing where its
 -- type isn't written as a leafref
 pub record Definition : Type 0 where
@@ -61,6 +62,7 @@ or_list (x ∷ xs) ys = x ∷ xs
 abbrev pub defaults_said : Definition → List TextInFile
 defaults_said d = or_list d.own_defaults (if d.min == 0 then option_to_list d.type_default else [])
 
+-- a path has no steps
 abbrev pub is_empty : List (Option Step) → Bool
 is_empty [] = true
 is_empty (step ∷ steps) = false
@@ -69,7 +71,7 @@ is_empty (step ∷ steps) = false
 abbrev pub paths_in : Vec (Vec (Option Step) Global) Global → List (List (Option Step))
 paths_in paths = map (λ path. path.items) paths.items
 
--- what stands where no statement says anything
+-- what is where no statement says anything
 abbrev pub blank : Definition
 blank = record {
   file = 0;

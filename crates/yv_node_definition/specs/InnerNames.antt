@@ -9,5 +9,8 @@ use Rattle.std.specs.declared.rc.RcStr.{RcStr}
 use Rattle.std.specs.declared.alloc.Global.{Global}
 
 -- a step is in the set
-abbrev pub has : BTreeSet (RcStr Global × Option ℕ) → (module_file : Option ℕ) → (name : List ℕ) → Bool
-has steps module_file name = contains_by (λ k. ordering_then (slice_cmp nat_cmp name (rc_str_bytes k.0)) (option_cmp nat_cmp module_file k.1)) steps
+abbrev pub has : BTreeSet (RcStr Global × Option ℕ) → (module_file : Option ℕ) → (name : List ℕ)
+    → Bool
+has steps module_file name =
+    contains_by (λ k. ordering_then (slice_cmp nat_cmp name (rc_str_bytes k.0))
+    (option_cmp nat_cmp module_file k.1)) steps

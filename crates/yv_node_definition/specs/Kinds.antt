@@ -26,18 +26,22 @@ is_data kind.Anydata = true
 is_data kind.Anyxml = true
 is_data _ = false
 
+-- a node is a list
 abbrev pub is_list : NodeKind → Bool
 is_list kind.List = true
 is_list _ = false
 
+-- a node is a leaf
 abbrev pub is_leaf : NodeKind → Bool
 is_leaf kind.Leaf = true
 is_leaf _ = false
 
+-- a node is a choice
 abbrev pub is_choice : NodeKind → Bool
 is_choice kind.Choice = true
 is_choice _ = false
 
+-- a node is a case
 abbrev pub is_case : NodeKind → Bool
 is_case kind.Case = true
 is_case _ = false

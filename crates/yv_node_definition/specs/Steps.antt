@@ -4,26 +4,27 @@ use Rattle.std.specs.Prelude.{ℕ, ◌==◌, ◌&&◌, Bool, true, false, List, 
 use Rattle.std.specs.List.{list_any}
 use Rattle.std.specs.Str.{bytes_eq}
 
--- a step of a path: the number of the file of the module for which its prefix stands, where it has
+-- a step of a path: the number of the file of the module to which its prefix refers, where it has
 -- one, and the name of the node
 pub record Step : Type 0 where
   pub module_file : Option ℕ
   pub name : List ℕ
 
 -- a piece of the path of a leafref as it is written, between two `/`: its prefix, where it has one,
--- the number of the file of the module for which that stands, if it stands for one, and the name
--- behind it (section 9.9.2)
+-- the number of the file of the module to which that refers, if it refers to one, and the name
+-- after it (section 9.9.2)
 pub record Piece : Type 0 where
   pub prefix : Option (List ℕ)
   pub module_file : Option ℕ
   pub name : List ℕ
 
+-- two steps name one module, or both name none
 abbrev pub is_module_file : Option ℕ → Option ℕ → Bool
 is_module_file None None = true
 is_module_file (Some a) (Some b) = a == b
 is_module_file _ _ = false
 
--- a step is written with this module, or without one, and this name; a step whose prefix stands for
+-- a step is written with this module, or without one, and this name; a step whose prefix refers to
 -- no module is none
 abbrev pub is_step : (module_file : Option ℕ) → (name : List ℕ) → Option Step → Bool
 is_step module_file name None = false

@@ -44,7 +44,7 @@ pub struct DefinitionDraft {
     pub keys: Rc<Keys>,
     /// The paths of each of its `unique` statements, in order.
     pub uniques: Rc<Vec<Vec<Vec<Option<PathStep>>>>>,
-    /// The arguments of its `default` statements, in order: one at most where it is no leaf-list.
+    /// The arguments of its `default` statements, in order: one at most where it isn't a leaf-list.
     pub own_defaults: RcSlice<WrittenText>,
     /// The default that its type has by its typedefs.
     pub type_default: Option<WrittenText>,
@@ -317,7 +317,7 @@ impl Definition {
     }
 
     /// The arguments of its `default` statements, and the files that contain them, in order: one at
-    /// most where it is no leaf-list.
+    /// most where it isn't a leaf-list.
     pub fn own_defaults(&self) -> &[WrittenText]
         ensures { map written_of result.now ≡ self.now.own_defaults }
     {
@@ -349,10 +349,12 @@ impl Definition {
         self.said.count_defaults_said()
     }
 
-    /// The values that its defaults give it: one at most where it is no leaf-list (RFC 7950,
+    /// The values that its defaults give it: one at most where it isn't a leaf-list (RFC 7950,
     /// sections 7.6.1 and 7.7.2).
     pub fn defaults(&self) -> &[Value]
+        // The values of its defaults.
         ensures value { result.now ≡ self.now.defaults }
+        // There are at most 1,024.
         ensures few { length result.now ≤ 1024 }
     {
         self.said.defaults.values()

@@ -14,8 +14,9 @@ use Rattle.yv_node_keys.specs.Refusals.{is_bad_key, is_bad_unique}
 abbrev pub BadOfLeafs : Place → Refusal → Type 0
 BadOfLeafs p f =
     Stands (is_bad_key (tree_in p) p.label.defined.keys ≡ true) (refusal_of code.BadKey p.label) f
-    ⊎ Stands (is_bad_unique (tree_in p) p.label.defined.uniques ≡ true) (refusal_of code.BadUnique p.label) f
+    ⊎ Stands (is_bad_unique (tree_in p) p.label.defined.uniques ≡ true)
+    (refusal_of code.BadUnique p.label) f
 
--- f stands in a schema tree
+-- f is in a schema tree
 abbrev pub BadLeafs : Forest → Refusal → Type 0
 BadLeafs ts f = Among (places ts) (λ k. BadOfLeafs) (length (places ts)) f

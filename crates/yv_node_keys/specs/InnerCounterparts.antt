@@ -7,12 +7,14 @@ use Rattle.yv_node_keys.specs.Numbers.{is_called_at, leaf_of}
 
 -- two nodes have one module and one name
 abbrev pub AreCalledAlike : List Row → NodeId → NodeId → Type 0
-AreCalledAlike rows one other = (module_file : ℕ) (name : List ℕ) → is_called_at rows module_file name one ≡ is_called_at rows module_file name other
+AreCalledAlike rows one other = (module_file : ℕ) (name : List ℕ)
+    → is_called_at rows module_file name one ≡ is_called_at rows module_file name other
 
 -- the nodes of two lists have, pair by pair
 pub data ArePairs (rows : List Row) : List NodeId → List NodeId → Type 0 where
   no_pairs : ArePairs rows [] []
-  pair : {x y : NodeId} {xs ys : List NodeId} → AreCalledAlike rows x y → ArePairs rows xs ys → ArePairs rows (x ∷ xs) (y ∷ ys)
+  pair : {x y : NodeId} {xs ys : List NodeId} → AreCalledAlike rows x y → ArePairs rows xs ys
+      → ArePairs rows (x ∷ xs) (y ∷ ys)
 
 -- the second of the first pair that begins with a node
 abbrev pub counterpart : NodeId → (ones others : List NodeId) → Option NodeId

@@ -11,4 +11,5 @@ use Rattle.yv_node_keys.specs.declared.names.ChildNames.{ChildNames}
 -- what is kept of a numbered node are the names of those directly below it
 abbrev pub AreKnown : List Row → BTreeMap ℕ ChildNames → Type 0
 AreKnown rows known =
-    (n : ℕ) (names : ChildNames) → get_by (nat_cmp n) known ≡ Some names → AreNames rows (children_at rows (node_id n)) (told_of names)
+    (n : ℕ) (names : ChildNames) → get_by (nat_cmp n) known ≡ Some names
+    → AreNames rows (children_at rows (node_id n)) (told_of names)

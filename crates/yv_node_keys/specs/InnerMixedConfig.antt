@@ -25,4 +25,5 @@ is_mixed_at rows ns = list_any (is_config_at rows true) ns && list_any (is_confi
 abbrev pub is_bad_statement_at : List Row → (list : NodeId) → List (List (Option Step)) → Bool
 is_bad_statement_at rows list paths =
     list_any (λ path. not (is_some (unique_leaf_at rows list path))) paths
-    || (list_any (λ path. is_config_of rows true (unique_leaf_at rows list path)) paths && list_any (λ path. is_config_of rows false (unique_leaf_at rows list path)) paths)
+    || (list_any (λ path. is_config_of rows true (unique_leaf_at rows list path)) paths
+    && list_any (λ path. is_config_of rows false (unique_leaf_at rows list path)) paths)

@@ -19,8 +19,10 @@ HaveName rows name (Some n) = HasName rows name n.0
 
 -- it has the name that the default of a choice says
 abbrev pub NamesDefault : List Row → (choice : ℕ) → Option NodeId → Type 0
-NamesDefault rows choice namesake = (written : TextInFile) → default_of (slice_get rows choice) ≡ Some written → HaveName rows written.text namesake
+NamesDefault rows choice namesake = (written : TextInFile)
+    → default_of (slice_get rows choice) ≡ Some written → HaveName rows written.text namesake
 
 -- the nodes at the places of names have these
 abbrev pub HaveNames : List Row → List (Option Step) → List NodeId → Type 0
-HaveNames rows keys namesakes = (i : ℕ) (s : Step) (n : NodeId) → slice_get keys i ≡ Some (Some s) → slice_get namesakes i ≡ Some n → HasName rows s.name n.0
+HaveNames rows keys namesakes = (i : ℕ) (s : Step) (n : NodeId) → slice_get keys i ≡ Some (Some s)
+    → slice_get namesakes i ≡ Some n → HasName rows s.name n.0

@@ -28,7 +28,8 @@ AreInside s (n ∷ ns) = IsInside s n × AreInside s ns
 -- so far from each other
 pub record IsMoved (rows : List Row) (s : Shift) (n : NodeId) : Type 0 where
   pub called : AreCalledAlike rows n (moved s.by n)
-  pub kinds : (test : NodeKind → Bool) → is_kind_at rows test n ≡ is_kind_at rows test (moved s.by n)
+  pub kinds : (test : NodeKind → Bool)
+      → is_kind_at rows test n ≡ is_kind_at rows test (moved s.by n)
   pub below : children_at rows (moved s.by n) ≡ map (moved s.by) (children_at rows n)
   pub inside : AreInside s (children_at rows n)
 

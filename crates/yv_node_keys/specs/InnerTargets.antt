@@ -27,8 +27,10 @@ uniques_in (Some leafs) = leafs.uniques.items
 
 -- these are the leafs that the numbered node names
 pub record AreLeafsOf (rows : List Row) (k : ℕ) (r : Row) (leafs : Option ListLeafs) : Type 0 where
-  pub keys : map (λ n. Some n) (keys_in leafs) ≡ map (key_leaf_at rows (node_id k)) r.label.defined.keys
-  pub uniques : map (λ ns. map (λ n. Some n) ns.items) (uniques_in leafs) ≡ map (map (unique_leaf_at rows (node_id k))) r.label.defined.uniques
+  pub keys : map (λ n. Some n) (keys_in leafs)
+      ≡ map (key_leaf_at rows (node_id k)) r.label.defined.keys
+  pub uniques : map (λ ns. map (λ n. Some n) ns.items) (uniques_in leafs)
+      ≡ map (map (unique_leaf_at rows (node_id k))) r.label.defined.uniques
 
 abbrev pub HasLeafs : List Row → ℕ → Option ListLeafs → Type 0
 HasLeafs rows k leafs = (r : Row) → slice_get rows k ≡ Some r → AreLeafsOf rows k r leafs
@@ -37,7 +39,8 @@ abbrev pub HasCase : List Row → ℕ → Option NodeId → Type 0
 HasCase rows k case = case ≡ default_case_at rows (node_id k)
 
 -- this is kept of the numbers before n, and nothing of those from it on
-pub record IsKeptUpTo {V : Type 0} (at : ℕ → Option V) (Holds : ℕ → Option V → Type 0) (n : ℕ) : Type 0 where
+pub record IsKeptUpTo {V : Type 0} (at : ℕ → Option V) (Holds : ℕ → Option V → Type 0)
+    (n : ℕ) : Type 0 where
   pub before : (k : ℕ) → k < n → Holds k (at k)
   pub behind : (k : ℕ) → n ≤ k → at k ≡ None
 

@@ -24,8 +24,10 @@ is_state_leaf (Some (node l kids)) = not l.is_config
 abbrev pub is_bad_statement : (list : Tree) → List (List (Option Step)) → Bool
 is_bad_statement list paths =
     list_any (λ path. not (is_some (unique_leaf list path))) paths
-    || (list_any (λ path. is_config_leaf (unique_leaf list path)) paths && list_any (λ path. is_state_leaf (unique_leaf list path)) paths)
+    || (list_any (λ path. is_config_leaf (unique_leaf list path)) paths
+    && list_any (λ path. is_state_leaf (unique_leaf list path)) paths)
 
 -- there are more than 64 statements, or one of them is bad
 abbrev pub is_bad_unique : (list : Tree) → List (List (List (Option Step))) → Bool
-is_bad_unique list statements = nat_lt 64 (length statements) || list_any (is_bad_statement list) statements
+is_bad_unique list statements =
+    nat_lt 64 (length statements) || list_any (is_bad_statement list) statements

@@ -18,7 +18,8 @@ module_file_of own s = unwrap_or s.module_file own
 -- the first of these trees whose node has this module and this name, whatever its kind
 abbrev pub child_named : (module_file : ℕ) → (name : List ℕ) → Forest → Option Tree
 child_named module_file name no_trees = None
-child_named module_file name (tree (node l kids) ts) = if is_called module_file name l then Some (node l kids) else child_named module_file name ts
+child_named module_file name (tree (node l kids) ts) =
+    if is_called module_file name l then Some (node l kids) else child_named module_file name ts
 
 -- the tree itself, where its node is a leaf
 abbrev pub leaf_in : Tree → Option Tree
@@ -38,8 +39,8 @@ pub data Waypoint : Type 0 where
   at_node : Tree → Waypoint
   at_shorthand_case : Tree → Waypoint
 
--- a node directly in a choice that is no case stands in a case of its name that is left out
--- (section 7.9.2)
+-- a node directly in a choice that isn't a case is in a case of its name that is left out (section
+-- 7.9.2)
 abbrev pub is_shorthand_case : (above below : Label) → Bool
 is_shorthand_case above below = is_choice above.defined.kind && not (is_case below.defined.kind)
 
@@ -47,19 +48,23 @@ is_shorthand_case above below = is_choice above.defined.kind && not (is_case bel
 -- through none and ends at none
 abbrev pub arrive : (above : Label) → (below : Tree) → Option Waypoint
 arrive above (node l kids) =
-    if is_list l.defined.kind then None else Some (if is_shorthand_case above l then at_shorthand_case (node l kids) else at_node (node l kids))
+    if is_list l.defined.kind then None
+    else Some (if is_shorthand_case above l then at_shorthand_case (node l kids)
+    else at_node (node l kids))
 
 -- where a step to this module and this name leads
 abbrev pub step_to : (module_file : ℕ) → (name : List ℕ) → Waypoint → Option Waypoint
-step_to module_file name (at_node (node l kids)) = option_and_then (arrive l) (child_named module_file name kids)
-step_to module_file name (at_shorthand_case (node l kids)) = if is_called module_file name l then Some (at_node (node l kids)) else None
+step_to module_file name (at_node (node l kids)) =
+    option_and_then (arrive l) (child_named module_file name kids)
+step_to module_file name (at_shorthand_case (node l kids)) =
+    if is_called module_file name l then Some (at_node (node l kids)) else None
 
 -- the leaf at which a path has arrived: a case that is left out is none
 abbrev pub leaf_at_end : Waypoint → Option Tree
 leaf_at_end (at_node t) = leaf_in t
 leaf_at_end (at_shorthand_case t) = None
 
--- where a step leads: one whose prefix stands for no module leads nowhere
+-- where a step leads: one whose prefix refers to no module leads nowhere
 abbrev pub follow_step : (own : ℕ) → Option Step → Waypoint → Option Waypoint
 follow_step own None w = None
 follow_step own (Some s) w = step_to (module_file_of own s) s.name w
@@ -74,6 +79,7 @@ abbrev pub unique_leaf : (list : Tree) → List (Option Step) → Option Tree
 unique_leaf list [] = None
 unique_leaf (node l kids) (s ∷ ss) = leaf_at l.module_file (s ∷ ss) (at_node (node l kids))
 
+-- the child that a text names, if there is a text
 abbrev pub child_of_text : (module_file : ℕ) → Option TextInFile → Forest → Option Tree
 child_of_text module_file None ts = None
 child_of_text module_file (Some written) ts = child_named module_file written.text ts
@@ -81,4 +87,5 @@ child_of_text module_file (Some written) ts = child_named module_file written.te
 -- the default case of a choice: a case, or a node that is a case of its own, of the choice's own
 -- module (section 7.9.3)
 abbrev pub default_case : (choice : Tree) → Option Tree
-default_case (node l kids) = if is_choice l.defined.kind then child_of_text l.module_file (own_default l.defined) kids else None
+default_case (node l kids) = if is_choice l.defined.kind
+    then child_of_text l.module_file (own_default l.defined) kids else None

@@ -12,7 +12,7 @@ use std::alloc::{AllocError, Global};
 use yv_node_definition::PathStep;
 use yv_nodes::{Node, NodeId, Nodes};
 
-/// Up to how many names of a key are sought among the nodes one by one.
+/// Up to how many names of a key are looked up among the nodes one by one.
 pub(crate) const FEW: usize = 4;
 
 // The names of the nodes directly below a list. None are kept for a key of few names: to put them
@@ -168,9 +168,11 @@ pub fn key_leafs<'n>(
     list: NodeId,
     keys: &'n [Option<PathStep>],
 ) -> Result<Option<Vec<NodeId>>, AllocError>
+    // None exactly if one of the names does not name a leaf directly below the list.
     ensures refuses { (ts : Forest) → nodes.now.rows ≡ rows_from 0 ts → (p : Place)
         → slice_get (places ts) list.0 ≡ Some p
         → IfOk result (λ leafs. is_some leafs ≡ not (is_bad_key (tree_in p) keys.now)) }
+    // Otherwise the leafs that the names name, in order.
     ensures numbers { IfOk result (λ leafs. IfSome leafs (λ numbers.
         map (λ n. Some n) numbers.items ≡ map (key_leaf_at nodes.now.rows list) keys.now)) }
 {

@@ -210,8 +210,11 @@ fn keep_case(
 /// configuration (RFC 7950, sections 7.8.2, 7.8.3 and 7.9.3). It takes time n log n in the names of
 /// the nodes and the steps of all lists. Err only if memory runs out.
 pub fn leaf_targets(alloc: Global, nodes: &Nodes) -> Result<FoundTargets, AllocError>
+    // If nothing is refused, the leafs that keys and `unique` statements name, and the default
+    // cases of choices.
     ensures targets { IfOk result
         (λ found. found.fault ≡ None → AreLeafTargets nodes.now.rows found.targets) }
+    // The least `BadKey` or `BadUnique` in the tree with these rows, or none.
     ensures fault { (ts : Forest) → nodes.now.rows ≡ rows_from 0 ts
         → IfOk result (λ found. IsLeast (BadLeafs ts) found.fault) }
 {

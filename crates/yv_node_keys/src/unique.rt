@@ -187,10 +187,13 @@ pub fn unique_leafs<'n>(
     list: NodeId,
     statements: &'n [Vec<Vec<Option<PathStep>>>],
 ) -> Result<Option<Vec<Vec<NodeId>>>, AllocError>
+    // None exactly if there are more than 64 statements, a path of one leads to no leaf, or the
+    // leafs of one are partly configuration and partly not.
     ensures refuses { (ts : Forest) → nodes.now.rows ≡ rows_from 0 ts → (p : Place)
         → slice_get (places ts) list.0 ≡ Some p
         → IfOk result
         (λ leafs. is_some leafs ≡ not (is_bad_unique (tree_in p) (map paths_in statements.now))) }
+    // Otherwise the leafs that the paths of each statement name, in order.
     ensures numbers { IfOk result (λ leafs. IfSome leafs (λ found.
         map (λ numbers. map (λ n. Some n) numbers.items) found.items
         ≡ map (map (unique_leaf_at nodes.now.rows list)) (map paths_in statements.now))) }

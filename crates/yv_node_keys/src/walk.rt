@@ -52,7 +52,7 @@ fn step_to<'n>(
     }
 }
 
-// Where a step leads, whose prefix may stand for no module.
+// Where a step leads; its prefix may refer to no module.
 fn follow_step<'n>(
     alloc: Global,
     index: &mut Index<'n>,

@@ -21,6 +21,6 @@ BadLeafref s n r f =
     Stands (IsLost s n r) (refusal_of code.BadPath r.label) f
     ⊎ Stands (LeadsTo s n n) (refusal_of code.PathCycle r.label) f
 
--- f stands in a schema tree
+-- f is in a schema tree
 abbrev pub BadLeafrefs : Schema → Refusal → Type 0
 BadLeafrefs s f = Among s.rows (BadLeafref s) (length s.rows) f

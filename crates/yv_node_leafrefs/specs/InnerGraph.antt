@@ -8,7 +8,8 @@ use Rattle.yv_node_leafrefs.specs.Targets.{IsLeafref, RefersTo, LeadsTo}
 
 -- the targets of nodes, none where a node refers to none
 abbrev pub AreTargets : Schema → List (Option ℕ) → Type 0
-AreTargets s targets = (n target : ℕ) → (slice_index_or targets n None ≡ Some target) ↔ RefersTo s n target
+AreTargets s targets =
+    (n target : ℕ) → (slice_index_or targets n None ≡ Some target) ↔ RefersTo s n target
 
 -- a node for each row, and an edge from each leafref to its target
 pub record AreSteps (s : Schema) (g : Graph) : Type 0 where
@@ -26,15 +27,17 @@ IsOne s n = (row : Row) × (ref : Referral) × IsLeafref s n row ref
 
 -- the first n nodes have an edge to their target each, and no other
 abbrev pub AreEdges : List (Option ℕ) → ℕ → Graph → Type 0
-AreEdges targets n g = (length g ≡ n) × ((a b : ℕ) → a < n → HasEdge g a b ↔ (slice_index_or targets a None ≡ Some b))
+AreEdges targets n g =
+    (length g ≡ n) × ((a b : ℕ) → a < n → HasEdge g a b ↔ (slice_index_or targets a None ≡ Some b))
 
 -- one of the first n of these is x
 abbrev pub IsVisited : List ℕ → ℕ → ℕ → Type 0
 IsVisited order n x = (k : ℕ) × (k < n) × (k < length order) × (slice_index order k ≡ x)
 
--- each node stands behind its target
+-- each node comes after its target
 abbrev pub IsBehind : List (Option ℕ) → List ℕ → Type 0
-IsBehind targets order = (i b : ℕ) → i < length order → slice_index_or targets (slice_index order i) None ≡ Some b → IsVisited order i b
+IsBehind targets order = (i b : ℕ) → i < length order
+    → slice_index_or targets (slice_index order i) None ≡ Some b → IsVisited order i b
 
 -- the node whose types a node has, where that is known of its target
 abbrev pub origin_of : Option ℕ → ℕ → List ℕ → ℕ

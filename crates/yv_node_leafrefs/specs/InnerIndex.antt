@@ -28,7 +28,9 @@ abbrev pub Table : Type 0
 Table = Key → Option ℕ
 
 abbrev pub lookup_in : BTreeMap Key ℕ → Table
-lookup_in m key = get_by (λ k. ordering_then (ordering_then (nat_cmp key.0 k.0) (nat_cmp key.1 k.1)) (nat_cmp key.2 k.2)) m
+lookup_in m key = get_by
+    (λ k. ordering_then (ordering_then (nat_cmp key.0 k.0) (nat_cmp key.1 k.1)) (nat_cmp key.2 k.2))
+    m
 
 abbrev pub table_of : Index → Table
 table_of index = lookup_in index.map
@@ -51,7 +53,8 @@ IsFirstOf keys n k (Some c) = (c < n) × HasKey keys k c × ((d : ℕ) → HasKe
 
 -- the key by which a data node is found below the place above it
 abbrev pub data_key : Option ℕ → Row → (name : ℕ) → Option Key
-data_key a r name = if is_data r.label.defined.kind then Some (rank_of a, r.label.module_file, name) else None
+data_key a r name =
+    if is_data r.label.defined.kind then Some (rank_of a, r.label.module_file, name) else None
 
 -- the keys of the first n nodes
 abbrev pub AreKeys : List Row → List (Option ℕ) → List ℕ → ℕ → List (Option Key) → Type 0
@@ -68,7 +71,8 @@ target_of_stride table own a (Some s) = table (rank_of a, unwrap_or s.module_fil
 -- a table finds what steps mean
 abbrev pub Finds : List Row → NameNumbers → Table → Type 0
 Finds rows told table =
-    (own : ℕ) (a : Option ℕ) (s : Option Step) (c : ℕ) → (target_of_stride table own a (stride_of told s) ≡ Some c) ↔ Means rows own a s c
+    (own : ℕ) (a : Option ℕ) (s : Option Step) (c : ℕ)
+    → (target_of_stride table own a (stride_of told s) ≡ Some c) ↔ Means rows own a s c
 
 -- what has been read of nodes and leafrefs
 pub record IsDraft (o : Outline) (d : Draft) : Type 0 where
@@ -77,5 +81,6 @@ pub record IsDraft (o : Outline) (d : Draft) : Type 0 where
   pub above : AreAbove (rows_in o) (length (rows_in o)) d.above.items
   pub each_inside : length d.inside.items ≡ length (rows_in o)
   pub inside : AreInside (rows_in o) (length (rows_in o)) d.inside.items
-  pub strides : map (λ strides. strides.items) d.strides.items ≡ map (λ ref. map (stride_of (told_of d.names)) ref.steps) (leafrefs_in o)
+  pub strides : map (λ strides. strides.items) d.strides.items
+      ≡ map (λ ref. map (stride_of (told_of d.names)) ref.steps) (leafrefs_in o)
   pub found : Finds (rows_in o) (told_of d.names) (table_of d.index)

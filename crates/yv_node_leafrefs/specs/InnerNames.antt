@@ -37,26 +37,31 @@ keep_first told name number n = first_some (told n) (if bytes_eq name n then Som
 -- each number is that of a node of this name among the first n
 abbrev pub AreOfNodes : List Row → ℕ → NameNumbers → Type 0
 AreOfNodes rows n told =
-    (name : List ℕ) (k : ℕ) → told name ≡ Some k → (k < n) × (r : Row) × (slice_get rows k ≡ Some r) × (r.label.defined.name ≡ name)
+    (name : List ℕ) (k : ℕ) → told name ≡ Some k → (k < n) × (r : Row) × (slice_get rows k ≡ Some r)
+    × (r.label.defined.name ≡ name)
 
 -- these are the numbers of the names of the first n nodes
 abbrev pub AreNumbers : List Row → ℕ → NameNumbers → List ℕ → Type 0
 AreNumbers rows n told numbers =
-    (c : ℕ) (r : Row) → c < n → slice_get rows c ≡ Some r → told r.label.defined.name ≡ Some (slice_index_or numbers c 0)
+    (c : ℕ) (r : Row) → c < n → slice_get rows c ≡ Some r
+    → told r.label.defined.name ≡ Some (slice_index_or numbers c 0)
 
 -- the number that a statement is given is that of the name of one of its nodes
 abbrev pub AreGiven : List Row → (statements : List ℕ) → NameNumbers → (ℕ → Option ℕ) → Type 0
 AreGiven rows statements told given =
-    (s k : ℕ) → given s ≡ Some k → (c : ℕ) × (r : Row) × (slice_get statements c ≡ Some s) × (slice_get rows c ≡ Some r)
+    (s k : ℕ) → given s ≡ Some k → (c : ℕ) × (r : Row) × (slice_get statements c ≡ Some s)
+    × (slice_get rows c ≡ Some r)
     × (told r.label.defined.name ≡ Some k)
 
 -- what is known once the names of the first n nodes are numbered
-pub record AreNumbered (rows : List Row) (statements : List ℕ) (n : ℕ) (names : NameTable) : Type 0 where
+pub record AreNumbered (rows : List Row) (statements : List ℕ) (n : ℕ)
+    (names : NameTable) : Type 0 where
   pub told : AreOfNodes rows n (told_of names)
   pub given : AreGiven rows statements (told_of names) (given_to names)
 
 abbrev pub stride_with : Option ℕ → Option ℕ → Option Stride
-stride_with module_file number = option_map (λ name. record { module_file = module_file; name = name }) number
+stride_with module_file number =
+    option_map (λ name. record { module_file = module_file; name = name }) number
 
 -- a step with the number of its name: None too where no node has that
 abbrev pub stride_of : NameNumbers → Option Step → Option Stride

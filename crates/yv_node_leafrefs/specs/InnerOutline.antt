@@ -17,8 +17,10 @@ schema_in o = record { rows = o.nodes.now; says = leafref_of_row o.of.now o.leaf
 
 -- for each of the first nodes the place above it
 abbrev pub AreAbove : List Row → ℕ → List (Option ℕ) → Type 0
-AreAbove rows n above = (c : ℕ) (r : Row) → c < n → slice_get rows c ≡ Some r → Closest rows (parent_of r) (slice_index_or above c None)
+AreAbove rows n above = (c : ℕ) (r : Row) → c < n → slice_get rows c ≡ Some r
+    → Closest rows (parent_of r) (slice_index_or above c None)
 
--- for each of the first nodes whether it stands inside an operation or a notification
+-- for each of the first nodes whether it is inside an operation or a notification
 abbrev pub AreInside : List Row → ℕ → List Bool → Type 0
-AreInside rows n inside = (c : ℕ) → c < n → (slice_index_or inside c false ≡ true) ↔ IsInside rows (Some c)
+AreInside rows n inside =
+    (c : ℕ) → c < n → (slice_index_or inside c false ≡ true) ↔ IsInside rows (Some c)

@@ -11,5 +11,6 @@ use Rattle.yv_node_leafrefs.specs.declared.leafrefs.Leafrefs.{Leafrefs}
 pub record AreLeafrefs (s : Schema) (l : Leafrefs) : Type 0 where
   pub few : length s.rows < 2 ^ 32
   pub each : length l.targets.items ≡ length s.rows
-  pub exact : (n target : ℕ) → (slice_index_or l.targets.items n None ≡ Some target) ↔ RefersTo s n target
+  pub exact : (n target : ℕ) → (slice_index_or l.targets.items n None ≡ Some target)
+      ↔ RefersTo s n target
   pub wrong : IsLeast (BadLeafrefs s) l.fault

@@ -27,15 +27,18 @@ AreInner rows cs = (i c : ℕ) → i + 1 < length cs → slice_get cs i ≡ Some
 
 -- the steps of a path lead down from a place to another over these data nodes: each step means one
 -- of them, in order
-abbrev pub LeadsOver : List Row → (own : ℕ) → List (Option Step) → List ℕ → Option ℕ → Option ℕ → Type 0
+abbrev pub LeadsOver : List Row → (own : ℕ) → List (Option Step) → List ℕ → Option ℕ → Option ℕ
+    → Type 0
 LeadsOver rows own [] [] a b = a ≡ b
 LeadsOver rows own [] (c ∷ cs) a b = ⊥
 LeadsOver rows own (s ∷ ss) [] a b = ⊥
-LeadsOver rows own (s ∷ ss) (c ∷ cs) a b = Means rows own a s c × LeadsOver rows own ss cs (Some c) b
+LeadsOver rows own (s ∷ ss) (c ∷ cs) a b =
+    Means rows own a s c × LeadsOver rows own ss cs (Some c) b
 
 -- only containers and lists have data nodes below them, choices and cases being passed over
 abbrev pub OnlyInnerHold : List Row → Type 0
-OnlyInnerHold rows = (p c module_file : ℕ) (name : List ℕ) (r : Row) → slice_get rows p ≡ Some r → is_data r.label.defined.kind ≡ true
+OnlyInnerHold rows = (p c module_file : ℕ) (name : List ℕ) (r : Row) → slice_get rows p ≡ Some r
+    → is_data r.label.defined.kind ≡ true
     → IsDataChild rows (Some p) module_file name c → is_inner r.label.defined.kind ≡ true
 
 -- this is the link of the leafref n: it refers to the target, and its path is absolute or begins
@@ -45,7 +48,8 @@ pub record IsLinkOf (s : Schema) (n : ℕ) (link : Link) : Type 0 where
   pub refers : RefersTo s n link.target
   pub climbs : link.climbs ≡ refers.ref.climbs
   pub begins : link.climbs ≢ Some 0
-  pub way : LeadsOver s.rows refers.row.label.module_file refers.ref.steps link.steps refers.start (Some link.target)
+  pub way : LeadsOver s.rows refers.row.label.module_file refers.ref.steps link.steps refers.start
+      (Some link.target)
   pub inner : AreInner s.rows link.steps
   pub is_required : link.is_required ≡ refers.ref.is_required
 

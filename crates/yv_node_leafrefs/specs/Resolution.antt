@@ -17,8 +17,9 @@ pub record IsResolved (s : Schema) (stated resolved : Forest) : Type 0 where
   pub each : (n : ℕ) → n < length s.rows → HasTypesOf s n (origin n)
   pub is : resolved ≡ typed_from (λ n. types_at s.rows (origin n)) 0 stated
 
--- the tree that a schema comes to: with its leafrefs resolved where nothing is wrong with them, and
+-- the tree of a schema: with its leafrefs resolved where nothing is wrong with them, and
 -- else as it is stated, since it is refused
 pub data IsTyped (s : Schema) (stated : Forest) : Forest → Type 0 where
-  with_targets : {tree : Forest} → IsLeast (BadLeafrefs s) None → IsResolved s stated tree → IsTyped s stated tree
+  with_targets : {tree : Forest} → IsLeast (BadLeafrefs s) None → IsResolved s stated tree
+      → IsTyped s stated tree
   with_refusal : {f : Refusal} → BadLeafrefs s f → IsTyped s stated stated

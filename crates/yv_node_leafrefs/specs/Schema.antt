@@ -6,7 +6,7 @@ use Rattle.yv_node_definition.specs.Steps.{Step}
 use Rattle.yv_nodes.specs.Rows.{Row}
 
 -- what the type of a leafref says: the number of `../` at the front of its path, none where that is
--- absolute, the names behind, of which one is None where its prefix stands for no module, and what
+-- absolute, the names after, of which one is None where its prefix refers to no module, and what
 -- `require-instance` says
 pub record Referral : Type 0 where
   pub climbs : Option ℕ
@@ -20,7 +20,8 @@ pub record Schema : Type 0 where
 
 -- what is said where copies of a node share it: for each row its number among these, if the row is
 -- a leafref
-abbrev pub leafref_of_row : (of : List (Option ℕ)) → (leafrefs : List Referral) → ℕ → Option Referral
+abbrev pub leafref_of_row : (of : List (Option ℕ)) → (leafrefs : List Referral) → ℕ
+    → Option Referral
 leafref_of_row of leafrefs n = option_and_then (slice_get leafrefs) (slice_index_or of n None)
 
 -- two schemas with the same rows, which say the same

@@ -22,7 +22,9 @@ pub record IsLeafref (s : Schema) (n : ℕ) (row : Row) (ref : Referral) : Type 
 -- a node may be the target of a leafref: it has values, and where an instance is required that of
 -- configuration is configuration
 abbrev pub is_fit : (row : Row) → Referral → (target : Row) → Bool
-is_fit row ref target = has_values target.label.defined.kind && (not (ref.is_required && row.label.is_config) || target.label.is_config)
+is_fit row ref target =
+    has_values target.label.defined.kind
+    && (not (ref.is_required && row.label.is_config) || target.label.is_config)
 
 -- the leafref refers to the target
 pub record RefersTo (s : Schema) (n target : ℕ) : Type 0 where

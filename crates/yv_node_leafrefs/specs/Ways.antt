@@ -18,7 +18,7 @@ Begins rows n (Some climbs) a = Climbs rows climbs (Some n) a
 
 -- c is the node that a step means below a place: of the data nodes there the first of its module
 -- and its name. A name without prefix is of the module of the node that has the path, and one whose
--- prefix stands for no module means none
+-- prefix refers to no module means none
 abbrev pub Means : List Row → (own : ℕ) → Option ℕ → Option Step → ℕ → Type 0
 Means rows own a None c = ⊥
 Means rows own a (Some s) c = IsFirst (IsDataChild rows a (unwrap_or s.module_file own) s.name) c

@@ -61,9 +61,13 @@ pub fn links(
     leafrefs: &[Leafref],
     resolved: &Leafrefs,
 ) -> Result<Links, AllocError>
+    // Each node comes after the one above it.
     requires behind { AreBehind nodes.now.rows }
+    // What is resolved is that of these nodes and leafrefs.
     requires resolves { AreLeafrefs
         (record { rows = nodes.now.rows; says = leafref_of_row of.now leafrefs.now }) resolved.now }
+    // For each node the link of its leafref: how often its path climbs, the data node that each
+    // step means, the target, and whether it requires an instance; none for other nodes.
     ensures { IfOk result
         (AreLinks (record { rows = nodes.now.rows; says = leafref_of_row of.now leafrefs.now })) }
 {

@@ -41,7 +41,7 @@ pub(crate) fn cycles(alloc: Global, targets: &[Option<u32>]) -> Result<Vec<bool>
     Ok(marks)
 }
 
-// The order in which types are found: each node behind its target.
+// The order in which types are found: each node after its target.
 fn order(alloc: Global, targets: &[Option<u32>]) -> Result<Vec<usize>, AllocError>
     requires { (s : Schema) × (length targets.now ≡ length s.rows) × AreTargets s targets.now
         × ((n : ℕ) → LeadsTo s n n → ⊥) }

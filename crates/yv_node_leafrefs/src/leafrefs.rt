@@ -66,8 +66,11 @@ impl Leafrefs {
         of: &[Option<usize>],
         leafrefs: &[Leafref],
     ) -> Result<Leafrefs, AllocError>
+        // Each node comes after the one above it.
         requires behind { AreBehind nodes.now.rows }
+        // Nodes of one statement have one name.
         requires names { AreNamed nodes.now.rows statements.now }
+        // What is read is that of these nodes.
         ensures { IfOk result
             (AreLeafrefs
             (record { rows = nodes.now.rows; says = leafref_of_row of.now leafrefs.now })) }
@@ -108,9 +111,13 @@ impl Leafrefs {
     /// For each node the one whose types its values have: itself, or the node at the end of a chain
     /// of leafrefs. It takes time linear in the nodes, and nothing recurses along a chain.
     pub fn origins(&self, alloc: Global) -> Result<Vec<NodeId>, AllocError>
+        // Nothing is refused of the leafrefs that were read.
         requires { (s : Schema) × AreLeafrefs s self.now × IsLeast (BadLeafrefs s) None }
+        // There is a number for each node.
         ensures each { (s : Schema) → AreLeafrefs s self.now
             → IfOk result (λ origins. length origins.items ≡ length s.rows) }
+        // It is the node whose types the node's values have: itself, or the one at the end of a
+        // chain.
         ensures types { (s : Schema) → AreLeafrefs s self.now
             → IfOk result
             (λ origins. (n : ℕ) (e : NodeId) → slice_get origins.items n ≡ Some e
@@ -125,12 +132,17 @@ impl Leafrefs {
     /// wrong with leafrefs (RFC 7950, section 9.9): else the nodes stay as they are. It takes time
     /// linear in the nodes. Err only if memory runs out.
     pub fn resolve(&self, alloc: Global, nodes: &mut Nodes) -> Result<(), AllocError>
+        // The leafrefs were read from these nodes.
         requires { (s : Schema) × AreLeafrefs s self.now × (s.rows ≡ nodes.old.rows) }
+        // The nodes are those of the resulting tree: with its leafrefs resolved if nothing is
+        // refused, and otherwise as it was.
         ensures types { (s : Schema) (stated : Forest) → AreLeafrefs s self.now → s.rows
             ≡ nodes.old.rows → s.rows ≡ rows_from 0 stated
             → OnOk result
             ((tree : Forest) × IsTyped s stated tree × (nodes.new.rows ≡ rows_from 0 tree)) }
+        // The limit stays.
         ensures limit { nodes.new.limit ≡ nodes.old.limit }
+        // After an error the nodes are as before.
         ensures keeps { IfErr result (λ error. nodes.new.rows ≡ nodes.old.rows) }
     {
         match self.fault {

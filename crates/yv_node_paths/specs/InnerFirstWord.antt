@@ -6,9 +6,10 @@ use Rattle.yv_link_scopes.specs.Files.{Files}
 use Rattle.yv_node_definition.specs.Steps.{Step}
 use Rattle.yv_node_paths.specs.Steps.{path_of, step_of}
 
--- what stands before the first blank, and what stands behind it
+-- what comes before the first blank, and what comes after it
 abbrev pub first_word : List ℕ → Option (List ℕ × List ℕ)
-first_word text = if nat_lt (position_or_len is_blank text) (length text) then Some (before_first is_blank text, after_first is_blank text) else None
+first_word text = if nat_lt (position_or_len is_blank text) (length text)
+    then Some (before_first is_blank text, after_first is_blank text) else None
 
 -- the paths of a text without blanks: an empty one is none
 abbrev pub path_in : Files → (file : ℕ) → List ℕ → List (List (Option Step))

@@ -13,6 +13,7 @@ abbrev pub is_absolute : List ℕ → Bool
 is_absolute [] = false
 is_absolute (b ∷ bs) = b == 47
 
+-- a piece of a path is `..`
 abbrev pub is_up : List ℕ → Bool
 is_up piece = bytes_eq piece (codes "..")
 
@@ -20,7 +21,7 @@ is_up piece = bytes_eq piece (codes "..")
 abbrev pub ups_of : List ℕ → ℕ
 ups_of text = prefix_len is_up (texts_of text)
 
--- the pieces behind these, which are names
+-- the pieces after these, which are names
 abbrev pub names_behind : List ℕ → List (List ℕ)
 names_behind text = drop (ups_of text) (texts_of text)
 
@@ -28,15 +29,20 @@ names_behind text = drop (ups_of text) (texts_of text)
 abbrev pub climbs_of : List ℕ → Option ℕ
 climbs_of text = if is_absolute text then None else Some (ups_of text)
 
--- the steps by its names: those behind the '/' at its front where it is absolute, else those behind
+-- the steps by its names: those after the '/' at its front where it is absolute, else those after
 -- the `..`
 abbrev pub steps_in : Files → (file : ℕ) → List ℕ → List (Option Step)
-steps_in files file text = if is_absolute text then path_of files file (drop 1 text) else map (step_of files file) (names_behind text)
+steps_in files file text = if is_absolute text then path_of files file (drop 1 text)
+    else map (step_of files file) (names_behind text)
 
--- a piece of a path as it is written in a file: what stands between two '/'
+-- a piece of a path as it is written in a file: what is between two '/'
 abbrev pub piece_of : Files → (file : ℕ) → List ℕ → Piece
 piece_of files file text =
-    record { prefix = prefix_of text; module_file = option_and_then (module_file_of files file) (prefix_of text); name = local_of text }
+    record {
+      prefix = prefix_of text;
+      module_file = option_and_then (module_file_of files file) (prefix_of text);
+      name = local_of text;
+    }
 
 -- the pieces of a path
 abbrev pub pieces_of : Files → (file : ℕ) → List ℕ → List Piece

@@ -142,7 +142,9 @@ impl<'a> LeafPaths<'a> {
         file: usize,
         text: &'a str,
     ) -> Result<LeafrefPath, AllocError>
+        // How many `..` a leafref's path begins with; none if it is absolute.
         ensures climbs { IfOk result (λ path. path.climbs ≡ climbs_of text.now) }
+        // The steps of the path, each with its module.
         ensures steps { (files : Files) → AreLeafPaths files self.now
             → IfOk result (λ path. path.steps.items ≡ steps_in files file text.now) }
     {

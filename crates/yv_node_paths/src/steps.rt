@@ -18,7 +18,7 @@ fn bare_step(alloc: Global, name: &str) -> Result<PathStep, AllocError>
     })
 }
 
-// A step whose prefix stands for a module, if it does.
+// A step whose prefix refers to a module, if it does.
 fn step_in(
     alloc: Global,
     module_file: Option<u32>,

@@ -20,7 +20,7 @@ stated_of said = record {
 abbrev pub silent : Substatements
 silent keyword = None
 
--- what is said later stands in place of what was said before (section 7.13.2)
+-- what is said later replaces what was said before (section 7.13.2)
 abbrev pub over : (later earlier : StatedProperties) → StatedProperties
 over later earlier = record {
   config = option_or later.config earlier.config;

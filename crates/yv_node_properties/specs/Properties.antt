@@ -42,8 +42,8 @@ defaults_of file t = map (written_in file) (filter (is_of word.Default) (trees t
 abbrev pub defaults_at : Files → ℕ → List TextInFile
 defaults_at files number = defaults_of (file_at files number) (statement_at files number)
 
--- the defaults that the last of these numbered statements gives that gives some: they stand in
--- place of all earlier ones
+-- the defaults that the last of these numbered statements gives that gives some: they replace all
+-- earlier ones
 abbrev pub last_defaults : Files → List ℕ → List TextInFile
 last_defaults files [] = []
 last_defaults files (n ∷ ns) = or_list (last_defaults files ns) (defaults_at files n)
@@ -54,6 +54,7 @@ statements_of_origin (origin.Statement number) = number ∷ []
 statements_of_origin (origin.Input number) = []
 statements_of_origin (origin.Output number) = []
 
+-- a text is `true`
 abbrev pub is_true : TextInFile → Bool
 is_true w = bytes_eq w.text (codes "true")
 

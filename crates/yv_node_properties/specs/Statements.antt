@@ -25,10 +25,11 @@ argument_of (Some t) = name_of t.head
 abbrev pub arguments_among : Keyword → List Tree → List (List ℕ)
 arguments_among keyword ts = map (λ t. name_of t.head) (filter (is_of keyword) ts)
 
--- what stands where there is no statement
+-- what is where there is no statement
 abbrev pub no_head : Head
 no_head = record { keyword = []; argument = None; line = 0; offset = 0 }
 
+-- a statement without keyword and block, for a number that none has
 abbrev pub no_statement : Tree
 no_statement = record { head = no_head; children = End }
 
@@ -36,6 +37,7 @@ no_statement = record { head = no_head; children = End }
 abbrev pub statement_at : Files → ℕ → Tree
 statement_at files number = slice_index_or (statements_of files) number no_statement
 
--- the file in which it stands
+-- the file in which it is
 abbrev pub file_at : Files → ℕ → ℕ
-file_at files number = let none : Row = record { file = 0; scope = 0; head = no_head } in (slice_index_or (rows_of files) number none).file
+file_at files number = let none : Row = record { file = 0; scope = 0; head = no_head }
+    in (slice_index_or (rows_of files) number none).file

@@ -10,7 +10,7 @@ use Rattle.yv_node_statements.specs.Definitions.{types_at, types_in}
 use Rattle.yv_node_properties.specs.Statements.{first_of}
 
 module _ (kinds : Kinds) (file : ℕ) where
-  -- the types that a statement stands for; none, where there is no statement
+  -- the types that a statement means; none, where there is no statement
   abbrev pub types_found : Option Tree → List Plain
   types_found None = []
   types_found (Some t) = kinds file t.head.offset

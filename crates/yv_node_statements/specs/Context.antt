@@ -8,6 +8,6 @@ use Rattle.yv_node_statements.specs.declared.definitions.Definitions.{Definition
 abbrev pub files_in : Definitions → Files
 files_in definitions = lent_in definitions.rows.now
 
--- what their `type` statements stand for
+-- what their `type` statements mean
 abbrev pub typing_in : Definitions → TypeMeanings
 typing_in definitions = typing_of definitions.types.now

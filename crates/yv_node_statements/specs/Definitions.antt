@@ -54,16 +54,17 @@ node_name kind.Input argument = codes "input"
 node_name kind.Output argument = codes "output"
 node_name _ argument = argument
 
--- the types of a block, where a statement of this keyword stands before those that name these
+-- the types of a block, where a statement of this keyword comes before those that name these
 abbrev pub types_at : Kinds → ℕ → Keyword → Head → List Plain → List Plain
 types_at kinds file word.Type h others = kinds file h.offset
 types_at kinds file _ h others = others
 
--- the types that the `type` statement of a block of a file stands for; it is the first, where there
+-- what the `type` statement of a block of a file means; it is the first, where there
 -- are more
 abbrev pub types_in : Kinds → ℕ → Forest → List Plain
 types_in kinds file End = []
-types_in kinds file (Then h c o) = types_at kinds file (keyword_of h.keyword) h (types_in kinds file o)
+types_in kinds file (Then h c o) =
+    types_at kinds file (keyword_of h.keyword) h (types_in kinds file o)
 
 -- the default that a `type` statement of a file has by its typedefs; none, where there is no
 -- statement (section 7.3.4)
@@ -74,7 +75,8 @@ default_of_type defaults file (Some t) = defaults file t.head.offset
 -- the status that a text tells (section 7.21.2)
 abbrev pub status_of : List ℕ → NodeStatus
 status_of text =
-    if bytes_eq text (codes "deprecated") then Deprecated else (if bytes_eq text (codes "obsolete") then Obsolete else Current)
+    if bytes_eq text (codes "deprecated") then Deprecated
+    else (if bytes_eq text (codes "obsolete") then Obsolete else Current)
 
 -- what the key of a list with this block names, as it is written in a file (section 7.8.2)
 abbrev pub keys_in : Files → (file : ℕ) → Forest → List (Option Step)
@@ -89,8 +91,10 @@ uniques_in files file ts = map (paths_of files file) (arguments_among word.Uniqu
 -- (section 9.9.2)
 abbrev pub path_of_type : Files → (file : ℕ) → Tree → List Piece
 path_of_type files file t =
-    if bytes_eq (name_of t.head) (codes "leafref") then pieces_of files file (argument_of (first_of word.Path t.children)) else []
+    if bytes_eq (name_of t.head) (codes "leafref")
+    then pieces_of files file (argument_of (first_of word.Path t.children)) else []
 
+-- the pieces of the leafref path of a type that may be there
 abbrev pub path_of_tree : Files → (file : ℕ) → Option Tree → List Piece
 path_of_tree files file None = []
 path_of_tree files file (Some t) = path_of_type files file t
@@ -133,10 +137,11 @@ definition_of_tree typing files file t =
 
 -- what the numbered statement says
 abbrev pub defined_at : TypeMeanings → Files → ℕ → Definition
-defined_at typing files number = definition_of_tree typing files (file_at files number) (statement_at files number)
+defined_at typing files number =
+    definition_of_tree typing files (file_at files number) (statement_at files number)
 
--- an input or output that the operation of this number doesn't write stands where that does, and
--- says nothing else
+-- an input or output that the operation of this number doesn't write is where that does, and says
+-- nothing else
 abbrev pub unwritten : NodeKind → Files → ℕ → Definition
 unwritten kind files number = let head : Head = (statement_at files number).head in record blank {
   file = file_at files number;
@@ -159,7 +164,8 @@ abbrev pub refined_definition : TypeMeanings → Files → Origin → List ℕ �
 refined_definition typing files from refines =
     let d : Definition = definition_of typing files from in
     let statements : List ℕ = statements_of_origin from ++ refines in
-    with_defaults files (with_properties (properties_of (last_said files statements)) (last_defaults files statements)
+    with_defaults files (with_properties (properties_of (last_said files statements))
+    (last_defaults files statements)
     (record d { features = with_expressions d.features (all_expressions files refines) }))
 
 -- what a `type` statement of a file says as a leafref; nothing, where there is no statement
@@ -170,6 +176,7 @@ leafref_of_tree referrals file (Some t) = referrals file t.head.offset
 -- what the type of a node of this origin says as a leafref (section 9.9)
 abbrev pub leafref_of : TypeMeanings → Files → Origin → Option TypeLeafref
 leafref_of typing files (origin.Statement number) =
-    leafref_of_tree typing.referrals (file_at files number) (first_of word.Type (statement_at files number).children)
+    leafref_of_tree typing.referrals (file_at files number)
+    (first_of word.Type (statement_at files number).children)
 leafref_of typing files (origin.Input number) = None
 leafref_of typing files (origin.Output number) = None

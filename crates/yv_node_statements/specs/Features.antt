@@ -21,11 +21,11 @@ begins_blank (c ∷ cs) = is_blank c
 abbrev pub space_for_blank : ℕ → ℕ
 space_for_blank c = if is_blank c then 32 else c
 
--- these characters with each run of blanks as one space: a blank in front of another one is left
--- out
+-- these characters with each run of blanks as one space: a blank before another one is left out
 abbrev pub single_spaced : List ℕ → List ℕ
 single_spaced [] = []
-single_spaced (c ∷ cs) = if is_blank c && begins_blank cs then single_spaced cs else space_for_blank c ∷ single_spaced cs
+single_spaced (c ∷ cs) =
+    if is_blank c && begins_blank cs then single_spaced cs else space_for_blank c ∷ single_spaced cs
 
 -- a text with each run of blanks as one space
 abbrev pub with_single_spaces : List ℕ → List ℕ
@@ -42,12 +42,13 @@ expressions ts = arguments_among word.IfFeature ts
 -- those of the blocks of these numbered statements, in order
 abbrev pub all_expressions : Files → List ℕ → List (List ℕ)
 all_expressions files [] = []
-all_expressions files (refine ∷ refines) = expressions (trees (statement_at files refine).children) ++ all_expressions files refines
+all_expressions files (refine ∷ refines) =
+    expressions (trees (statement_at files refine).children) ++ all_expressions files refines
 
 -- conditions as they are shown: expressions, separated by commas
 abbrev pub if_features : List (List ℕ) → List ℕ
 if_features es = join_with_commas (map with_single_spaces es)
 
--- conditions as they are shown, and behind them these expressions
+-- conditions as they are shown, and after them these expressions
 abbrev pub with_expressions : List ℕ → List (List ℕ) → List ℕ
 with_expressions text es = join_with_commas (text ∷ map with_single_spaces es)

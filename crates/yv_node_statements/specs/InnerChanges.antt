@@ -20,7 +20,8 @@ pub record Change : Type 0 where
 
 -- what a statement of a file changes
 abbrev pub change_of : (file : ℕ) → Tree → Change
-change_of file t = record { properties = properties_of (substatements_of file t); defaults = defaults_of file t }
+change_of file t =
+    record { properties = properties_of (substatements_of file t); defaults = defaults_of file t }
 
 -- what a numbered statement changes
 abbrev pub change_at : Files → ℕ → Change

@@ -25,7 +25,8 @@ either_alone a b = if a then not b else b
 -- of two definitions of a node, of which the second has no defaults of its own, just one lets the
 -- node have no entry
 abbrev pub is_swayed : (before after : Definition) → Bool
-is_swayed before after = are_none after.own_defaults && either_alone (before.min == 0) (after.min == 0)
+is_swayed before after =
+    are_none after.own_defaults && either_alone (before.min == 0) (after.min == 0)
 
 -- these refines make of the first definition the second, of which other defaults may be said
 abbrev pub is_moved : Files → (refines : List ℕ) → (before after : Definition) → Bool

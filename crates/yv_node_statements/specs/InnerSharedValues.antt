@@ -38,13 +38,15 @@ numbers_cmp j k = ordering_then (nat_cmp j.0 k.0) (nat_cmp j.1 k.1)
 
 -- these are the values of the default of each `type` statement with these numbers
 abbrev pub AreValues : Types → Files → Numbers → List Val → Type 0
-AreValues types files numbers values = (file offset : ℕ) → sharing_at types file offset ≡ Some numbers
+AreValues types files numbers values =
+    (file offset : ℕ) → sharing_at types file offset ≡ Some numbers
     → values ≡ type_values files (kinds_of types file offset) (default_at types file offset)
 
 -- what is kept for two numbers is the values of the default of each `type` statement with these
 -- numbers
 abbrev pub AreShared : Types → Files → BTreeMap Numbers (Rc (List Val) Global) → Type 0
-AreShared types files shared = (numbers : Numbers) (values : Rc (List Val) Global) → get_by (numbers_cmp numbers) shared ≡ Some values
+AreShared types files shared = (numbers : Numbers) (values : Rc (List Val) Global)
+    → get_by (numbers_cmp numbers) shared ≡ Some values
     → AreValues types files numbers values.value
 
 -- the scopes are those of these files, and the values those of the defaults of their `type`

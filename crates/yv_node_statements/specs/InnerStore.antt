@@ -18,10 +18,12 @@ use Rattle.yv_node_properties.specs.Statements.{first_of, statement_at}
 -- what is kept of the statement of this number is what it says, with the values of its defaults
 abbrev pub IsKept : TypeMeanings → Files → ℕ → Store → Type 0
 IsKept typing files number kept =
-    ((d : Definition) → kept ≡ Node d → d ≡ with_defaults files (defined_at typing files number)) × ((c : Box Change Global) → kept ≡ Refine c → c.value ≡ change_at files number)
+    ((d : Definition) → kept ≡ Node d → d ≡ with_defaults files (defined_at typing files number))
+    × ((c : Box Change Global) → kept ≡ Refine c → c.value ≡ change_at files number)
 
 abbrev pub AreKept : TypeMeanings → Files → List Store → Type 0
-AreKept typing files all = (number : ℕ) (kept : Store) → slice_get all number ≡ Some kept → IsKept typing files number kept
+AreKept typing files all =
+    (number : ℕ) (kept : Store) → slice_get all number ≡ Some kept → IsKept typing files number kept
 
 -- a block has an `if-feature` statement
 abbrev pub has_features : Forest → Bool
@@ -29,4 +31,5 @@ has_features block = is_some (first_of word.IfFeature block)
 
 -- one of these numbered statements has one
 abbrev pub gives_features : Files → List ℕ → Bool
-gives_features files refines = list_any (λ refine. has_features (statement_at files refine).children) refines
+gives_features files refines =
+    list_any (λ refine. has_features (statement_at files refine).children) refines

@@ -1,4 +1,4 @@
--- What the `type` statements of files stand for: plain types, a default, and what they say as
+-- What the `type` statements of files mean: plain types, a default, and what they say as
 -- leafrefs (RFC 7950, sections 7.3.4, 7.4 and 9).
 use Rattle.std.specs.Prelude.{◌≡◌, ◌⊎◌, ℕ, List, [], Option, Some, None, codes}
 use Rattle.std.specs.Option.{unwrap_or}
@@ -21,7 +21,8 @@ Kinds = ℕ → ℕ → List Plain
 -- these are the plain types of the numbered statement; no types, where it has none
 abbrev pub IsKind : Files → Selected → Truth → ℕ → List Plain → Type 0
 IsKind files choice truth k ps =
-    Space files truth choice k ps ⊎ (((qs : List Plain) → Space files truth choice k qs → ⊥) × (ps ≡ []))
+    Space files truth choice k ps
+    ⊎ (((qs : List Plain) → Space files truth choice k qs → ⊥) × (ps ≡ []))
 
 -- these are the plain types of the statement of this number; no types, where there is no statement
 abbrev pub IsKindOf : Files → Selected → Truth → Option ℕ → List Plain → Type 0
@@ -32,9 +33,10 @@ IsKindOf files choice truth (Some k) ps = IsKind files choice truth k ps
 -- conditions hold
 abbrev pub AreKinds : Files → Selected → Truth → Kinds → Type 0
 AreKinds files choice truth kinds =
-    (file offset : ℕ) → IsKindOf files choice truth (number_at (rows_of files) (codes "type") file offset) (kinds file offset)
+    (file offset : ℕ) → IsKindOf files choice truth
+    (number_at (rows_of files) (codes "type") file offset) (kinds file offset)
 
--- the plain types that are told; no types, where none are told
+-- the plain types that are known; no types, where none are known
 abbrev pub kinds_of : Types → Kinds
 kinds_of types file offset = unwrap_or (space_at types file offset) []
 
@@ -45,7 +47,8 @@ TypeDefaults = ℕ → ℕ → Option TextInFile
 -- the defaults of all `type` statements of these files
 abbrev pub AreTypeDefaults : Files → TypeDefaults → Type 0
 AreTypeDefaults files defaults =
-    (file offset : ℕ) → IsDefault files (number_at (rows_of files) (codes "type") file offset) (defaults file offset)
+    (file offset : ℕ) → IsDefault files (number_at (rows_of files) (codes "type") file offset)
+    (defaults file offset)
 
 -- what the `type` statement at an offset of a file says as a leafref
 abbrev pub TypeReferrals : Type 0
@@ -54,20 +57,23 @@ TypeReferrals = ℕ → ℕ → Option TypeLeafref
 -- what all `type` statements of these files say so
 abbrev pub AreTypeReferrals : Files → TypeReferrals → Type 0
 AreTypeReferrals files referrals =
-    (file offset : ℕ) → IsReferring files (number_at (rows_of files) (codes "type") file offset) (referrals file offset)
+    (file offset : ℕ) → IsReferring files (number_at (rows_of files) (codes "type") file offset)
+    (referrals file offset)
 
--- what `type` statements stand for
+-- what `type` statements mean
 pub record TypeMeanings : Type 0 where
   pub kinds : Kinds
   pub defaults : TypeDefaults
   pub referrals : TypeReferrals
 
--- this is what the `type` statements of these files stand for
-pub record AreTyped (files : Files) (choice : Selected) (truth : Truth) (typing : TypeMeanings) : Type 0 where
+-- this is what the `type` statements of these files mean
+pub record AreTyped (files : Files) (choice : Selected) (truth : Truth)
+    (typing : TypeMeanings) : Type 0 where
   pub kinds : AreKinds files choice truth typing.kinds
   pub defaults : AreTypeDefaults files typing.defaults
   pub referrals : AreTypeReferrals files typing.referrals
 
--- what is told of them
+-- what is known of them
 abbrev pub typing_of : Types → TypeMeanings
-typing_of types = record { kinds = kinds_of types; defaults = default_at types; referrals = referring_at types }
+typing_of types =
+    record { kinds = kinds_of types; defaults = default_at types; referrals = referring_at types }

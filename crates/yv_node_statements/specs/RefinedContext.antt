@@ -9,7 +9,7 @@ use Rattle.yv_node_statements.specs.declared.refined_definitions.RefinedDefiniti
 abbrev pub files_of : RefinedDefinitions → Files
 files_of refined = files_in refined.definitions.now
 
--- what their `type` statements stand for
+-- what their `type` statements mean
 abbrev pub typing_of : RefinedDefinitions → TypeMeanings
 typing_of refined = typing_in refined.definitions.now
 

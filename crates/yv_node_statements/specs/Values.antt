@@ -19,6 +19,7 @@ scope_of files file = option_map (place_at files file) (slice_get (map brief_of 
 abbrev pub value_of : Files → List Plain → TextInFile → Option Val
 value_of files types w = option_and_then (first_value types w.text) (scope_of files w.file)
 
+-- a value that may be there, as a list
 abbrev pub alone : Option Val → List Val
 alone None = []
 alone (Some v) = v ∷ []
@@ -40,7 +41,8 @@ are_few said = nat_le (length said) 1024
 
 -- the values of a node of this kind by these defaults; of too many defaults none is read
 abbrev pub values_at : Files → NodeKind → List Plain → List TextInFile → List Val
-values_at files kind types said = if has_defaults kind && are_few said then values_of files types said else []
+values_at files kind types said =
+    if has_defaults kind && are_few said then values_of files types said else []
 
 -- those of the defaults that are said of a node
 abbrev pub defaults_of : Files → Definition → List Val

@@ -54,7 +54,9 @@ impl<'r, 'a, 'b> Definitions<'r, 'a, 'b> {
         rows: &'r Rows<'a, 'b>,
         types: &'r Types,
     ) -> Result<Definitions<'r, 'a, 'b>, AllocError>
+        // They have these types.
         ensures typing { IfOk result (λ definitions. typing_in definitions ≡ typing_of types.now) }
+        // They are of these files.
         ensures files { IfOk result (λ definitions. files_in definitions ≡ lent_in rows.now) }
     {
         let paths = LeafPaths::read(alloc, rows)?;
@@ -103,7 +105,8 @@ impl<'r, 'a, 'b> Definitions<'r, 'a, 'b> {
     /// (numbered statements) change it further, in order (RFC 7950, section 7.13.2). It shares with
     /// it what they don't change, and takes time and memory for what they do. The values of its
     /// defaults are read anew only where these become others; the matchers are kept of the types'
-    /// patterns from one default to the next.
+    /// patterns from one default to the next. Where memory runs out, some of them may be kept and
+    /// others dropped: no answer depends on which are kept, so they serve the next call as well.
     pub fn more(
         &self,
         matchers: &mut Matchers<'r>,
@@ -284,7 +287,7 @@ impl<'r, 'a, 'b> Definitions<'r, 'a, 'b> {
         }
     }
 
-    // The features of a definition, and behind them those of these refines.
+    // The features of a definition, and after them those of these refines.
     fn features(&self, own: &Definition, refines: &[usize]) -> Result<RcStr, AllocError>
         ensures { IfOk result
             (λ text. rc_str_bytes text

@@ -64,7 +64,7 @@ pub(crate) fn node_name(kind: NodeKind, argument: &str) -> &str
     }
 }
 
-// The status that a text names. Other texts than those of the three are no statuses, and no file
+// The status that a text names. Other texts than those of the three aren't statuses, and no file
 // that conforms has one.
 fn status_of(text: &str) -> NodeStatus
     ensures { result ≡ status_of text.now }
@@ -93,7 +93,7 @@ fn types_at(
     }
 }
 
-// The types that the `type` statement of its block stands for.
+// What the `type` statement of its block means.
 fn types_in(
     nothing: &Nothing,
     types: &Types,

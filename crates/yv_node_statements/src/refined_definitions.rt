@@ -43,7 +43,7 @@ fn key_of(origin: Origin, sequence: usize) -> (usize, usize, usize) {
     }
 }
 
-// The refines of these runs, of which the last stands first.
+// The refines of these runs, of which the last is first.
 fn join_runs<'d>(alloc: Global, runs: Vec<&'d [usize]>) -> Result<Vec<usize>, AllocError>
     ensures { IfOk result
         (λ refines. refines.items ≡ with_runs [] (map (λ run. run.now) runs.entry.items)) }
@@ -65,8 +65,11 @@ impl<'d, 'r, 'a, 'b> RefinedDefinitions<'d, 'r, 'a, 'b> {
         definitions: &'d Definitions<'r, 'a, 'b>,
         changes: &'d Changes,
     ) -> RefinedDefinitions<'d, 'r, 'a, 'b>
+        // They are those of the files of these definitions, with their types.
         ensures typing { typing_of result ≡ typing_in definitions.now }
+        // They are of the files of these definitions.
         ensures files { files_of result ≡ files_in definitions.now }
+        // They have these sequences of refines.
         ensures sequences { sequences_of result ≡ changes.now.sequences }
     {
         RefinedDefinitions {
@@ -88,8 +91,11 @@ impl<'d, 'r, 'a, 'b> RefinedDefinitions<'d, 'r, 'a, 'b> {
         origin: Origin,
         sequence: usize,
     ) -> Result<(), AllocError>
+        // They remain those of these files, with these types and these sequences.
         ensures typing { typing_of self.new ≡ typing_of self.old }
+        // They are of the same files.
         ensures files { files_of self.new ≡ files_of self.old }
+        // They have the same sequences.
         ensures sequences { sequences_of self.new ≡ sequences_of self.old }
     {
         if self.find(origin, sequence).is_some() {

@@ -20,6 +20,7 @@ abbrev pub nearest_module_file : List Label → ℕ
 nearest_module_file [] = 0
 nearest_module_file (l ∷ ls) = l.module_file
 
+-- the key of the nearest list above
 abbrev pub nearest_keys : List Label → List (Option Step)
 nearest_keys [] = []
 nearest_keys (l ∷ ls) = l.defined.keys

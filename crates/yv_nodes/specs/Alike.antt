@@ -8,5 +8,6 @@ use Rattle.yv_nodes.specs.Rows.{Row, blank_row}
 abbrev pub untyped : Row → Definition
 untyped row = with_types [] row.label.defined
 
+-- what is said of the numbered node, but for its types
 abbrev pub untyped_at : List Row → ℕ → Definition
 untyped_at rows n = untyped (slice_index_or rows n blank_row)

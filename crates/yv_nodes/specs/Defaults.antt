@@ -7,6 +7,7 @@ use Rattle.yv_nodes.specs.Tree.{Label}
 abbrev pub defaults_of : Label → List Val
 defaults_of l = if l.is_key || l.defined.is_mandatory then [] else l.defined.defaults
 
+-- there are no values
 abbrev pub are_none : List Val → Bool
 are_none [] = true
 are_none (v ∷ vs) = false

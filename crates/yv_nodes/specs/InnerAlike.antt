@@ -4,7 +4,7 @@ use Rattle.std.specs.List.{slice_index_or}
 use Rattle.yv_nodes.specs.Alike.{untyped_at}
 use Rattle.yv_nodes.specs.Rows.{Row}
 
--- this node is no later one, and the same is said of both
+-- this node isn't a later one, and the same is said of both
 pub record IsFirst (rows : List Row) (n first : ℕ) : Type 0 where
   pub before : first ≤ n
   pub alike : untyped_at rows first ≡ untyped_at rows n

@@ -11,7 +11,7 @@ use Rattle.yv_nodes.specs.NodeTypes.{typed_row}
 abbrev pub types_in : RcSlice PlainType Global → List Plain
 types_in types = map plain_of (rc_slice_items types)
 
--- the row of a number with the types that are told of it: where none are, it stays
+-- the row of a number with the types that are known of it: where none are, it stays
 abbrev pub with_own_types : List (List Plain) → ℕ → Row → Row
 with_own_types lists n row = elim (slice_get lists n) [
   | None ↦ row

@@ -25,8 +25,8 @@ pub record Ground : Type 0 where
   pub first : ℕ
   pub trees : Forest
 
--- a node that stands here with this number is the next of the path: what is left leads on below it,
--- or it is the target, a leaf or leaf-list. Choices and cases aren't steps
+-- a node that is here with this number is the next of the path: what is left leads on below it, or
+-- it is the target, a leaf or leaf-list. Choices and cases aren't steps
 abbrev pub KindLeads : NodeKind → ℕ → List ℕ → (target : ℕ) → (List ℕ → Type 0) → Type 0
 KindLeads kind.Choice n path target Below = Below path
 KindLeads kind.Case n path target Below = Below path
@@ -41,16 +41,21 @@ KindLeads _ n path target Below = ⊥
 abbrev pub Leads : (first : ℕ) → Forest → List ℕ → (target : ℕ) → Type 0
 Leads first no_trees path target = ⊥
 Leads first (tree (node l kids) ts) path target =
-    KindLeads l.defined.kind first path target (λ rest. Leads (first + 1) kids rest target) ⊎ Leads (first + 1 + count kids) ts path target
+    KindLeads l.defined.kind first path target (λ rest. Leads (first + 1) kids rest target)
+    ⊎ Leads (first + 1 + count kids) ts path target
 
 -- ---- each link leads from where it climbs to, to its target
 
 -- `up` is below each of the data nodes around, from the closest on
 abbrev pub IsLinked : Option Link → Ground → List Ground → Type 0
 IsLinked None top up = Unit {0}
-IsLinked (Some link) top up = let from = climb top link.climbs up in Leads from.first from.trees link.steps link.target
+IsLinked (Some link) top up =
+    let from = climb top link.climbs up in Leads from.first from.trees link.steps link.target
 
-abbrev pub KindLinked : NodeKind → Option Link → Ground → List Ground → Ground → (List Ground → Type 0) → Type 0
+-- the link of a node leads from the place of the node to a node of the tree, and so do those below
+-- it
+abbrev pub KindLinked : NodeKind → Option Link → Ground → List Ground → Ground
+    → (List Ground → Type 0) → Type 0
 KindLinked kind.Leaf link top up own Below = IsLinked link top up
 KindLinked kind.LeafList link top up own Below = IsLinked link top up
 KindLinked kind.Container link top up own Below = Below (own ∷ up)
@@ -59,12 +64,12 @@ KindLinked kind.Choice link top up own Below = Below up
 KindLinked kind.Case link top up own Below = Below up
 KindLinked _ link top up own Below = Unit {0}
 
--- those of the leafrefs in these trees; nothing in operations and notifications stands in a
--- document
+-- those of the leafrefs in these trees; nothing in operations and notifications is in a document
 abbrev pub AreLinkedBelow : (ℕ → Option Link) → Ground → List Ground → (first : ℕ) → Forest → Type 0
 AreLinkedBelow links top up first no_trees = Unit {0}
 AreLinkedBelow links top up first (tree (node l kids) ts) =
-    KindLinked l.defined.kind (links first) top up (record { first = first + 1; trees = kids }) (λ us. AreLinkedBelow links top us (first + 1) kids)
+    KindLinked l.defined.kind (links first) top up (record { first = first + 1; trees = kids })
+    (λ us. AreLinkedBelow links top us (first + 1) kids)
     × AreLinkedBelow links top up (first + 1 + count kids) ts
 
 -- the trees of a whole schema
@@ -81,6 +86,7 @@ AreLinked links ts = AreLinkedBelow links (ground ts) (ground ts ∷ []) 0 ts
 abbrev pub reference_in : List (Option Link) → ℕ → Option Link
 reference_in links n = slice_index_or links n None
 
+-- a link, if it requires an instance
 abbrev pub if_required : Option Link → Option Link
 if_required None = None
 if_required (Some link) = if link.is_required then Some link else None
@@ -89,6 +95,7 @@ if_required (Some link) = if link.is_required then Some link else None
 abbrev pub link_in : List (Option Link) → ℕ → Option Link
 link_in links n = if_required (reference_in links n)
 
+-- a link leads to this node and requires an instance
 abbrev pub leads_to : ℕ → Option Link → Bool
 leads_to n None = false
 leads_to n (Some link) = link.is_required && link.target == n

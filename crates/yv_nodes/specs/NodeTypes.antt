@@ -8,6 +8,7 @@ use Rattle.yv_nodes.specs.declared.node.NodeId.{NodeId}
 use Rattle.yv_nodes.specs.Rows.{Row, blank_row, root}
 use Rattle.yv_nodes.specs.Tree.{count, Forest, Label, no_trees, node, tree}
 
+-- what is known of a node, with other types
 abbrev pub label_with_types : List Plain → Label → Label
 label_with_types types l = record {
   defined = with_types types l.defined;
@@ -19,19 +20,22 @@ label_with_types types l = record {
   is_input = l.is_input;
 }
 
+-- a row with other types
 abbrev pub typed_row : List Plain → Row → Row
-typed_row types r = record { label = label_with_types types r.label; parent = r.parent; children = r.children }
+typed_row types r =
+    record { label = label_with_types types r.label; parent = r.parent; children = r.children }
 
--- rows with the types that are told of their numbers, the first of which is `first`
+-- rows with the types that are known of their numbers, the first of which is `first`
 abbrev pub typed_rows : (types : ℕ → List Plain) → (first : ℕ) → List Row → List Row
 typed_rows types first [] = []
 typed_rows types first (r ∷ rs) = typed_row (types first) r ∷ typed_rows types (first + 1) rs
 
--- trees whose nodes have the types that are told of their numbers, the first of which is `first`
+-- trees whose nodes have the types that are known of their numbers, the first of which is `first`
 abbrev pub typed_from : (types : ℕ → List Plain) → (first : ℕ) → Forest → Forest
 typed_from types first no_trees = no_trees
 typed_from types first (tree (node l kids) ts) =
-    tree (node (label_with_types (types first) l) (typed_from types (first + 1) kids)) (typed_from types (first + 1 + count kids) ts)
+    tree (node (label_with_types (types first) l) (typed_from types (first + 1) kids))
+    (typed_from types (first + 1 + count kids) ts)
 
 -- the types that the row of a number has by itself
 abbrev pub types_at : List Row → ℕ → List Plain

@@ -8,14 +8,16 @@ use Rattle.yv_nodes.specs.Rows.{Module, Note, Row, Rows, root}
 -- the numbers of the trees' own nodes, where the first has the number `first`
 abbrev pub numbers_from : ℕ → Forest → List NodeId
 numbers_from first no_trees = []
-numbers_from first (tree (node l kids) ts) = record { 0 = first } ∷ numbers_from (first + 1 + count kids) ts
+numbers_from first (tree (node l kids) ts) =
+    record { 0 = first } ∷ numbers_from (first + 1 + count kids) ts
 
 -- the rows of all nodes below a parent, where the first has the number `first`
 abbrev pub rows_below : (parent : NodeId) → ℕ → Forest → List Row
 rows_below parent first no_trees = []
 rows_below parent first (tree (node l kids) ts) =
     record { label = l; parent = parent; children = numbers_from (first + 1) kids }
-    ∷ rows_below (record { 0 = first }) (first + 1) kids ++ rows_below parent (first + 1 + count kids) ts
+    ∷ rows_below (record { 0 = first }) (first + 1) kids
+    ++ rows_below parent (first + 1 + count kids) ts
 
 -- those below the root
 abbrev pub rows_from : ℕ → Forest → List Row

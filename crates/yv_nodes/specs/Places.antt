@@ -12,7 +12,8 @@ pub record Place : Type 0 where
 abbrev pub places_below : List Label → Forest → List Place
 places_below above no_trees = []
 places_below above (tree (node l kids) ts) =
-    record { label = l; above = above; kids = kids } ∷ places_below (l ∷ above) kids ++ places_below above ts
+    record { label = l; above = above; kids = kids } ∷ places_below (l ∷ above) kids
+    ++ places_below above ts
 
 -- the places of a schema tree
 abbrev pub places : Forest → List Place

@@ -1,4 +1,4 @@
--- A schema as numbered rows: what contracts see of a `Schema`, and the tree that it stands for.
+-- A schema as numbered rows: what contracts see of a `Schema`, and the tree that it describes.
 use Rattle.std.specs.Prelude.{◌≡◌, ℕ, ◌+◌, ◌-◌, ◌<◌, ◌≤◌, ◌==◌, List, [], ◌∷◌, length, drop, Bool, false, Option, Some, if◌then◌else◌, slice_get}
 use Rattle.std.specs.List.{slice_index_or}
 use Rattle.yv_nodes.specs.declared.node.NodeId.{NodeId}
@@ -47,7 +47,7 @@ pub record Rows : Type 0 where
 abbrev pub root : NodeId
 root = record { 0 = 4294967295 }
 
--- what stands where there is no row
+-- what is where there is no row
 abbrev pub blank_row : Row
 blank_row = record {
   label = record {
@@ -67,6 +67,7 @@ blank_row = record {
 abbrev pub row_at : Rows → NodeId → Row
 row_at s p = slice_index_or s.nodes p.0 blank_row
 
+-- a number is that of the root
 abbrev pub is_root : NodeId → Bool
 is_root p = p.0 == 4294967295
 
@@ -78,11 +79,12 @@ children_of s p = if is_root p then s.top else (row_at s p).children
 abbrev pub rank : NodeId → ℕ
 rank p = if is_root p then 0 else p.0 + 1
 
--- each row stands behind the one above it, unless that is the root
+-- each row comes after the one above it, unless that is the root
 abbrev pub StandBehind : List Row → Type 0
-StandBehind rows = (number : ℕ) (row : Row) → slice_get rows number ≡ Some row → rank row.parent ≤ number
+StandBehind rows =
+    (number : ℕ) (row : Row) → slice_get rows number ≡ Some row → rank row.parent ≤ number
 
--- what stands where there is no tree
+-- what is where there is no tree
 abbrev pub blank : Tree
 blank = node blank_row.label no_trees
 
@@ -91,10 +93,11 @@ abbrev pub pick : ℕ → List Tree → List NodeId → Forest
 pick first ts [] = no_trees
 pick first ts (c ∷ cs) = tree (slice_index_or ts (c.0 - first) blank) (pick first ts cs)
 
--- the tree of each row, where the first has the number `first`: children stand behind their parents
+-- the tree of each row, where the first has the number `first`: children come after their parents
 abbrev pub trees_from : ℕ → List Row → List Tree
 trees_from first [] = []
-trees_from first (r ∷ rs) = node r.label (pick (first + 1) (trees_from (first + 1) rs) r.children) ∷ trees_from (first + 1) rs
+trees_from first (r ∷ rs) = node r.label (pick (first + 1) (trees_from (first + 1) rs) r.children)
+    ∷ trees_from (first + 1) rs
 
 -- the trees of these numbers
 abbrev pub forest : Rows → List NodeId → Forest
@@ -109,11 +112,12 @@ abbrev pub tree_of : Rows → NodeId → Tree
 tree_of s c = node (row_at s c).label (below s c)
 
 -- the trees of these numbers are those of their nodes: from each place on, the tree of the node
--- there, and then the trees of those behind it
+-- there, and then the trees of those after it
 abbrev pub AreTrees : Rows → List NodeId → Type 0
 AreTrees s cs =
-    (i : ℕ) (d : NodeId) → i < length cs → forest s (drop i cs) ≡ tree (tree_of s (slice_index_or cs i d)) (forest s (drop (i + 1) cs))
+    (i : ℕ) (d : NodeId) → i < length cs
+    → forest s (drop i cs) ≡ tree (tree_of s (slice_index_or cs i d)) (forest s (drop (i + 1) cs))
 
--- the schema tree that the rows stand for
+-- the schema tree that the rows describe
 abbrev pub whole : Rows → Forest
 whole s = forest s s.top

@@ -5,7 +5,7 @@ use Rattle.yv_node_definition.specs.Definition.{Definition}
 -- what a schema node is: what its statement says of it, the number of the file of the module whose
 -- namespace it is in, that module's name, what a JSON member that writes it is called (RFC 7951,
 -- section 4), whether it is configuration (RFC 7950, section 7.21.1), whether it is a key of the
--- list just above, and whether it is an operation's input or stands in it
+-- list just above, and whether it is an operation's input or is in it
 pub record Label : Type 0 where
   pub defined : Definition
   pub module_file : ℕ

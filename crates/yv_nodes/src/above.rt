@@ -12,7 +12,7 @@ use yv_node_definition::{Definition, NodeKind};
 /// What the nodes above a schema node make of it. Contracts see it as what is seen of these nodes.
 #[derive(Drop)]
 pub struct Above {
-    // The module of the nearest that is no choice or case, by the number of its file.
+    // The module of the nearest that isn't a choice or case, by the number of its file.
     around: Option<u32>,
     // The module of the node just above.
     module_file: u32,
@@ -98,7 +98,7 @@ impl Above {
         }
     }
 
-    // Whether the node that a statement defines is an operation's input, or stands in it.
+    // Whether the node that a statement defines is an operation's input, or is in it.
     fn is_input(&self, definition: &Definition) -> bool
         ensures { (ls : List Label) → self.now ≡ seen_of ls → result
             ≡ (is_input definition.now.kind || in_input ls) }

@@ -109,8 +109,8 @@ impl Links {
         }
     }
 
-    /// The link of a leafref that requires an instance; None where the node is no such leafref, or
-    /// has none.
+    /// The link of a leafref that requires an instance; None where the node isn't a such leafref,
+    /// or has none.
     pub fn link(&self, node: NodeId) -> Option<&Link>
         ensures { option_map (λ link. link.now) result ≡ link_in self.now node.0 }
     {

@@ -306,7 +306,7 @@ impl Node {
     }
 
     /// The arguments of its `default` statements, or those of the last of its refines with one, and
-    /// the files that contain them, in order: one at most where it is no leaf-list.
+    /// the files that contain them, in order: one at most where it isn't a leaf-list.
     pub fn own_defaults(&self) -> &[WrittenText]
         ensures { map written_of result.now ≡ self.now.label.defined.own_defaults }
     {
@@ -337,10 +337,13 @@ impl Node {
         self.definition.repeats_default()
     }
 
-    /// The values that its defaults give it, one at most where it is no leaf-list (RFC 7950,
+    /// The values that its defaults give it, one at most where it isn't a leaf-list (RFC 7950,
     /// sections 7.6.1 and 7.7.2): none of a key and of a mandatory leaf.
     pub fn defaults(&self) -> &[Value]
+        // The values of its defaults, at most 1,024: none for a key leaf, and none if the node is
+        // mandatory.
         ensures value { result.now ≡ defaults_of self.now.label }
+        // There are at most 1,024.
         ensures few { length result.now ≤ 1024 }
     {
         if self.has_no_defaults() {
@@ -362,7 +365,9 @@ impl Node {
 
     /// How many these values are, and 1 where there are fewer.
     pub fn width(&self) -> u64
+        // The number of these values, or 1 if there are none.
         ensures value { result ≡ width self.now.label }
+        // At most 1,024.
         ensures few { result ≤ 1024 }
     {
         (self.defaults().len() as u64).max(1)

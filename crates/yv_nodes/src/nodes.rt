@@ -80,7 +80,9 @@ impl Nodes {
 
     /// No nodes.
     pub fn new(alloc: Global, limit: u32) -> Nodes
+        // No nodes, within this limit.
         ensures limit { result.limit ≡ limit }
+        // There are no nodes.
         ensures rows { result.rows ≡ [] }
     {
         Nodes {
@@ -93,8 +95,11 @@ impl Nodes {
     /// No nodes, with room for so many: they are added without more memory being allocated for
     /// their list.
     pub fn with_room(alloc: Global, limit: u32, count: usize) -> Result<Nodes, AllocError>
+        // The same, with room for so many.
         ensures limit { IfOk result (λ made. made.limit ≡ limit) }
+        // There are no nodes.
         ensures rows { IfOk result (λ made. made.rows ≡ []) }
+        // There is room for so many.
         ensures room { IfOk result (λ made. count ≤ made.capacity) }
     {
         Ok(Nodes {
@@ -113,8 +118,11 @@ impl Nodes {
 
     /// How many nodes there are.
     pub fn len(&self) -> u32
+        // The number of nodes, which is at most the limit; each node is after the one above it.
         ensures count { result ≡ length self.now.rows }
+        // There are no more than the limit.
         ensures within { length self.now.rows ≤ self.now.limit }
+        // Each node comes after the one above it.
         ensures behind { StandBehind self.now.rows }
     {
         let _limit = self.limit;
@@ -125,11 +133,17 @@ impl Nodes {
     /// among them. An error, which changes nothing, occurs only where more memory had to be
     /// allocated.
     pub fn push(&mut self, node: Node) -> Result<(), AllocError>
+        // There are fewer nodes than the limit.
         requires room { length self.old.rows < self.old.limit }
+        // The one above the node is there.
         requires parent { rank node.parent ≤ length self.old.rows }
+        // The node is appended.
         ensures rows { OnOk result (self.new.rows ≡ self.old.rows ++ node ∷ []) }
+        // After an error the nodes are as before.
         ensures keeps { OnErr result (self.new.rows ≡ self.old.rows) }
+        // An error is answered only where more memory had to be allocated.
         ensures full { OnErr result (self.old.capacity ≤ length self.old.rows) }
+        // The limit stays.
         ensures limit { self.new.limit ≡ self.old.limit }
     {
         let first = self.nodes.len() as u32;
@@ -139,14 +153,21 @@ impl Nodes {
     /// The same of a node of which the same is said as of an earlier one: the two share it, and
     /// `first_alike` gives the same node for both.
     pub fn push_alike(&mut self, node: Node, earlier: NodeId) -> Result<(), AllocError>
+        // There are fewer nodes than the limit.
         requires room { length self.old.rows < self.old.limit }
+        // The one above the node is there.
         requires parent { rank node.parent ≤ length self.old.rows }
+        // The earlier node is there.
         requires earlier { earlier.0 < length self.old.rows }
+        // If the same is said of the node as of the earlier one, it is appended.
         ensures rows { (slice_index_or self.old.rows earlier.0 blank_row).label.defined
             ≡ node.label.defined
             → OnOk result (self.new.rows ≡ self.old.rows ++ node ∷ []) }
+        // Otherwise another one is.
         ensures count { OnOk result (length self.new.rows ≡ length self.old.rows + 1) }
+        // After an error the nodes are as before.
         ensures keeps { OnErr result (self.new.rows ≡ self.old.rows) }
+        // The limit is unchanged.
         ensures limit { self.new.limit ≡ self.old.limit }
     {
         let first = self.firsts[earlier.0 as usize];
@@ -177,11 +198,16 @@ impl Nodes {
     /// list of types is shared and not copied, so that it takes time and memory linear in the
     /// nodes. Err only if memory runs out, and then all is as before.
     pub fn resolve(&mut self, alloc: Global, origins: &[NodeId]) -> Result<(), AllocError>
+        // There is a number for each node.
         requires each { length origins.now ≡ length self.now.rows }
+        // Each is that of a node.
         requires within { All (λ origin. origin.0 < length self.now.rows) origins.now }
+        // Each node has the types of the node given for it, and nothing else has changed.
         ensures rows { OnOk result
             (self.new.rows ≡ typed_rows (types_from self.old.rows origins.now) 0 self.old.rows) }
+        // The limit stays.
         ensures limit { self.new.limit ≡ self.old.limit }
+        // After an error the nodes are as before.
         ensures keeps { IfErr result (λ error. self.new.rows ≡ self.old.rows) }
     {
         let types = types_of(alloc, &self.nodes, origins)?;
@@ -191,7 +217,9 @@ impl Nodes {
 
     /// The node of this number.
     pub fn get(&self, id: NodeId) -> &Node
+        // The limit; the row of that number; all rows, in order.
         requires { id.0 < length self.now.rows }
+        // The limit; the row of that number; all rows, in order.
         ensures { result.now ≡ slice_index_or self.now.rows id.0 blank_row }
     {
         &self.nodes[id.0 as usize]
@@ -200,8 +228,11 @@ impl Nodes {
     /// The first node of which, as is known, the same is said as of the node of this number, but
     /// for their types: it may be this node.
     pub fn first_alike(&self, id: NodeId) -> NodeId
+        // The number is that of a node.
         requires { id.0 < length self.now.rows }
+        // No later node, of which the same is said, but for types.
         ensures before { result.0 ≤ id.0 }
+        // The same is said of both, but for their types.
         ensures alike { untyped_at self.now.rows result.0 ≡ untyped_at self.now.rows id.0 }
     {
         NodeId(self.firsts[id.0 as usize])
@@ -210,8 +241,11 @@ impl Nodes {
     /// Whether two nodes have one name, whatever their modules. Names are read only where it is not
     /// known that the same is said of both.
     pub fn have_one_name(&self, one: NodeId, other: NodeId) -> bool
+        // The first number is that of a node.
         requires one { one.0 < length self.now.rows }
+        // So is the other.
         requires other { other.0 < length self.now.rows }
+        // Whether the names of two nodes are the same.
         ensures { result
             ≡ bytes_eq (untyped_at self.now.rows one.0).name
             (untyped_at self.now.rows other.0).name }

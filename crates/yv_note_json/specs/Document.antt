@@ -27,9 +27,11 @@ pub record SaysWhy (bytes text : List ℕ) : Type 0 where
   pub not_json : IsNotJson bytes
   pub shows : ShowsReason bytes text
 
+-- the message on a document that is too large
 abbrev pub large_text : List ℕ
 large_text = codes "data: more than 16,777,216 bytes, which is the limit" ++ 10 ∷ []
 
+-- the message on a document with too many members and items
 abbrev pub many_text : List ℕ
 many_text = codes "data: more than 16,777,216 members and items, which is the limit" ++ 10 ∷ []
 

@@ -1,4 +1,4 @@
-//! Why the bytes of a document are no JSON.
+//! Why the bytes of a document aren't JSON.
 ghost use Rattle.std.specs.Prelude.{◌≤◌, length, IfOk, IfSome, IfNone, string_bytes};
 ghost use Rattle.yv_note_json.specs.Document.{IsJson, SaysWhy, ShowsReason, TellsLarge};
 
@@ -34,7 +34,10 @@ fn start_of(bytes: &[u8], line: usize) -> usize {
 /// Why these bytes are not JSON: the line and the column with the text of that line, and the
 /// reason. None if they are JSON.
 pub fn why_not_json(alloc: Global, bytes: &[u8]) -> Result<Option<String>, AllocError>
+    // Where a text is returned, the bytes are not UTF-8 or not JSON, and it shows a line of them
+    // with a place in it, followed by a reason.
     ensures why { IfOk result (λ why. IfSome why (λ text. SaysWhy bytes.now (string_bytes text))) }
+    // None is returned only if the bytes are JSON.
     ensures json { IfOk result (λ why. IfNone why (IsJson bytes.now)) }
 {
     let text = match str::from_utf8(bytes) {
@@ -48,7 +51,7 @@ pub fn why_not_json(alloc: Global, bytes: &[u8]) -> Result<Option<String>, Alloc
     }
 }
 
-// That bytes are no text from a place on.
+// That bytes aren't text from a place on.
 fn not_text(alloc: Global, bytes: &[u8], valid: usize) -> Result<String, AllocError>
     ensures { IfOk result (λ text. ShowsReason bytes.now (string_bytes text)) }
 {

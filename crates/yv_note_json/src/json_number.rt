@@ -1,4 +1,4 @@
-//! Why a text that begins like a number is no number of JSON.
+//! Why a text that begins like a number isn't a number of JSON.
 use crate::json_reason::{Before, YAML};
 
 /// The reason, where a digit, a sign or a point is at the place.

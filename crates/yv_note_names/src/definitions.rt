@@ -73,13 +73,13 @@ fn say_other<'a>(telling: &mut Message<'a>, site: &Site<'_, 'a>) {
     }
 }
 
-/// Adds that a file's name is taken.
+/// Adds that another file has the name of a file.
 pub fn tell_second_module<'a>(telling: &mut Message<'a>, site: &Site<'_, 'a>) {
     telling.sentence(Code::DuplicateModule);
     say_other(telling, site);
 }
 
-/// Adds that the name of a definition is taken.
+/// Adds that another definition has the same name.
 pub fn tell_second_name<'a>(telling: &mut Message<'a>, site: &Site<'_, 'a>) {
     if site.is("typedef") && is_built_in(site.argument()) {
         telling.subject("", " is the name of a built-in type; choose another one.");

@@ -1,4 +1,4 @@
-//! Nodes that can't be where they are, or whose names are taken there.
+//! Nodes that can't be where they are, or whose names other nodes have there.
 use crate::augments::{target_of, way_of};
 use crate::nodes::{DATA_NODES, Way};
 use std::alloc::{AllocError, Global};

@@ -34,7 +34,8 @@ AreNoPatterns rows = (number : ℕ) (r : Row) → slice_get rows number ≡ Some
 
 -- FILE:LINE: pattern not built
 abbrev pub unbuilt_line : File → ℕ → List ℕ
-unbuilt_line f line = ascii_text f.name ++ (58 ∷ decimal line ++ codes ": pattern not built" ++ 10 ∷ [])
+unbuilt_line f line =
+    ascii_text f.name ++ (58 ∷ decimal line ++ codes ": pattern not built" ++ 10 ∷ [])
 
 -- the text tells of a statement of this file: the file's name and the statement's line, the line of
 -- the file that holds its place, and below that its argument in quotes, and what is said of it
@@ -60,5 +61,6 @@ pub record TellsPattern (files : List File) (text : List ℕ) : Type 0 where
 
 -- the files spell statements of which none is a pattern of the dialect, or they can't be read
 pub data HasNoPattern (files : List File) : Type 0 where
-  read : (trees : List Tree) → AllZip IsRead files trees → AreNoPatterns (rows_of trees) → HasNoPattern files
+  read : (trees : List Tree) → AllZip IsRead files trees → AreNoPatterns (rows_of trees)
+      → HasNoPattern files
   unread : (q : Refusal) → IsUnreadAt files q → HasNoPattern files

@@ -97,8 +97,12 @@ fn told_among(
 /// those before it leave; if all are built like this, it is about the first. None only if there is
 /// no pattern of the dialect, or if the files can't be read.
 pub fn unbuilt_pattern(alloc: Global, inputs: &[Input]) -> Result<Option<String>, AllocError>
+    // A result describes a `pattern` statement of the files, which spell statements, whose argument
+    // is in the dialect: the file's name, the statement's line, the line of the file that contains
+    // its place, with a caret, and the argument in quotes.
     ensures tells { IfOk result
         (λ found. IfSome found (λ s. TellsPattern (map file_of inputs.now) (string_bytes s))) }
+    // None is returned only if the files have no pattern.
     ensures none { IfOk result (λ found. IfNone found (HasNoPattern (map file_of inputs.now))) }
 {
     let texts = Texts::read(alloc, inputs)?;

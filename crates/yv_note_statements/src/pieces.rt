@@ -81,7 +81,7 @@ impl<'w> Message<'w> {
         self.push(Piece::Text(after));
     }
 
-    /// The same of a name with a prefix; without one, if the prefix is no text.
+    /// The same of a name with a prefix; without one, if the prefix isn't a text.
     pub fn quote_prefixed(
         &mut self,
         before: &'w str,
@@ -300,7 +300,9 @@ pub fn push_around(
     telling: &Message<'_>,
     word: &str,
 ) -> Result<(), AllocError>
+    // The text is extended, and quotes the word.
     ensures grows { OnOk result (Extends (string_bytes text.old) (string_bytes text.new)) }
+    // It quotes the word.
     ensures names { OnOk result (Quotes word.now (string_bytes text.new)) }
 {
     push_pieces(text, inputs, &telling.before)?;

@@ -203,7 +203,7 @@ impl<'a> Place<'a> {
         }
     }
 
-    // Adds that quotes of typography are no quotes, if this token or the text at the place has one.
+    // Adds that quotes of typography aren't quotes, if this token or the text at the place has one.
     fn say_curly(&self, telling: &mut Message<'a>, token: &Token<'a>) {
         if has_curly_quote(token.bytes) || has_curly_quote(self.word()) {
             telling.say(CURLY);

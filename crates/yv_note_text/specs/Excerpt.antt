@@ -26,11 +26,12 @@ shown_byte b = if nat_le 32 b && nat_le b 126 then b else (if b == 9 || b == 13 
 abbrev pub ascii_text : List ℕ → List ℕ
 ascii_text bytes = map shown_byte (filter begins_character bytes)
 
--- the line, and below it a caret after as many blanks as characters stand before the place
+-- the line, and below it a caret after as many blanks as characters come before the place
 abbrev pub excerpt_text : List ℕ → List ℕ → List ℕ
-excerpt_text line before = ascii_text line ++ (10 ∷ replicate (length (ascii_text before)) 32) ++ (94 ∷ 10 ∷ [])
+excerpt_text line before =
+    ascii_text line ++ (10 ∷ replicate (length (ascii_text before)) 32) ++ (94 ∷ 10 ∷ [])
 
--- the text shows the line that holds the offset, and where in it the offset stands
+-- the text shows the line that holds the offset, and where in it the offset is
 abbrev pub ShowsPlace : List ℕ → ℕ → List ℕ → Type 0
 ShowsPlace bytes offset text =
     (start : ℕ) × (end : ℕ) × IsShownAt bytes offset start end

@@ -21,7 +21,7 @@ impl Joint {
 }
 
 /// Adds what separates the name of this place, in a list of so many, from the one before it. Of
-/// many names 8 are listed: behind those it adds that there are others, and returns false.
+/// many names 8 are listed: after those it adds that there are others, and returns false.
 pub fn push_between(
     text: &mut String,
     place: usize,

@@ -10,7 +10,11 @@ const WINDOW: usize = 72;
 /// The line that holds an offset, and below it a caret at the offset. A line that is longer than a
 /// terminal is shown only around the offset, and what could drive a terminal is shown as dots.
 pub fn excerpt(alloc: Global, bytes: &[u8], offset: usize) -> Result<String, AllocError>
+    // For an offset that is at most the number of bytes: the line that contains it, at most 72
+    // bytes on either side, with a caret under the place.
     requires { offset ≤ length bytes.now }
+    // For an offset that is at most the number of bytes: the line that contains it, at most 72
+    // bytes on either side, with a caret under the place.
     ensures { IfOk result (λ s. ShowsPlace bytes.now offset (string_bytes s)) }
 {
     let start = start_at(bytes, offset);
@@ -76,7 +80,9 @@ fn shown_char(byte: u8) -> char
 
 /// Adds one character of ASCII for each character that begins in these bytes.
 pub fn push_shown(text: &mut String, bytes: &[u8]) -> Result<(), AllocError>
+    // The text is extended, also if memory runs out.
     ensures grows { Extends (string_bytes text.old) (string_bytes text.new) }
+    // Each character that begins in the bytes is shown by one of ASCII.
     ensures shows { OnOk result
         (string_bytes text.new ≡ string_bytes text.old ++ shown_bytes bytes.now) }
 {

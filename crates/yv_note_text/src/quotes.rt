@@ -26,7 +26,7 @@ fn dots(name: &str) -> &'static str
     if name.len() > MOST_SHOWN { ".." } else { "" }
 }
 
-// Adds what is shown of a name, and the quote behind it.
+// Adds what is shown of a name, and the quote after it.
 fn push_rest(text: &mut String, name: &str) -> Result<(), AllocError>
     ensures rest { OnOk result
         (string_bytes text.new
@@ -42,8 +42,11 @@ fn push_rest(text: &mut String, name: &str) -> Result<(), AllocError>
 /// Adds a name in quotes. Of a longer one the first 72 bytes and two dots are shown, and what could
 /// drive a terminal is shown as dots. If memory runs out, the text is as it was.
 pub fn push_quoted(text: &mut String, name: &str) -> Result<(), AllocError>
+    // The name is appended in quotes, at most 72 bytes of it, with dots for what could drive a
+    // terminal.
     ensures quotes { OnOk result
         (string_bytes text.new ≡ string_bytes text.old ++ in_quotes name.now) }
+    // After an error the text is as it was.
     ensures same { OnErr result (string_bytes text.new ≡ string_bytes text.old) }
 {
     let start = text.len();

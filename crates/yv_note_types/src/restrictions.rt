@@ -192,7 +192,7 @@ pub fn tell_restriction<'a>(
 #[derive(Clone, Copy)]
 enum Fault<'a> {
     Unread(&'a str),
-    /// A bound, how it stands to another one, and this.
+    /// A bound, how it compares with another one, and this.
     Order(Bound<'a>, &'static str, Bound<'a>),
 }
 

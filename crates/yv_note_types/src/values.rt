@@ -168,7 +168,7 @@ fn add_derived<'s, 'a>(
     Ok(())
 }
 
-// The identity in which this base stands, if the base is marked, and the identity isn't.
+// The identity in which this base is, if the base is marked, and the identity isn't.
 fn derived_identity<'s, 'a>(base: &Site<'s, 'a>, marks: &[bool]) -> Option<Site<'s, 'a>> {
     let identity = base.parent()?;
     if identity.is("identity")

@@ -28,9 +28,10 @@ sign n c = record { character = c; size = n }
 -- a category before this brace
 abbrev pub category_part : List ℕ → Option ℕ → Option FoundPart
 category_part cs None = None
-category_part cs (Some i) = if is_category (take i cs) then Some (part_of_size (i + 4) Category) else None
+category_part cs (Some i) =
+    if is_category (take i cs) then Some (part_of_size (i + 4) Category) else None
 
--- behind `\p` or `\P`: a category in braces
+-- after `\p` or `\P`: a category in braces
 abbrev pub category_at : List ℕ → Option FoundPart
 category_at [] = None
 category_at (c ∷ cs) = if c == 123 then category_part cs (position (λ d. d == 125) cs) else None
@@ -40,7 +41,7 @@ abbrev pub closes : List ℕ → Bool
 closes [] = false
 closes (c ∷ cs) = c == 93
 
--- behind a backslash: a character that is escaped
+-- after a backslash: a character that is escaped
 abbrev pub escaped_sign : List ℕ → Option Sign
 escaped_sign [] = None
 escaped_sign (c ∷ cs) = option_map (sign 2) (escaped_character c)
@@ -63,15 +64,17 @@ is_range (c ∷ cs) = c == 45 && not (closes cs)
 abbrev pub range_to : Sign → Option Sign → Option FoundPart
 range_to low None = None
 range_to low (Some high) =
-    if nat_le low.character high.character then Some (part_of_size (low.size + 1 + high.size) (Range low.character high.character))
+    if nat_le low.character high.character
+    then Some (part_of_size (low.size + 1 + high.size) (Range low.character high.character))
     else None
 
 -- a character, or the range that it begins
 abbrev pub character_or_range : Sign → List ℕ → Option FoundPart
 character_or_range low rest =
-    if is_range rest then range_to low (sign_at false (drop 1 rest)) else Some (part_of_size low.size (Literal low.character))
+    if is_range rest then range_to low (sign_at false (drop 1 rest))
+    else Some (part_of_size low.size (Literal low.character))
 
--- behind a backslash: a set of characters that may stand in a class
+-- after a backslash: a set of characters that may be in a class
 abbrev pub set_escape : List ℕ → Option FoundPart
 set_escape [] = None
 set_escape (c ∷ cs) =

@@ -2,7 +2,7 @@
 use Rattle.std.specs.Prelude.{ℕ, ◌+◌, ◌-◌, ◌*◌, nat_lt, nat_eq, nat_le, length, take, drop, min, position, ◌==◌, ◌||◌, ◌&&◌, Bool, List, [], ◌∷◌, Option, Some, None}
 use Rattle.std.specs.List.{list_all}
 
--- the number that digits write, after one that stands before them
+-- the number that digits write, after one that comes before them
 abbrev pub decimal_after : ℕ → List ℕ → ℕ
 decimal_after n [] = n
 decimal_after n (b ∷ bs) = decimal_after (10 * n + (b - 48)) bs
@@ -20,13 +20,15 @@ is_bound ds = nat_lt 0 (length ds) && (list_all is_digit ds && nat_le (number_of
 
 -- a bound and no other, or two bounds of which the second isn't less
 unfoldable pub are_in_order : List ℕ → List ℕ → Bool
-are_in_order low high = is_bound low && (nat_eq (length high) 0 || (is_bound high && nat_le (number_of low) (number_of high)))
+are_in_order low high =
+    is_bound low && (nat_eq (length high) 0
+    || (is_bound high && nat_le (number_of low) (number_of high)))
 
--- one bound, or what stands on either side of the comma
+-- one bound, or what is on either side of the comma
 abbrev pub are_bounds : List ℕ → Option ℕ → Bool
 are_bounds inner None = is_bound inner
 are_bounds inner (Some i) = are_in_order (take i inner) (drop (i + 1) inner)
 
--- what stands between the braces says how often
+-- what is between the braces says how often
 unfoldable pub is_count : List ℕ → Bool
 is_count inner = are_bounds inner (position (λ c. c == 44) inner)

@@ -18,10 +18,11 @@ pub record Item : Type 0 where
 abbrev pub item_of : Place → FoundPart → List ℕ → Item
 item_of p f cs = record { mark = mark_of p f.part; bytes = translation f.part (take f.size cs) }
 
--- from this place on the characters are these parts, one behind the other, and each class is closed
+-- from this place on the characters are these parts, one after the other, and each class is closed
 pub data ReadsAs : Place → List ℕ → List Item → Type 0 where
   nothing : ReadsAs Outside [] []
-  more : (p : Place) (cs : List ℕ) (f : FoundPart) (is : List Item) → part_at p cs ≡ Some f → ReadsAs (place_after p f.part) (drop f.size cs) is → ReadsAs p cs (item_of p f cs ∷ is)
+  more : (p : Place) (cs : List ℕ) (f : FoundPart) (is : List Item) → part_at p cs ≡ Some f
+      → ReadsAs (place_after p f.part) (drop f.size cs) is → ReadsAs p cs (item_of p f cs ∷ is)
 
 -- the form of these parts
 abbrev pub marks : List Item → List Mark

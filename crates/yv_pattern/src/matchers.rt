@@ -15,7 +15,7 @@ const MOST_SOURCE: usize = 256;
 
 const MOST_TABLES: usize = 65_536;
 
-// How many bytes of texts a matcher reads before it is made anew, since behind some thousands it
+// How many bytes of texts a matcher reads before it is made anew, since after some thousands it
 // takes to far larger tables.
 const MOST_READ: usize = 1_024;
 

@@ -42,7 +42,10 @@ impl Pattern {
     /// `PatternBuild` says that `regex` doesn't build the translation of a text of the dialect, as
     /// where it would take too much room.
     pub fn read(alloc: Global, text: &str) -> Result<Pattern, Stop>
+        // The text is in the dialect, and the pattern holds its translation, which is anchored at
+        // both ends of a text.
         ensures reads { IfOk result (Translates text.now) }
+        // A refusal is `BadPattern`, exactly for a text outside the dialect.
         ensures refuses { IfErr result (IsRefusedAs text.now) }
     {
         match source_of(alloc, text)? {

@@ -59,8 +59,11 @@ impl Patterns {
     /// which is 256 MiB for all patterns together, each taking 8 KiB at least. What was read before
     /// can be read again. After an error all is as before.
     pub fn read(&mut self, alloc: Global, text: &str) -> Result<Rc<Pattern>, Stop>
+        // The pattern holds the translation of the text.
         ensures reads { IfOk result (λ p. Translates text.now p.value) }
+        // A refusal is `BadPattern`, for a text outside the dialect.
         ensures refuses { IfErr result (IsRefusedAs text.now) }
+        // After an error all is as before.
         ensures same { OnErr result (self.new ≡ self.old) }
     {
         match source_of(alloc, text)? {

@@ -99,7 +99,7 @@ impl Tables {
     }
 }
 
-// An atom that is no group, or an item of a class, for which the class has nothing besides unless
+// An atom that isn't a group, or an item of a class, for which the class has nothing besides unless
 // it is turned round.
 fn size_of_atom(part: Part) -> usize {
     match part {
@@ -112,7 +112,7 @@ fn size_of_atom(part: Part) -> usize {
     }
 }
 
-// The greatest of the numbers that stand among these characters, and 1 at least.
+// The greatest of the numbers that are among these characters, and 1 at least.
 fn greatest_number(characters: &[char]) -> usize {
     let mut greatest: usize = 1;
     let mut number: usize = 0;

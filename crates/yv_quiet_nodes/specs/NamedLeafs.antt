@@ -21,6 +21,7 @@ abbrev pub are_named : List (Option NodeId) → ℕ → Bool
 are_named [] n = false
 are_named (leaf ∷ leafs) n = is_number leaf n || are_named leafs n
 
+-- a `unique` statement names this leaf
 abbrev pub some_named : List (List (Option NodeId)) → ℕ → Bool
 some_named [] n = false
 some_named (leafs ∷ rest) n = are_named leafs n || some_named rest n
@@ -29,6 +30,7 @@ some_named (leafs ∷ rest) n = are_named leafs n || some_named rest n
 abbrev pub keys_at : Rows → NodeId → List (Option NodeId)
 keys_at s p = key_leafs s p (row_at s p).label
 
+-- the leafs that the `unique` statements of a list name
 abbrev pub uniques_at : Rows → NodeId → List (List (Option NodeId))
 uniques_at s p = unique_leafs s p (row_at s p).label
 

@@ -34,15 +34,20 @@ is_mute asked _ l = true
 abbrev pub are_quiet : Rows → (first : ℕ) → Forest → Bool
 are_quiet s first no_trees = true
 are_quiet s first (tree (node l kids) ts) =
-    (is_operation_or_notification l.defined.kind || (is_mute (is_read s first) l.defined.kind l && (not (is_open l) || are_quiet s (first + 1) kids)))
+    (is_operation_or_notification l.defined.kind
+    || (is_mute (is_read s first) l.defined.kind l
+    && (not (is_open l) || are_quiet s (first + 1) kids)))
     && are_quiet s (first + 1 + count kids) ts
 
+-- of a node that isn't written nothing comes but steps
 abbrev pub is_quiet : Rows → ℕ → Tree → Bool
-is_quiet s n (node l kids) = is_operation_or_notification l.defined.kind || (is_mute (is_read s n) l.defined.kind l && (not (is_open l) || are_quiet s (n + 1) kids))
+is_quiet s n (node l kids) = is_operation_or_notification l.defined.kind
+    || (is_mute (is_read s n) l.defined.kind l && (not (is_open l) || are_quiet s (n + 1) kids))
 
 -- the steps of one tree
 abbrev pub tree_met : Tree → ℕ
-tree_met (node l kids) = if is_operation_or_notification l.defined.kind then 0 else width l + (if is_open l then count_met kids else 0)
+tree_met (node l kids) = if is_operation_or_notification l.defined.kind then 0
+    else width l + (if is_open l then count_met kids else 0)
 
 -- the steps of a quiet tree, whose node has this number
 abbrev pub quiet_steps : Rows → ℕ → Tree → Option ℕ
@@ -52,13 +57,14 @@ quiet_steps s n t = if is_quiet s n t then Some (tree_met t) else None
 abbrev pub steps_at : Rows → NodeId → Option ℕ
 steps_at s n = quiet_steps s n.0 (tree_of s n)
 
--- the node that has so many behind it
+-- the node that has so many after it
 abbrev pub node_back : Rows → ℕ → NodeId
 node_back s i = record { 0 = length s.nodes - 1 - i }
 
 -- what is known of the nodes, from the last to the first: where a tree has steps here, it is quiet
 abbrev pub AreKnown : Rows → List (Option ℕ) → Type 0
-AreKnown s known = (i w : ℕ) → slice_get known i ≡ Some (Some w) → steps_at s (node_back s i) ≡ Some w
+AreKnown s known =
+    (i w : ℕ) → slice_get known i ≡ Some (Some w) → steps_at s (node_back s i) ≡ Some w
 
 -- a node with these steps is passed over in an object with these members
 pub record IsPassed (s : Rows) (n : NodeId) (ms : Members) (steps : ℕ) : Type 0 where

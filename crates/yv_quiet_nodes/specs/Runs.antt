@@ -34,18 +34,23 @@ pub record IsRun (s : Rows) (ns : List NodeId) (run : Run) : Type 0 where
 -- a run for each of these nodes, which begins there, from the last to the first; or for the last of
 -- them alone
 abbrev pub AreRuns : Rows → List NodeId → List Run → Type 0
-AreRuns s ns runs = (i : ℕ) (run : Run) → slice_get runs i ≡ Some run → IsRun s (drop (length ns - 1 - i) ns) run
+AreRuns s ns runs =
+    (i : ℕ) (run : Run) → slice_get runs i ≡ Some run → IsRun s (drop (length ns - 1 - i) ns) run
 
 -- the runs that are kept of the children of a node
 abbrev pub kept_runs : BTreeMap ℕ (Vec Run Global) → ℕ → List Run
-kept_runs rows n = unwrap_or (option_map (λ (v : Vec Run Global). v.items) (get_by (nat_cmp n) rows)) []
+kept_runs rows n =
+    unwrap_or (option_map (λ (v : Vec Run Global). v.items) (get_by (nat_cmp n) rows)) []
 
+-- the runs of each node are those of its children
 abbrev pub HaveRuns : Rows → BTreeMap ℕ (Vec Run Global) → Type 0
 HaveRuns s rows = (p : NodeId) → AreRuns s (children_of s p) (kept_runs rows p.0)
 
+-- the runs of a node's children
 abbrev pub runs_in : RunTable → NodeId → List Run
 runs_in table p = kept_runs table.rows p.0
 
+-- a table has the runs of each node
 abbrev pub HasRuns : Rows → RunTable → Type 0
 HasRuns s table = HaveRuns s table.rows
 

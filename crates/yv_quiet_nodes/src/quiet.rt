@@ -30,8 +30,11 @@ pub fn known_nodes(alloc: Global, schema: &Schema) -> Result<Vec<Option<u64>>, A
 
 /// What is known of a node.
 pub fn known_steps(schema: &Schema, known: &[Option<u64>], id: NodeId) -> Option<u64>
+    // The number is that of a node.
     requires node { id.0 < length schema.now.nodes }
+    // What is known is that of this schema.
     requires known { AreKnown schema.now known.now }
+    // The steps of a quiet node, or none.
     ensures { IfSome result (λ steps. steps_at schema.now id ≡ Some steps) }
 {
     let back = schema.len() - 1 - id.number();
@@ -43,10 +46,14 @@ pub fn known_steps(schema: &Schema, known: &[Option<u64>], id: NodeId) -> Option
 
 /// The steps of the nodes below a node or the root.
 pub fn inner_steps(schema: &Schema, known: &[Option<u64>], parent: NodeId) -> Option<u64>
+    // The number is that of a node, or the root.
     requires node { rank parent ≤ length schema.now.nodes }
+    // What is known is that of this schema.
     requires known { AreKnown schema.now known.now }
+    // If there are some: all that is met below the node is quiet, and these are its steps.
     ensures quiet { IfSome result (λ steps.
         are_quiet schema.now (rank parent) (below schema.now parent) ≡ true) }
+    // They are the steps of what is met there.
     ensures steps { IfSome result (λ steps. count_met (below schema.now parent) ≡ steps) }
 {
     laws::child_numbers();

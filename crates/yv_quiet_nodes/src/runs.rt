@@ -33,7 +33,9 @@ impl RunTable {
         schema: &Schema,
         known: &[Option<u64>],
     ) -> Result<RunTable, AllocError>
+        // The runs that it keeps of the children of a node are of quiet nodes, with their steps.
         requires { AreKnown schema.now known.now }
+        // The runs that it keeps of the children of a node are of quiet nodes, with their steps.
         ensures { IfOk result (HasRuns schema.now) }
     {
         let mut rows = BTreeMap::new(alloc);

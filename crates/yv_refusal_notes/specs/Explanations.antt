@@ -14,7 +14,8 @@ use Rattle.yv_refusal_notes.specs.Subject.{Names}
 -- the code's name with a sentence
 abbrev pub Explains : List ℕ → Refusal → List ℕ → Type 0
 Explains bytes refusal text =
-    (line : List ℕ) × (sentence : List ℕ) × ShowsPlace bytes (min refusal.offset (length bytes)) line
+    (line : List ℕ) × (sentence : List ℕ)
+    × ShowsPlace bytes (min refusal.offset (length bytes)) line
     × (text ≡ line ++ (name_of refusal.code ++ (codes ": " ++ (sentence ++ 10 ∷ []))))
 
 -- the bytes of a file, where there is one
@@ -24,5 +25,6 @@ bytes_at (Some f) = f.bytes
 
 -- the text names what the refusal speaks of, where the files can be read
 pub data Speaks (files : List File) (r : Refusal) (text : List ℕ) : Type 0 where
-  names_row : (ts : List Tree) → AllZip IsRead files ts → Names (rows_of ts) r text → Speaks files r text
+  names_row : (ts : List Tree) → AllZip IsRead files ts → Names (rows_of ts) r text
+      → Speaks files r text
   names_syntax : (q : Refusal) → IsUnreadAt files q → Speaks files r text

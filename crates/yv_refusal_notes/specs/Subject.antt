@@ -18,6 +18,7 @@ is_told_by_argument keyword = bytes_eq keyword (codes "type") || bytes_eq keywor
 abbrev pub is_extended : List ℕ → Bool
 is_extended keyword = list_any (λ byte. byte == 58) keyword
 
+-- the argument of a statement, or else its keyword
 abbrev pub argument_or_keyword : Head → List ℕ
 argument_or_keyword h = unwrap_or h.argument h.keyword
 
@@ -27,15 +28,19 @@ abbrev pub subject : Code → Head → Option (List ℕ)
 subject code.TooManyNodes h = None
 subject code.UnknownStatement h = Some h.keyword
 subject code.Cardinality h = Some h.keyword
-subject code.Unsupported h = Some (if is_told_by_argument h.keyword then argument_or_keyword h else h.keyword)
-subject code.UnknownPrefix h = Some (if is_extended h.keyword then h.keyword else argument_or_keyword h)
+subject code.Unsupported h =
+    Some (if is_told_by_argument h.keyword then argument_or_keyword h else h.keyword)
+subject code.UnknownPrefix h =
+    Some (if is_extended h.keyword then h.keyword else argument_or_keyword h)
 subject _ h = Some (argument_or_keyword h)
 
--- the statement stands at the refusal's place
+-- the statement is at the refusal's place
 abbrev pub is_at : Refusal → Row → Bool
 is_at r row = (row.file == r.file) && (row.head.offset == r.offset)
 
--- the text names what the refusal speaks of, where a statement stands at its place: the first, if
--- there were more
+-- the text names what the refusal speaks of, where a statement is at its place: the first, if there
+-- were more
 abbrev pub Names : List Row → Refusal → List ℕ → Type 0
-Names rows r text = IfSome (option_and_then (λ (row : Row). subject r.code row.head) (find (is_at r) rows)) (λ word. Quotes word text)
+Names rows r text = IfSome
+    (option_and_then (λ (row : Row). subject r.code row.head) (find (is_at r) rows))
+    (λ word. Quotes word text)

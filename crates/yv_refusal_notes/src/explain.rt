@@ -60,9 +60,11 @@ pub fn explanation(
     bounds: &Bounds<'_>,
     refusal: &Refusal,
 ) -> Result<String, AllocError>
+    // The line that contains the refusal's place, and below it the code's name with a sentence.
     ensures place { IfOk result
         (λ s. Explains (bytes_at (slice_get (map file_of inputs.now) refusal.now.file)) refusal.now
         (string_bytes s)) }
+    // The sentence names the argument or keyword at fault, where the files can be read.
     ensures speaks { IfOk result
         (λ s. Speaks (map file_of inputs.now) refusal.now (string_bytes s)) }
 {

@@ -131,8 +131,11 @@ pub fn push_sentence(
     bounds: &Bounds<'_>,
     refusal: &Refusal,
 ) -> Result<(), AllocError>
+    // The text is extended, and quotes the word of the first statement at the refusal's place.
     ensures grows { OnOk result (Extends (string_bytes text.old) (string_bytes text.new)) }
+    // It quotes the word of the first statement at the refusal's place.
     ensures names { OnOk result (Names (rows_in rows.now) refusal.now (string_bytes text.new)) }
+    // After an error the text is as it was.
     ensures same { OnErr result (string_bytes text.new ≡ string_bytes text.old) }
 {
     let sentence = sentence(alloc, inputs, rows, bounds, refusal)?;

@@ -30,12 +30,16 @@ pub record IsGiven (choice : Selected) (ts : List Tree) (limit : ℕ) (s : Rows)
 
 -- What files come to under a choice and a limit of what they may expand to: one of them can't be
 -- read, though those before it can; or their statements are refused; or they give their schema.
-pub data FilesCompile (choice : Selected) (limit : ℕ) (files : List File) : Compilation → Type 0 where
-  bad_syntax : {r : Refusal} (n : ℕ) (f : File) (ts : List Tree) → AllZip IsRead (take n files) ts → slice_get files n ≡ Some f → IsUnread f r
+pub data FilesCompile (choice : Selected) (limit : ℕ) (files : List File) : Compilation
+    → Type 0 where
+  bad_syntax : {r : Refusal} (n : ℕ) (f : File) (ts : List Tree) → AllZip IsRead (take n files) ts
+      → slice_get files n ≡ Some f → IsUnread f r
       → FilesCompile choice limit files (RefusedAt (in_file n r))
-  refuses : {r : Refusal} (ts : List Tree) → AllZip IsRead files ts → IsLeast (Refuses choice ts limit) (Some r)
+  refuses : {r : Refusal} (ts : List Tree) → AllZip IsRead files ts
+      → IsLeast (Refuses choice ts limit) (Some r)
       → FilesCompile choice limit files (RefusedAt r)
-  gives_schema : {schema : Rows} (ts : List Tree) → AllZip IsRead files ts → IsLeast (Refuses choice ts limit) None
+  gives_schema : {schema : Rows} (ts : List Tree) → AllZip IsRead files ts
+      → IsLeast (Refuses choice ts limit) None
       → IsGiven choice ts limit schema → FilesCompile choice limit files (HasSchema schema)
 
 -- the files come to some schema

@@ -29,7 +29,8 @@ reading_of (Some d) = if ltb document_limit (size d) then TooLarge else Reads d
 
 -- bytes of which there are too many are too large; others are what they are as JSON
 unfoldable pub document_text : List ℕ → DocumentText
-document_text bytes = if ltb document_limit (length bytes) then TooLarge else reading_of (json_of bytes)
+document_text bytes =
+    if ltb document_limit (length bytes) then TooLarge else reading_of (json_of bytes)
 
 -- what was read, as clauses see it
 abbrev pub document_view : Document → DocumentText

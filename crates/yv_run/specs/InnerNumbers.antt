@@ -1,4 +1,4 @@
--- Only private clauses cite this: the number behind a path.
+-- Only private clauses cite this: the number after a path.
 use Rattle.std.specs.Prelude.{ℕ, List, [], ◌++◌, ◌==◌, codes, decimal, if◌then◌else◌}
 
 abbrev pub number_text : ℕ → List ℕ

@@ -17,7 +17,8 @@ abbrev pub HasNote : (Option (List ℕ) → Type 0) → RunEnd → Type 0
 HasNote IsNote ended = IfOk ended.note (λ note. IsNote (option_map string_bytes note))
 
 -- what is said of some bytes was written, which the reader gave, and which are gone from it
-pub record RunsData (k : Kind) (s : Rows) (ended : RunEnd) (unread rest old new : Option (List ℕ)) : Type 0 where
+pub record RunsData (k : Kind) (s : Rows) (ended : RunEnd)
+    (unread rest old new : Option (List ℕ)) : Type 0 where
   pub given : List ℕ
   pub gives : Gives unread given
   pub consumed : Consumes unread rest given
@@ -25,7 +26,8 @@ pub record RunsData (k : Kind) (s : Rows) (ended : RunEnd) (unread rest old new 
   pub noted : HasNote (NotesData k s given) ended
 
 -- what was asked of a schema was written
-pub record RunsSchema (asked : CommandAsked) (k : Kind) (s : Rows) (ended : RunEnd) (unread rest old new : Option (List ℕ)) : Type 0 where
+pub record RunsSchema (asked : CommandAsked) (k : Kind) (s : Rows) (ended : RunEnd)
+    (unread rest old new : Option (List ℕ)) : Type 0 where
   pub given : List ℕ
   pub gives : Gives unread given
   pub consumed : Consumes unread rest (schema_read asked given)

@@ -25,18 +25,22 @@ abbrev pub NotesPattern : List File → (note : Option (List ℕ)) → Type 0
 NotesPattern files note = IsSomeAnd note (TellsPattern files)
 
 -- the note on what was asked of a schema: none on the number of nodes
-abbrev pub NotesSchema : CommandAsked → Kind → Rows → (given : List ℕ) → (note : Option (List ℕ)) → Type 0
+abbrev pub NotesSchema : CommandAsked → Kind → Rows → (given : List ℕ) → (note : Option (List ℕ))
+    → Type 0
 NotesSchema Compiles k s given note = note ≡ None
 NotesSchema (Draws name) k s given note = NotesDiagram s name note
 NotesSchema (Checks f) k s given note = NotesData k s given note
 
 -- the note on what files come to: why they are refused, or the one on what was asked of their
 -- schema
-abbrev pub NotesCompiled : Task → List File → Compilation → (given : List ℕ) → (note : Option (List ℕ)) → Type 0
+abbrev pub NotesCompiled : Task → List File → Compilation → (given : List ℕ)
+    → (note : Option (List ℕ)) → Type 0
 NotesCompiled task files (RefusedAt r) given note = IsSomeAnd note (TellsRefusal files r)
 NotesCompiled task files (HasSchema s) given note = NotesSchema task.asked task.kind s given note
 
 -- a run, and the note on what it wrote, unless there was no memory for the note
-pub record RunsWithNote (task : Task) (files : List File) (ended : RunEnd) (unread rest old new : Option (List ℕ)) : Type 0 where
+pub record RunsWithNote (task : Task) (files : List File) (ended : RunEnd)
+    (unread rest old new : Option (List ℕ)) : Type 0 where
   pub runs : Runs task files ended.status unread rest old new
-  pub noted : IfOk ended.note (λ note. NotesCompiled task files runs.compiled runs.given (option_map string_bytes note))
+  pub noted : IfOk ended.note
+      (λ note. NotesCompiled task files runs.compiled runs.given (option_map string_bytes note))

@@ -36,13 +36,16 @@ name_of_file (Some f) = f.name
 
 -- FILE:LINE: NAME
 abbrev pub refusal_line : List File → Refusal → List ℕ
-refusal_line files r = ended_line (name_of_file (slice_get files r.file) ++ (58 ∷ decimal r.line ++ codes ": " ++ name_of r.code))
+refusal_line files r =
+    ended_line (name_of_file (slice_get files r.file)
+    ++ (58 ∷ decimal r.line ++ codes ": " ++ name_of r.code))
 
 -- `valid`, or the faults' lines and how many they are
 abbrev pub faults_printed : List Flaw → Page
 faults_printed [] = record { text = ended_line (codes "valid"); verdict = Clean }
 faults_printed (f ∷ fs) = record { text = faults_text (f ∷ fs); verdict = Refused }
 
+-- what is printed of a document that is too large or not JSON
 abbrev pub bad_input : List ℕ → Page
 bad_input text = record { text = ended_line text; verdict = BadInput }
 
@@ -52,12 +55,14 @@ reading_printed k s TooLarge = bad_input (codes "data: too large")
 reading_printed k s NotJson = bad_input (codes "data: not JSON")
 reading_printed k s (Reads d) = faults_printed (faults k s d)
 
+-- what is printed of a document of these bytes
 abbrev pub data_printed : Kind → Rows → List ℕ → Page
 data_printed k s given = reading_printed k s (document_text given)
 
 -- `nodes: N`, for as many nodes as the schema has
 abbrev pub count_printed : Forest → Page
-count_printed ts = record { text = ended_line (codes "nodes: " ++ decimal (node_count ts)); verdict = Clean }
+count_printed ts =
+    record { text = ended_line (codes "nodes: " ++ decimal (node_count ts)); verdict = Clean }
 
 -- a diagram, or that there is no module to draw
 abbrev pub drawn_printed : (diagram : Option (List ℕ)) → Page
@@ -74,6 +79,7 @@ schema_printed Compiles k s given = count_printed (whole s)
 schema_printed (Draws name) k s given = diagram_printed s name
 schema_printed (Checks f) k s given = data_printed k s given
 
+-- what is printed of refused files
 abbrev pub refusal_printed : List File → Refusal → Page
 refusal_printed files r = record { text = refusal_line files r; verdict = Refused }
 
@@ -85,7 +91,8 @@ compiled_printed task files (HasSchema s) given = schema_printed task.asked task
 -- what a run prints that is to do this task with these files, where the document's bytes are
 -- `given`
 abbrev pub IsOutput : Task → List File → List ℕ → Page → Type 0
-IsOutput task files given p = (c : Compilation) × FilesCompile task.choice task.limit files c × (compiled_printed task files c given ≡ p)
+IsOutput task files given p = (c : Compilation) × FilesCompile task.choice task.limit files c
+    × (compiled_printed task files c given ≡ p)
 
 -- a document is read for this
 abbrev pub ReadsData : CommandAsked → Type 0
@@ -117,5 +124,6 @@ body_text (Text text) = string_bytes text
 body_text (Diagram text) = text
 body_text (Faults list) = faults_text list.items
 
+-- what an output of the code prints
 abbrev pub printed_of : Output → Page
 printed_of o = record { text = body_text o.body; verdict = o.verdict }

@@ -32,14 +32,16 @@ NotesFaults (f ∷ fs) note = IsSomeAnd note (Tells (f ∷ fs))
 
 -- the note on given bytes, by what they are and by the faults of the document: of what they have
 -- too many, why they are not JSON, or the faults
-abbrev pub NotesReading : DocumentText → List Flaw → (given : List ℕ) → (note : Option (List ℕ)) → Type 0
+abbrev pub NotesReading : DocumentText → List Flaw → (given : List ℕ) → (note : Option (List ℕ))
+    → Type 0
 NotesReading TooLarge fs given note = IsSomeAnd note (TellsLarge given)
 NotesReading NotJson fs given note = IsSomeAnd note (SaysWhy given)
 NotesReading (Reads d) fs given note = NotesFaults fs note
 
 -- the note on these bytes as a document of a kind: none where it is valid
 abbrev pub NotesData : Kind → Rows → (given : List ℕ) → (note : Option (List ℕ)) → Type 0
-NotesData k s given note = NotesReading (document_text given) (faults_in k s (document_text given)) given note
+NotesData k s given note =
+    NotesReading (document_text given) (faults_in k s (document_text given)) given note
 
 -- the note that there is no diagram, and none where there is one
 abbrev pub NotesDrawn : (diagram : Option (List ℕ)) → (note : Option (List ℕ)) → Type 0

@@ -10,7 +10,7 @@ use Rattle.yv_run.specs.declared.status.Status.{Status}
 use Rattle.yv_run.specs.declared.status.Status.TheVariants as ended
 use Rattle.yv_streams.specs.Files.{File}
 
--- what is taken of a document at most: one byte more than it may have
+-- the most bytes that are read of a document: one more than it may have
 abbrev pub most_read : ℕ
 most_read = 16777217
 
@@ -29,12 +29,14 @@ compiled_read asked (HasSchema s) given = schema_read asked given
 -- or, after a write fault, its first bytes were
 pub data Writes (p : Page) (status : Status) (old new : Option (List ℕ)) : Type 0 where
   all : Appends old new p.text → status ≡ status_of p.verdict → Writes p status old new
-  front : (count : ℕ) → Appends old new (take count p.text) → status ≡ ended.WriteFault → Writes p status old new
+  front : (count : ℕ) → Appends old new (take count p.text) → status ≡ ended.WriteFault
+      → Writes p status old new
 
 -- A run of a task with these files, which nothing stopped but maybe the writer. For some bytes,
 -- which are those that the reader gives where they are known, it writes the output; those of them
 -- that it reads are gone from the reader, and no others.
-pub record Runs (task : Task) (files : List File) (status : Status) (unread rest old new : Option (List ℕ)) : Type 0 where
+pub record Runs (task : Task) (files : List File) (status : Status)
+    (unread rest old new : Option (List ℕ)) : Type 0 where
   pub given : List ℕ
   pub gives : Gives unread given
   pub compiled : Compilation

@@ -23,7 +23,9 @@ pub enum Document {
 
 /// What a document of these bytes is.
 pub fn read_document(alloc: Global, bytes: &[u8]) -> Result<Document, AllocError>
+    // What the bytes are: too large, not JSON, or a value within the limits.
     ensures reads { IfOk result (λ d. document_view d ≡ document_text bytes.now) }
+    // A value that is answered meets the limits on size and depth.
     ensures limits { IfOk result MeetsLimits }
 {
     if bytes.len() > MOST_BYTES {

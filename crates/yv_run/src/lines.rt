@@ -14,14 +14,20 @@ use yv_validate::{Fault, MemberName, Part, PathSteps};
 /// Writes the lines of faults and how many they are, and answers whether all was taken. It takes no
 /// memory, however much text that is.
 pub fn write_faults<W: Write>(writer: &mut Counted<W>, faults: &[Fault]) -> bool
+    // The writer has not failed.
     requires { has_failed writer.old ≡ false }
+    // If true is returned, the writer has received the lines of the faults and the line with their
+    // number, and nothing else.
     ensures ends { result ≡ true
         → Appends (W.contents (stream_inner writer.old)) (W.contents (stream_inner writer.new))
         (faults_text faults.now) }
+    // In any case it has received the first bytes of that text, and nothing else.
     ensures part { (n : ℕ)
         × Appends (W.contents (stream_inner writer.old)) (W.contents (stream_inner writer.new))
         (take n (faults_text faults.now)) }
+    // False is returned exactly if the writer has failed.
     ensures fault { result ≡ false ↔ (has_failed writer.new ≡ true) }
+    // At most one call of the writer failed in a way that is not tolerated, and none came after it.
     ensures once { FailsOnceAtMost writer.new }
 {
     let mut page = Page::new();
@@ -42,7 +48,7 @@ fn put_count<W: Write>(page: &mut Page, writer: &mut Counted<W>, count: usize)
     page.put(writer, b"\n");
 }
 
-// Puts the lines of faults behind what a page holds, each with a line feed, and writes each full
+// Puts the lines of faults after what a page holds, each with a line feed, and writes each full
 // page.
 fn put_lines<W: Write>(page: &mut Page, writer: &mut Counted<W>, faults: &[Fault])
     ensures { Adds (fault_lines faults.now) (paged_output W.contents writer.old page.old)

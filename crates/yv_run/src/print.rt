@@ -13,7 +13,7 @@ use yv_streams::Input;
 use yv_tree::TreeDiagram;
 use yv_validate::{Fault, validate};
 
-/// What is written of an outcome. A diagram and the lines of faults are no text: they may be more
+/// What is written of an outcome. A diagram and the lines of faults aren't text: they may be more
 /// than memory holds, since what is short in a module may be shown many times, and a fault has all
 /// the names on its way.
 #[derive(Drop)]
@@ -114,9 +114,13 @@ pub fn of_data(
     bytes: &[u8],
     kind: Kind,
 ) -> Result<CheckResult, AllocError>
+    // The document's faults against the schema in order, as a document of this kind, or that it is
+    // valid, too large or not JSON.
     ensures prints { IfOk result
         (λ c. printed_of c.output ≡ data_printed kind schema.now bytes.now) }
+    // The document is what these bytes are.
     ensures document { IfOk result (λ c. document_view c.document ≡ document_text bytes.now) }
+    // The faults are those of the definition for it.
     ensures faults { IfOk result
         (λ c. faults_of c.output.body ≡ faults_in kind schema.now (document_text bytes.now)) }
 {

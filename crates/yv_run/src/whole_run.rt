@@ -100,7 +100,9 @@ impl RunEnd {
 
     /// A run that was stopped before it held anything, with this note.
     pub fn stop_with_note(status: Status, note: Result<Option<String>, AllocError>) -> RunEnd
+        // The status is this one.
         ensures status { result.status ≡ status }
+        // The note is this one.
         ensures note { result.note ≡ note }
     {
         RunEnd {
@@ -123,24 +125,43 @@ pub fn run<R: Read, W: Write>(
     reader: &mut Counted<R>,
     writer: &mut Counted<W>,
 ) -> Status
+    // The job has 1 to 256 files.
     requires files { HasFiles job.now }
+    // Its limit is within 1 to 1,000,000.
     requires limit { HasLimit job.now }
+    // There is an input for each file.
     requires each { length inputs.now ≡ length job.now.files.items }
+    // The reader is fresh.
     requires reader { IsFresh reader.old }
+    // The writer is fresh.
     requires writer { IsFresh writer.old }
+    // Unless want of memory, a pattern or the reader stopped the run: of the output of the job's
+    // task with these files, and of the bytes that the reader gave, all was appended to what the
+    // writer held, and the status is that of the output, or, after `WriteFault`, the first bytes
+    // were. Those of the same bytes on which the output depends are consumed from the reader, and
+    // no others; none are if no document is needed.
     ensures writes { IsStopped result
         ⊎ Runs (task_of job.now) (map file_of inputs.now) result
         (R.remaining (stream_inner reader.old)) (R.remaining (stream_inner reader.new))
         (W.contents (stream_inner writer.old)) (W.contents (stream_inner writer.new)) }
+    // If the run was stopped, nothing was written.
     ensures rest { IsStopped result → writer.new ≡ writer.old }
+    // Nothing is read unless the job needs a document and the files are not refused.
     ensures reads_on { WantsData (task_of job.now) (map file_of inputs.now)
         ⊎ (reader.new ≡ reader.old) }
+    // `ReadFault` is returned exactly if the reader has failed.
     ensures read_fault { result ≡ Status.ReadFault ↔ (has_failed reader.new ≡ true) }
+    // `WriteFault` is returned exactly if the writer has failed.
     ensures write_fault { result ≡ Status.WriteFault ↔ (has_failed writer.new ≡ true) }
+    // At most 16,777,217 bytes are consumed from the reader, whatever is returned.
     ensures takes { TakesAtMost most_read (R.remaining (stream_inner reader.old))
         (R.remaining (stream_inner reader.new)) }
+    // At most one call of the reader failed in a way that is not tolerated, and none came after it.
     ensures reader_once { FailsOnceAtMost reader.new }
+    // The same of the writer.
     ensures writer_once { FailsOnceAtMost writer.new }
+    // `PatternBuild` is returned only if the files have a pattern and nothing is refused that comes
+    // before the types.
     ensures builds { result ≡ Status.PatternBuild
         → HavePattern (selected_of job.now.selection) job.now.limit (map file_of inputs.now) }
 {
@@ -158,30 +179,47 @@ pub fn run_with_note<R: Read, W: Write>(
     reader: &mut Counted<R>,
     writer: &mut Counted<W>,
 ) -> RunEnd
+    // The job has 1 to 256 files.
     requires files { HasFiles job.now }
+    // Its limit is within 1 to 1,000,000.
     requires limit { HasLimit job.now }
+    // There is an input for each file.
     requires each { length inputs.now ≡ length job.now.files.items }
+    // The reader is fresh.
     requires reader { IsFresh reader.old }
+    // The writer is fresh.
     requires writer { IsFresh writer.old }
+    // Unless the run was stopped, it is as `run` says, and the note is about what was written.
     ensures writes { IsStopped result.status
         ⊎ RunsWithNote (task_of job.now) (map file_of inputs.now) result
         (R.remaining (stream_inner reader.old))
         (R.remaining (stream_inner reader.new)) (W.contents (stream_inner writer.old))
         (W.contents (stream_inner writer.new)) }
+    // If the run was stopped, nothing was written.
     ensures rest { IsStopped result.status → writer.new ≡ writer.old }
+    // Nothing is read unless the job needs a document and the files are not refused.
     ensures reads_on { WantsData (task_of job.now) (map file_of inputs.now)
         ⊎ (reader.new ≡ reader.old) }
+    // `ReadFault` is returned exactly if the reader has failed.
     ensures read_fault { result.status ≡ Status.ReadFault ↔ (has_failed reader.new ≡ true) }
+    // `WriteFault` is returned exactly if the writer has failed.
     ensures write_fault { result.status ≡ Status.WriteFault ↔ (has_failed writer.new ≡ true) }
+    // At most 16,777,217 bytes are consumed from the reader, whatever is returned.
     ensures takes { TakesAtMost most_read (R.remaining (stream_inner reader.old))
         (R.remaining (stream_inner reader.new)) }
+    // At most one call of the reader failed in a way that is not tolerated, and none came after it.
     ensures reader_once { FailsOnceAtMost reader.new }
+    // The same of the writer.
     ensures writer_once { FailsOnceAtMost writer.new }
+    // `PatternBuild` is returned only if the files have a pattern and nothing is refused that comes
+    // before the types.
     ensures builds { result.status ≡ Status.PatternBuild
         → HavePattern (selected_of job.now.selection) job.now.limit (map file_of inputs.now) }
+    // Then a note shows a pattern of the files.
     ensures note_on_pattern { result.status ≡ Status.PatternBuild
         → IfOk result.note
         (λ note. NotesPattern (map file_of inputs.now) (option_map string_bytes note)) }
+    // There is no note where memory ran out or the reader failed.
     ensures no_note { (result.status ≡ Status.NoMemory) ⊎ (result.status ≡ Status.ReadFault)
         → result.note ≡ Ok None }
 {

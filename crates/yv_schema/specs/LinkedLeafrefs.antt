@@ -13,6 +13,8 @@ use Rattle.yv_schema.specs.Schema.{IsSchema, leafrefs_of}
 -- leads there and says whether an instance is required
 abbrev pub AreLinked : Selected → Files → Forest → List (Option Link) → Type 0
 AreLinked choice files nodes links =
-    (schema : IsSchema choice files nodes) (n : ℕ) (row : Row) (ref : Referral) → IsLeafref (leafrefs_of schema.basis) n row ref
-    → (link : Link) × (reference_in links n ≡ Some link) × RefersTo (leafrefs_of schema.basis) n link.target
+    (schema : IsSchema choice files nodes) (n : ℕ) (row : Row) (ref : Referral)
+    → IsLeafref (leafrefs_of schema.basis) n row ref
+    → (link : Link) × (reference_in links n ≡ Some link)
+    × RefersTo (leafrefs_of schema.basis) n link.target
     × (link.is_required ≡ ref.is_required)

@@ -46,6 +46,7 @@ note_of_augment files (Some r) (Some target) added = record {
   nodes = map (λ n. record { 0 = n }) added;
 } ∷ []
 
+-- the notes of these augments that add nodes
 abbrev pub notes_from : Basis → (augments : List ℕ) → List Note
 notes_from b [] = []
 notes_from b (a ∷ others) =

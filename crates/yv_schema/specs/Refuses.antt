@@ -14,12 +14,12 @@ use Rattle.yv_schema_tables.specs.Bad.{BadRows}
 use Rattle.yv_schema_build.specs.Refusals.{BadTyping, RefusesBeforeExpansion}
 use Rattle.yv_schema.specs.Schema.{IsSchema, Basis, leafrefs_of}
 
--- f stands in the schema tree of a basis: a duplicate name, a list whose key or `unique` statements
+-- f is in the schema tree of a basis: a duplicate name, a list whose key or `unique` statements
 -- name what they may not, a leafref that leads nowhere or to itself, or what is wrong else
 abbrev pub BadNodes : Basis → Forest → Refusal → Type 0
 BadNodes b top f = BadRows top f ⊎ (BadTree top f ⊎ BadLeafrefs (leafrefs_of b) f)
 
--- f stands in the schema tree of the files
+-- f is in the schema tree of the files
 pub record BadSchema (choice : Selected) (files : Files) (f : Refusal) : Type 0 where
   pub tree : Forest
   pub schema : IsSchema choice files tree

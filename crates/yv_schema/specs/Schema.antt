@@ -21,7 +21,7 @@ use Rattle.yv_schema_build.specs.Module.{module_name}
 use Rattle.yv_schema_build.specs.Referrals.{referral_at}
 
 -- what a schema is made of: the statements of files, which of their conditions hold, what their
--- types stand for, and the nodes that conditions leave of the tree to which the files expand
+-- types mean, and the nodes that conditions leave of the tree to which the files expand
 pub record Basis : Type 0 where
   pub files : Files
   pub truth : Truth
@@ -80,7 +80,8 @@ pub record IsSchema (choice : Selected) (files : Files) (tree : Forest) : Type 0
 
 -- this is where the paths of its leafrefs lead that require an instance, each at the number of its
 -- node (sections 9.9.2 and 9.9.3)
-pub record AreReferences (choice : Selected) (files : Files) (links : List (Option Link)) : Type 0 where
+pub record AreReferences (choice : Selected) (files : Files)
+    (links : List (Option Link)) : Type 0 where
   pub basis : Basis
   pub of_files : basis.files ≡ files
   pub is_basis : IsBasis choice basis

@@ -34,28 +34,45 @@ pub fn compile(
     selection: &Selection,
     limit: u32,
 ) -> Result<Schema, Stop>
+    // The schema's tree is one of these files: the nodes that conditions leave of the tree to which
+    // the implemented modules expand, each as its statement and its refines say it, by what types
+    // mean (plain types, and defaults by typedefs), with its leafrefs resolved: the values of
+    // each have the types at the end of its chain.
     ensures schema { IfOk result (λ s. IsSchema (selected_of selection.now) files.now (whole s)) }
+    // The limit is this one.
     ensures limit { IfOk result (λ s. s.limit ≡ limit) }
+    // The modules are those of the files, under this selection: implemented or not, in order.
     ensures modules { IfOk result
         (λ s. s.modules ≡ modules_of (selected_of selection.now) files.now) }
+    // The notes are those of the augments that add nodes, each with its target.
     ensures augments { IfOk result
         (λ s. AreNotes (selected_of selection.now) files.now s.augments) }
+    // The links are those of the leafrefs: where each path leads, and what each step means.
     ensures references { IfOk result
         (λ s. AreReferences (selected_of selection.now) files.now s.links) }
+    // Each leafref has its link, and nothing else has one.
     ensures links { IfOk result
         (λ s. AreLinked (selected_of selection.now) files.now (whole s) s.links) }
+    // The schema has at most as many nodes as the files have units.
     ensures units { IfOk result
         (λ s. (units : ℕ) → TakeUnits (selected_of selection.now) files.now units
         → count (whole s) ≤ units) }
+    // The schema is sound, as validation needs it.
     ensures sound { IfOk result IsSound }
+    // A schema is returned only if nothing is refused.
     ensures clear { OnOk result
         (IsLeast (Refuses (selected_of selection.now) files.now limit) None) }
+    // A refusal is the least that applies, by phase, file, offset and code.
     ensures refusal { (r : Refusal) → result ≡ Err (Fault r)
         → IsLeast (Refuses (selected_of selection.now) files.now limit) (Some r) }
+    // `PatternBuild` is returned only if a type has a pattern.
     ensures builds { result ≡ Err PatternBuild → HasTypePattern files.now }
+    // Then nothing is refused that comes before the types.
     ensures before { result ≡ Err PatternBuild
         → IsLeast (RefusesBeforeTypes (selected_of selection.now) files.now limit) None }
+    // More than 2^32 files are answered with `NoMemory`.
     ensures many { 4294967296 < length files.now → result ≡ Err NoMemory }
+    // Files of which a schema is returned have at most 2^32 - 3 statements.
     ensures few { OnOk result (length (rows_of files.now) ≤ 4294967293) }
 {
     a_schema_is_that_of_the_tree();

@@ -13,12 +13,15 @@ ghost use Rattle.yv_schema.specs.{Schema.{AreReferences, IsSchema}, Notes.{AreNo
 /// Where nothing is refused, files have one schema tree under a choice, their augments add to it in
 /// one way, and its leafrefs lead one way.
 pub fn files_have_one_schema()
+    // There is one schema tree.
     ensures tree { (choice : Selected) (files : Files) (limit : ℕ) (a b : Forest)
         → IsLeast (Refuses choice files limit) None → IsSchema choice files a
         → IsSchema choice files b → a ≡ b }
+    // There is one list of augments.
     ensures augments { (choice : Selected) (files : Files) (limit : ℕ) (a b : List Note)
         → IsLeast (Refuses choice files limit) None → AreNotes choice files a
         → AreNotes choice files b → a ≡ b }
+    // There is one list of links.
     ensures references { (choice : Selected) (files : Files) (limit : ℕ) (a b : List (Option Link))
         → IsLeast (Refuses choice files limit) None → AreReferences choice files a
         → AreReferences choice files b → a ≡ b }
@@ -35,9 +38,11 @@ pub fn files_have_one_schema()
 /// schema tree by that definition is one by numbered items too, where the files have a final tree
 /// by number (RFC 7950, sections 5.6.5, 7.12 to 7.17, and 7.20.2).
 pub fn a_schema_is_that_of_the_tree()
+    // A schema tree by numbered items is one by the tree.
     ensures gives { (choice : Selected) (files : Files) (tree : Forest) → AreSound files
         → HaveRoots files → IsLeast (BadFeatures files) None → IsNumberedSchema choice files tree
         → IsSchema choice files tree }
+    // One by the tree is one by numbered items, where the files have a final tree.
     ensures takes { (choice : Selected) (files : Files) (tree : Forest) (f : Final)
         → AreSound files → HaveRoots files → IsLeast (BadFeatures files) None
         → IsFinal choice files f → IsSchema choice files tree → IsNumberedSchema choice files tree }
@@ -50,9 +55,11 @@ pub fn a_schema_is_that_of_the_tree()
 /// The leafrefs of files lead where those of the tree lead to which the files expand (RFC 7950,
 /// sections 9.9.2 and 9.9.3).
 pub fn references_are_those_of_the_tree()
+    // Links by numbered items are links by the tree.
     ensures gives { (choice : Selected) (files : Files) (links : List (Option Link))
         → AreSound files → HaveRoots files → IsLeast (BadFeatures files) None
         → AreNumberedReferences choice files links → AreReferences choice files links }
+    // Those by the tree are those by numbered items, where the files have a final tree.
     ensures takes { (choice : Selected) (files : Files) (links : List (Option Link)) (f : Final)
         → AreSound files → HaveRoots files → IsLeast (BadFeatures files) None
         → IsFinal choice files f → AreReferences choice files links
@@ -67,9 +74,11 @@ pub fn references_are_those_of_the_tree()
 /// to which the files expand: each is noted with the nodes that it gives, and with the node above
 /// these as its target (RFC 7950, section 7.17).
 pub fn notes_are_those_of_the_tree()
+    // Notes by numbered items are notes by the tree.
     ensures gives { (choice : Selected) (files : Files) (notes : List Note) → AreSound files
         → HaveRoots files → IsLeast (BadFeatures files) None → AreNumberedNotes choice files notes
         → AreNotes choice files notes }
+    // Those by the tree are those by numbered items, where the files have a final tree.
     ensures takes { (choice : Selected) (files : Files) (notes : List Note) (f : Final)
         → AreSound files → HaveRoots files → IsLeast (BadFeatures files) None
         → IsFinal choice files f → AreNotes choice files notes
@@ -103,14 +112,17 @@ pub fn refusals_are_those_of_the_tree()
 /// something is refused before they are expanded, and where they pass the limit (RFC 7950, sections
 /// 3, 7.5 to 7.17, and 9.9).
 pub fn least_refusals_are_those_of_the_tree()
+    // Where the files have a final tree and at most 2^32 - 3 statements.
     ensures with_final_tree { (choice : Selected) (files : Files) (limit : ℕ)
         (f : Final) (o : Option Refusal)
         → length (rows_of files) ≤ 4294967293 → IsFinal choice files f
         → IsLeast (RefusesByNumber choice files limit) o ↔ IsLeast (Refuses choice files limit) o }
+    // Where something is refused before they are expanded.
     ensures with_early_refusal { (choice : Selected) (files : Files) (limit : ℕ)
         (r : Refusal) (o : Option Refusal)
         → RefusesBeforeExpansion files r
         → IsLeast (RefusesByNumber choice files limit) o ↔ IsLeast (Refuses choice files limit) o }
+    // Where they pass the limit.
     ensures past_the_limit { (choice : Selected) (files : Files) (limit : ℕ)
         (r : Refusal) (o : Option Refusal)
         → IsLeast (TooMany files (marks_of choice files) limit) (Some r)

@@ -17,7 +17,7 @@ use Rattle.yv_schema_build.specs.Referrals.{referral_at}
 use Rattle.yv_schema_build.specs.Module.{module_name}
 
 -- what a schema is made of: the statements of files, which of their conditions hold, what their
--- types stand for, what they come to when all augments were applied, and the nodes that conditions
+-- types mean, what they come to when all augments were applied, and the nodes that conditions
 -- leave of that
 pub record NumberedBasis : Type 0 where
   pub files : Files
@@ -26,22 +26,24 @@ pub record NumberedBasis : Type 0 where
   pub final : Final
   pub nodes : Nodes
 
--- the file of the module to which a numbered item belongs: that in which the statement stands that
--- put it there outside groupings (sections 7.13 and 7.17)
+-- the file of the module to which a numbered item belongs: that in which the statement is that put
+-- it there outside groupings (sections 7.13 and 7.17)
 abbrev pub module_file_of : NumberedBasis → (item : ℕ) → ℕ
 module_file_of b item = module_file_of_item (spots_of b.files b.final) item
 
 -- what the node of a numbered item is, below these nodes, the nearest first
 abbrev pub label_at : NumberedBasis → (above : List Label) → (item : ℕ) → Label
 label_at b above item =
-    label_of (refined_definition b.typing b.files (origin_at b.final.items item) (slice_index_or (changes_of b.files b.final) item []))
+    label_of (refined_definition b.typing b.files (origin_at b.final.items item)
+    (slice_index_or (changes_of b.files b.final) item []))
     (module_file_of b item) (module_name b.files (module_file_of b item)) above
 
 -- the schema nodes of the items that are left, in order, below these nodes
 abbrev pub with_labels : NumberedBasis → (above : List Label) → Nodes → Forest
 with_labels b above left.none = no_trees
 with_labels b above (left.item number below behind) =
-    let own : Label = label_at b above number in tree (node own (with_labels b (own ∷ above) below)) (with_labels b above behind)
+    let own : Label = label_at b above number
+    in tree (node own (with_labels b (own ∷ above) below)) (with_labels b above behind)
 
 -- the schema tree as its statements say it, in which the values of leafrefs have no types yet
 abbrev pub stated_of : NumberedBasis → Forest
@@ -57,4 +59,7 @@ said_of b x = referral_at b.typing b.files (origin_at b.final.items x.origin)
 
 -- the rows of that tree, and what they say as leafrefs
 abbrev pub leafrefs_of : NumberedBasis → Schema
-leafrefs_of b = record { rows = rows_from 0 (stated_of b); says = λ n. option_and_then (said_of b) (slice_get (nodes_in b) n) }
+leafrefs_of b = record {
+  rows = rows_from 0 (stated_of b);
+  says = λ n. option_and_then (said_of b) (slice_get (nodes_in b) n);
+}

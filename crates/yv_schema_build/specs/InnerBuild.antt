@@ -24,8 +24,10 @@ use Rattle.yv_schema_build.specs.InnerRefuses.{BadNumberedNodes}
 -- and differ, and the files of those that are implemented have these
 pub record AreNames (choice : Selected) (files : Files) : Type 0 where
   pub fine : (n : ℕ) (t : statement.Tree) (f : Refusal) → slice_get files n ≡ Some t → Bad t f → ⊥
-  pub plain : (n : ℕ) (t : statement.Tree) → slice_get files n ≡ Some t → is_given choice t ≡ true → HasNoColon (tree_name t)
-  pub differ : (m n : ℕ) (t u : statement.Tree) → m < n → slice_get files m ≡ Some t → slice_get files n ≡ Some u
+  pub plain : (n : ℕ) (t : statement.Tree) → slice_get files n ≡ Some t → is_given choice t ≡ true
+      → HasNoColon (tree_name t)
+  pub differ : (m n : ℕ) (t u : statement.Tree) → m < n → slice_get files m ≡ Some t
+      → slice_get files n ≡ Some u
       → is_given choice t ≡ true → is_given choice u ≡ true → tree_name t ≢ tree_name u
   pub module_files : HaveModuleFiles choice files
 
@@ -38,4 +40,5 @@ pub record HasLeast (b : NumberedBasis) (o : Option Refusal) : Type 0 where
 -- the first refusal of what is built of nodes, or of what is wrong with them
 pub data IsFirst (numbered : Result Rows Stop) (wrong : Option Refusal) (r : Refusal) : Type 0 where
   of_tree : (s : Rows) → numbered ≡ Ok s → wrong ≡ Some r → IsFirst numbered wrong r
-  of_both : (duplicate : Refusal) → numbered ≡ Err (Fault duplicate) → IsLesser (Some duplicate) wrong (Some r) → IsFirst numbered wrong r
+  of_both : (duplicate : Refusal) → numbered ≡ Err (Fault duplicate)
+      → IsLesser (Some duplicate) wrong (Some r) → IsFirst numbered wrong r

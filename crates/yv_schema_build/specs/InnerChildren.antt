@@ -15,7 +15,8 @@ lists_in f = record { top = f.top.items; below = lists_of f.below.items }
 -- one number more, at the top or below a node
 abbrev pub hang : ℕ → Option ℕ → Lists → Lists
 hang number None s = record { top = s.top ++ number ∷ []; below = s.below }
-hang number (Some p) s = record { top = s.top; below = slice_set s.below p (slice_index_or s.below p [] ++ number ∷ []) }
+hang number (Some p) s =
+    record { top = s.top; below = slice_set s.below p (slice_index_or s.below p [] ++ number ∷ []) }
 
 -- nodes from this number on
 abbrev pub hang_all : ℕ → List Node → Lists → Lists

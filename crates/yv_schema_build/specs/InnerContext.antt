@@ -11,7 +11,8 @@ use Rattle.yv_schema_build.specs.InnerBasis.{NumberedBasis}
 use Rattle.yv_schema_build.specs.declared.context.Context.{Context}
 
 -- these are the definitions of nodes as the refines of a tree change them
-pub record IsRefinedOf (definitions : Definitions) (tree : FinalTreeView) (refined : RefinedDefinitions) : Type 0 where
+pub record IsRefinedOf (definitions : Definitions) (tree : FinalTreeView)
+    (refined : RefinedDefinitions) : Type 0 where
   pub files : files_of refined ≡ files_in definitions
   pub typing : typing_of refined ≡ typing_in definitions
   pub sequences : sequences_of refined ≡ tree.changes.sequences

@@ -13,7 +13,8 @@ use Rattle.yv_schema_build.specs.declared.number_table.NumberTable.{NumberTable}
 
 -- the number is that of what is said; there is none where nothing is said
 abbrev pub IsNumbered : List Referral → Option ℕ → Option Referral → Type 0
-IsNumbered leafrefs number said = option_map (slice_get leafrefs) number ≡ option_map (λ (r : Referral). Some r) said
+IsNumbered leafrefs number said =
+    option_map (slice_get leafrefs) number ≡ option_map (λ (r : Referral). Some r) said
 
 -- what is said keeps its number
 abbrev pub KeepsNumbers : (old new : List Referral) → Type 0
@@ -29,7 +30,8 @@ key_cmp j k = ordering_then (nat_cmp j.0 k.0) (bool_cmp j.1 k.1)
 -- what is known of a path is the number of what is said by it
 abbrev pub AreOfPaths : Files → List Referral → BTreeMap Key (Option ℕ) → Type 0
 AreOfPaths files leafrefs known =
-    (key : Key) (number : Option ℕ) → get key_cmp known key ≡ Some number → IsNumbered leafrefs number (referral_of_path files key.1 (path_at files key.0))
+    (key : Key) (number : Option ℕ) → get key_cmp known key ≡ Some number
+    → IsNumbered leafrefs number (referral_of_path files key.1 (path_at files key.0))
 
 -- what was read so far
 abbrev pub said_in : NumberTable → List Referral

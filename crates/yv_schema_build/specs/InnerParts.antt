@@ -21,7 +21,8 @@ use Rattle.yv_schema_build.specs.declared.parts.SchemaParts.{SchemaParts}
 
 -- these files, what their types mean, and the nodes that are left of what they come to are those of
 -- a basis
-pub record IsBasisOf (choice : Selected) (files : Files) (types : Types) (tree : FinalTreeView) (b : NumberedBasis) : Type 0 where
+pub record IsBasisOf (choice : Selected) (files : Files) (types : Types) (tree : FinalTreeView)
+    (b : NumberedBasis) : Type 0 where
   pub of_files : b.files ≡ files
   pub typing : typing_of types ≡ b.typing
   pub kept : AreKept choice b.files b.truth tree
@@ -29,7 +30,8 @@ pub record IsBasisOf (choice : Selected) (files : Files) (types : Types) (tree :
   pub nodes : kept.nodes ≡ b.nodes
 
 -- there is such a basis
-pub record HaveBasis (choice : Selected) (files : Files) (types : Types) (tree : FinalTreeView) : Type 0 where
+pub record HaveBasis (choice : Selected) (files : Files) (types : Types)
+    (tree : FinalTreeView) : Type 0 where
   pub basis : NumberedBasis
   pub is : IsBasisOf choice files types tree basis
 
@@ -51,4 +53,6 @@ pub record AreParts (b : NumberedBasis) (p : SchemaParts) : Type 0 where
 pub record AreReady (p : SchemaParts) : Type 0 where
   pub modules : AreModules p.modules.items
   pub numbers : AreNumbered p.modules.items p.nodes.rows p.top.items p.links
-  pub notes : All (IsNote (made_of p.nodes.rows p.top.items p.nodes.limit p.modules.items p.notes.items p.links)) p.notes.items
+  pub notes : All (IsNote
+      (made_of p.nodes.rows p.top.items p.nodes.limit p.modules.items p.notes.items p.links))
+      p.notes.items

@@ -25,13 +25,15 @@ pub record SomeClear (choice : Selected) (linked : Linked) : Type 0 where
   pub clear : AreClear choice files linked
 
 -- this is their final tree besides, and nothing is refused before their types
-pub record AreExpanded (choice : Selected) (files : Files) (limit : ℕ) (linked : Linked) (names : Names) (tree : FinalTreeView) : Type 0 where
+pub record AreExpanded (choice : Selected) (files : Files) (limit : ℕ) (linked : Linked)
+    (names : Names) (tree : FinalTreeView) : Type 0 where
   pub clear : AreClear choice files linked
   pub are_names : AreNames files names
   pub are_kept : AreKept choice files (truth_in linked) tree
   pub before : IsLeast (RefusesBeforeTypesByNumber choice files limit) None
 
 -- there are such files
-pub record SomeExpanded (choice : Selected) (limit : ℕ) (linked : Linked) (names : Names) (tree : FinalTreeView) : Type 0 where
+pub record SomeExpanded (choice : Selected) (limit : ℕ) (linked : Linked) (names : Names)
+    (tree : FinalTreeView) : Type 0 where
   pub files : Files
   pub expanded : AreExpanded choice files limit linked names tree

@@ -15,12 +15,12 @@ use Rattle.yv_schema_build.specs.Refusals.{BadFile, BadTyping}
 use Rattle.yv_schema_build.specs.InnerBasis.{NumberedBasis, leafrefs_of}
 use Rattle.yv_schema_build.specs.InnerSchema.{IsNumberedSchema}
 
--- f stands in the schema tree of a basis: a duplicate name, a list whose key or `unique` statements
+-- f is in the schema tree of a basis: a duplicate name, a list whose key or `unique` statements
 -- name what they may not, a leafref that leads nowhere or to itself, or what is wrong else
 abbrev pub BadNumberedNodes : NumberedBasis → Forest → Refusal → Type 0
 BadNumberedNodes b top f = BadRows top f ⊎ (BadTree top f ⊎ BadLeafrefs (leafrefs_of b) f)
 
--- f stands in the schema tree of the files
+-- f is in the schema tree of the files
 pub record BadNumberedSchema (choice : Selected) (files : Files) (f : Refusal) : Type 0 where
   pub tree : Forest
   pub schema : IsNumberedSchema choice files tree
@@ -31,9 +31,11 @@ pub record BadNumberedSchema (choice : Selected) (files : Files) (f : Refusal) :
 -- implemented modules come to within a limit when all augments were applied
 abbrev pub RefusesBeforeTypesByNumber : Selected → Files → ℕ → Refusal → Type 0
 RefusesBeforeTypesByNumber choice files limit f =
-    Among files BadFile (length files) f ⊎ (BadLinks files f ⊎ (BadNames files f ⊎ BadExpansion choice files limit f))
+    Among files BadFile (length files) f
+    ⊎ (BadLinks files f ⊎ (BadNames files f ⊎ BadExpansion choice files limit f))
 
 -- the refusals of files; the least of them, by phase, file, offset and code, is answered. The types
 -- of every file are looked at as well, and of the implemented modules the nodes
 abbrev pub RefusesByNumber : Selected → Files → ℕ → Refusal → Type 0
-RefusesByNumber choice files limit f = RefusesBeforeTypesByNumber choice files limit f ⊎ (BadTyping choice files f ⊎ BadNumberedSchema choice files f)
+RefusesByNumber choice files limit f = RefusesBeforeTypesByNumber choice files limit f
+    ⊎ (BadTyping choice files f ⊎ BadNumberedSchema choice files f)

@@ -40,14 +40,18 @@ abbrev pub line_of : NumberedBasis → List (List Label) → Node → List Label
 line_of b lines x = label_at b (line_at lines x.parent) x.origin ∷ line_at lines x.parent
 
 -- the row of an item below these nodes
-abbrev pub row_of : NumberedBasis → (above : List Label) → Node → (parent : NodeId) → (children : List NodeId) → Row
-row_of b above x parent children = record { label = label_at b above x.origin; parent = parent; children = children }
+abbrev pub row_of : NumberedBasis → (above : List Label) → Node → (parent : NodeId)
+    → (children : List NodeId) → Row
+row_of b above x parent children =
+    record { label = label_at b above x.origin; parent = parent; children = children }
 
 -- the rows of items, the first having this number, where these are the lines of the items before
-abbrev pub rows_of_items : NumberedBasis → List (List ℕ) → List (List Label) → ℕ → List Node → List Row
+abbrev pub rows_of_items : NumberedBasis → List (List ℕ) → List (List Label) → ℕ → List Node
+    → List Row
 rows_of_items b below lines number [] = []
 rows_of_items b below lines number (x ∷ xs) =
-    row_of b (line_at lines x.parent) x (parent_of x.parent) (numbers_at (slice_index_or below number []))
+    row_of b (line_at lines x.parent) x (parent_of x.parent)
+    (numbers_at (slice_index_or below number []))
     ∷ rows_of_items b below (lines ++ line_of b lines x ∷ []) (number + 1) xs
 
 -- this is seen of the lines of items
@@ -60,19 +64,27 @@ no_node = record { origin = 0; parent = None }
 
 -- what is said of the node of an item
 abbrev pub said_at : NumberedBasis → (item : ℕ) → Definition
-said_at b item = refined_definition b.typing b.files (origin_at b.final.items item) (slice_index_or (changes_of b.files b.final) item [])
+said_at b item = refined_definition b.typing b.files (origin_at b.final.items item)
+    (slice_index_or (changes_of b.files b.final) item [])
 
 -- whether the item at the place above, if there is one, has a key of this module and name
-abbrev pub is_key_above : NumberedBasis → List Node → (above : Option ℕ) → (module_file : ℕ) → (name : List ℕ) → Bool
+abbrev pub is_key_above : NumberedBasis → List Node → (above : Option ℕ) → (module_file : ℕ)
+    → (name : List ℕ) → Bool
 is_key_above b xs None module_file name = false
-is_key_above b xs (Some place) module_file name = has_key_called (label_at b [] (slice_index_or xs place no_node).origin ∷ []) module_file name
+is_key_above b xs (Some place) module_file name =
+    has_key_called (label_at b [] (slice_index_or xs place no_node).origin ∷ []) module_file name
 
 -- the node of one of these items is a key of the list just above
 abbrev pub is_key_at : NumberedBasis → List Node → Node → Bool
-is_key_at b xs x = is_leaf (said_at b x.origin).kind && is_key_above b xs x.parent (module_file_of b x.origin) (said_at b x.origin).name
+is_key_at b xs x = is_leaf (said_at b x.origin).kind
+    && is_key_above b xs x.parent (module_file_of b x.origin) (said_at b x.origin).name
 
 -- these rows are those of the first items: each has what is said of its item, and whether it is a
 -- key
 pub record AreOfItems (b : NumberedBasis) (xs : List Node) (rows : List Row) : Type 0 where
-  pub said : (k : ℕ) → k < length rows → (slice_index_or rows k blank_row).label.defined ≡ said_at b (slice_index_or xs k no_node).origin
-  pub keys : (k : ℕ) → k < length rows → (slice_index_or rows k blank_row).label.is_key ≡ is_key_at b xs (slice_index_or xs k no_node)
+  pub said : (k : ℕ) → k < length rows
+      → (slice_index_or rows k blank_row).label.defined
+      ≡ said_at b (slice_index_or xs k no_node).origin
+  pub keys : (k : ℕ) → k < length rows
+      → (slice_index_or rows k blank_row).label.is_key
+      ≡ is_key_at b xs (slice_index_or xs k no_node)

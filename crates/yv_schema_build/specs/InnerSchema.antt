@@ -39,7 +39,8 @@ pub record AreNumberedNotes (choice : Selected) (files : Files) (notes : List No
 
 -- this is where the paths of the leafrefs lead that require an instance, each at the number of its
 -- node (sections 9.9.2 and 9.9.3)
-pub record AreNumberedReferences (choice : Selected) (files : Files) (links : List (Option Link)) : Type 0 where
+pub record AreNumberedReferences (choice : Selected) (files : Files)
+    (links : List (Option Link)) : Type 0 where
   pub basis : NumberedBasis
   pub of_files : basis.files ≡ files
   pub is_basis : IsNumberedBasis choice basis

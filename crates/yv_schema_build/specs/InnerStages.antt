@@ -15,17 +15,19 @@ pub record HaveFinalTree (choice : Selected) (files : Files) : Type 0 where
   pub final : Final
   pub is_final : IsFinal choice files final
 
--- a refusal of linked files stands in the names of their definitions or in their expansion, or they
+-- a refusal of linked files is in the names of their definitions or in their expansion, or they
 -- have a final tree
 abbrev pub StopsLinked : Selected → Files → (limit : ℕ) → Refusal → Type 0
-StopsLinked choice files limit f = BadNames files f ⊎ (BadExpansion choice files limit f ⊎ HaveFinalTree choice files)
+StopsLinked choice files limit f =
+    BadNames files f ⊎ (BadExpansion choice files limit f ⊎ HaveFinalTree choice files)
 
 -- the statements of files can be numbered
 abbrev pub AreFew : Files → Type 0
 AreFew files = length (rows_of files) ≤ 4294967293
 
--- a refusal of files stands before they are expanded, or in the expansion of few statements, or
--- few statements have a final tree
+-- a refusal of files comes before they are expanded, or in the expansion of few statements, or few
+-- statements have a final tree
 abbrev pub Stops : Selected → Files → (limit : ℕ) → Refusal → Type 0
 Stops choice files limit f =
-    RefusesBeforeExpansion files f ⊎ (AreFew files × (BadExpansion choice files limit f ⊎ HaveFinalTree choice files))
+    RefusesBeforeExpansion files f
+    ⊎ (AreFew files × (BadExpansion choice files limit f ⊎ HaveFinalTree choice files))

@@ -8,6 +8,7 @@ use Rattle.yv_statement.specs.declared.keyword.Keyword.TheVariants as word
 use Rattle.yv_node_properties.specs.Statements.{argument_of, first_of}
 use Rattle.yv_nodes.specs.Rows.{Module}
 
+-- the argument of a root that may be there
 abbrev pub name_of_root : Option statement.Tree → List ℕ
 name_of_root None = []
 name_of_root (Some root) = tree_name root
@@ -22,7 +23,11 @@ abbrev pub given_from : Selected → ℕ → Files → List Module
 given_from choice m [] = []
 given_from choice m (t ∷ ts) =
     let behind : List Module = given_from choice (m + 1) ts in
-    if is_given choice t then record { name = tree_name t; prefix = argument_of (first_of word.Prefix t.children); module_file = m } ∷ behind else behind
+    if is_given choice t then record {
+      name = tree_name t;
+      prefix = argument_of (first_of word.Prefix t.children);
+      module_file = m;
+    } ∷ behind else behind
 
 -- the implemented modules of files, by file (section 5.6.5)
 abbrev pub modules_of : Selected → Files → List Module

@@ -14,7 +14,11 @@ use Rattle.yv_node_statements.specs.Definitions.{leafref_of}
 abbrev pub referral_of_path : Files → (is_required : Bool) → Option TextInFile → Option Referral
 referral_of_path files is_required None = None
 referral_of_path files is_required (Some w) =
-    Some (record { climbs = climbs_of w.text; steps = steps_in files w.file w.text; is_required = is_required })
+    Some (record {
+      climbs = climbs_of w.text;
+      steps = steps_in files w.file w.text;
+      is_required = is_required;
+    })
 
 -- what a type says that has the path of a statement and requires an instance, or not
 abbrev pub referral_of : Files → Option TypeLeafref → Option Referral

@@ -15,13 +15,13 @@ use Rattle.yv_expand_changes.specs.Truth.{Truth, IsTruth}
 abbrev pub in_file : ℕ → Refusal → Refusal
 in_file n r = record { code = r.code; file = n; offset = r.offset; line = r.line }
 
--- f stands in the file of this number: its statements aren't as the tables of the language say
+-- f is in the file of this number: its statements aren't as the tables of the language say
 pub record BadFile (n : ℕ) (t : Tree) (f : Refusal) : Type 0 where
   pub own : Refusal
   pub stands : Bad t own
   pub is : f ≡ in_file n own
 
--- f stands at a type of the files, by the truth of their conditions
+-- f is at a type of the files, by the truth of their conditions
 pub record BadTyping (choice : Selected) (files : Files) (f : Refusal) : Type 0 where
   pub truth : Truth
   pub is_truth : IsTruth files choice truth

@@ -10,4 +10,6 @@ use Rattle.yv_expand_tree.specs.FileOrder.{marks_of}
 -- the files of the implemented modules take so many units
 abbrev pub TakeUnits : Selected → Files → ℕ → Type 0
 TakeUnits choice files units =
-    Weigh (map brief_of files) (rows_of files) (given_before (map brief_of files) (rows_of files) (marks_of choice files) (length files)) units
+    Weigh (map brief_of files) (rows_of files)
+    (given_before (map brief_of files) (rows_of files) (marks_of choice files) (length files))
+    units

@@ -23,8 +23,11 @@ pub fn referrals<'a>(
     definitions: &Definitions<'_, 'a, '_>,
     origins: &[Origin],
 ) -> Result<Referrals, AllocError>
+    // The definitions are those of these statements.
     requires { files_in definitions.now ≡ lent_in rows.now }
+    // A number, or none, for each node.
     ensures each { IfOk result (λ r. length r.of.items ≡ length origins.now) }
+    // It is that of what the statement of the node says as a leafref.
     ensures says { IfOk result (λ r. (n : ℕ) → leafref_of_row r.of.items r.leafrefs.items n
         ≡ option_and_then (referral_at (typing_in definitions.now) (files_in definitions.now))
         (slice_get origins.now n)) }

@@ -29,27 +29,43 @@ pub fn compile(
     selection: &Selection,
     limit: u32,
 ) -> Result<Schema, Stop>
+    // The schema's tree, augments and links are those of the items that are left of the final tree
+    // of these files.
     ensures schema { IfOk result
         (λ s. IsNumberedSchema (selected_of selection.now) files.now (whole s)) }
+    // The limit is this one.
     ensures limit { IfOk result (λ s. s.limit ≡ limit) }
+    // The modules are those of the files, under this selection.
     ensures modules { IfOk result
         (λ s. s.modules ≡ modules_of (selected_of selection.now) files.now) }
+    // The notes are those of the augments that add nodes.
     ensures augments { IfOk result
         (λ s. AreNumberedNotes (selected_of selection.now) files.now s.augments) }
+    // The links are those of the leafrefs.
     ensures references { IfOk result
         (λ s. AreNumberedReferences (selected_of selection.now) files.now s.links) }
+    // The schema is sound.
     ensures sound { IfOk result IsSound }
+    // A schema is returned only if nothing is refused.
     ensures clear { OnOk result
         (IsLeast (RefusesByNumber (selected_of selection.now) files.now limit) None) }
+    // A refusal is the least that applies.
     ensures refusal { (r : Refusal) → result ≡ Err (Fault r)
         → IsLeast (RefusesByNumber (selected_of selection.now) files.now limit) (Some r) }
+    // `PatternBuild` is returned only if a type has a pattern.
     ensures builds { result ≡ Err PatternBuild → HasTypePattern files.now }
+    // Then nothing is refused that comes before the types.
     ensures before { result ≡ Err PatternBuild
         → IsLeast (RefusesBeforeTypesByNumber (selected_of selection.now) files.now limit) None }
+    // More than 2^32 files are answered with `NoMemory`.
     ensures many { 4294967296 < length files.now → result ≡ Err NoMemory }
+    // Files of which a schema is returned have at most 2^32 - 3 statements.
     ensures few { OnOk result (length (rows_of files.now) ≤ 4294967293) }
+    // After a refusal the files have a final tree, or are refused before they are expanded, or pass
+    // the limit.
     ensures stops { (r : Refusal) → result ≡ Err (Fault r)
         → Stops (selected_of selection.now) files.now limit r }
+    // After `PatternBuild` they have a final tree, and at most 2^32 - 3 statements.
     ensures final_tree { result ≡ Err PatternBuild
         → AreFew files.now × HaveFinalTree (selected_of selection.now) files.now }
 {

@@ -13,7 +13,7 @@ pub struct ChildLists {
     pub below: Vec<Vec<usize>>,
 }
 
-// Puts a number behind those of a list that there is.
+// Puts a number after those of a list that there is.
 fn push_at(lists: &mut Vec<Vec<usize>>, place: usize, number: usize) -> Result<(), AllocError>
     ensures { OnOk result (lists_of lists.new.items
         ≡ slice_set (lists_of lists.old.items) place
@@ -58,8 +58,10 @@ impl ChildLists {
 
 /// The families of nodes in an order that has each before those below it. Numbers begin at 0.
 pub fn families_of(alloc: Global, nodes: &[RemainingNode]) -> Result<ChildLists, AllocError>
+    // The numbers of the nodes at the top, and of those below each node, in order.
     ensures top { IfOk result
         (λ f. (t : Nodes) → nodes.now ≡ item_list None 0 t → f.top.items ≡ numbers_from 0 t) }
+    // For each node the numbers of those below it, in order.
     ensures below { IfOk result
         (λ f. (t : Nodes) → nodes.now ≡ item_list None 0 t → lists_of f.below.items
         ≡ below_from 0 t) }

@@ -9,12 +9,15 @@ ghost use Rattle.yv_nodes.specs.{Link.{Link, link_in, reference_in}, Rows.{Note,
 /// Where nothing is refused, files have one schema tree under a choice, their augments add to it in
 /// one way, and its leafrefs lead one way.
 pub fn files_have_one_schema()
+    // There is one schema tree.
     ensures tree { (choice : Selected) (files : Files) (limit : ℕ) (a b : Forest)
         → IsLeast (RefusesByNumber choice files limit) None
         → IsNumberedSchema choice files a → IsNumberedSchema choice files b → a ≡ b }
+    // There is one list of augments.
     ensures augments { (choice : Selected) (files : Files) (limit : ℕ) (a b : List Note)
         → IsLeast (RefusesByNumber choice files limit) None
         → AreNumberedNotes choice files a → AreNumberedNotes choice files b → a ≡ b }
+    // There is one list of links.
     ensures references { (choice : Selected) (files : Files) (limit : ℕ) (a b : List (Option Link))
         → IsLeast (RefusesByNumber choice files limit) None
         → AreNumberedReferences choice files a → AreNumberedReferences choice files b → a ≡ b }

@@ -46,7 +46,7 @@ fn origins(alloc: Global, tree: &FinalTree) -> Result<Vec<Origin>, AllocError>
 }
 
 // A number for the statement that defines a node: all inputs have one, and all outputs, since these
-// have one name. So would all statements behind the last one.
+// have one name. So would all statements after the last one.
 fn statement_number(rows: &Rows<'_, '_>, origin: Origin) -> usize
     ensures { result ≡ statement_number (length (rows_in rows.now)) origin }
 {

@@ -14,12 +14,14 @@ use Rattle.yv_nodes.specs.Tree.{Forest, Label, labels, no_trees, node, tree}
 abbrev pub names_that_differ : Forest → List Label
 names_that_differ no_trees = []
 names_that_differ (tree (node l kids) ts) =
-    (if is_case l.defined.kind then [] else l ∷ []) ++ (if is_passed l.defined.kind then names_that_differ kids else []) ++ names_that_differ ts
+    (if is_case l.defined.kind then [] else l ∷ [])
+    ++ (if is_passed l.defined.kind then names_that_differ kids else []) ++ names_that_differ ts
 
 -- those below a node of a kind: of a choice its cases, and the nodes that are cases of their own;
--- those below a case are compared where its choice stands
+-- those below a case are compared where its choice is
 abbrev pub family : NodeKind → Forest → List Label
-family kind kids = if is_choice kind then labels kids else (if is_case kind then [] else names_that_differ kids)
+family kind kids =
+    if is_choice kind then labels kids else (if is_case kind then [] else names_that_differ kids)
 
 -- a refusal at the statement that defines a node
 abbrev pub duplicate_at : Label → Refusal
@@ -41,4 +43,6 @@ HasRepeat ls f = Among ls (λ k l. Stands (IsRepeated ls k l) (duplicate_at l)) 
 -- two nodes have one module and one name where they have to differ (RFC 7950, section 6.2.1): at
 -- the top, or below a node
 abbrev pub HasDuplicate : Forest → Refusal → Type 0
-HasDuplicate ts f = HasRepeat (names_that_differ ts) f ⊎ Among (places ts) (λ k p. HasRepeat (family p.label.defined.kind p.kids)) (length (places ts)) f
+HasDuplicate ts f = HasRepeat (names_that_differ ts) f
+    ⊎ Among (places ts) (λ k p. HasRepeat (family p.label.defined.kind p.kids))
+    (length (places ts)) f

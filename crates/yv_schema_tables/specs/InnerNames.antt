@@ -17,15 +17,17 @@ use Rattle.yv_schema_tables.specs.declared.names.NameTable.{NameTable}
 abbrev pub get_by_name : {X : Type 0} → BTreeMap (RcStr Global) X → List ℕ → Option X
 get_by_name table name = get_by (λ k. slice_cmp nat_cmp name (rc_str_bytes k)) table
 
--- how many names stand before this one, where it is among them
+-- how many names come before this one, where it is among them
 abbrev pub number_in : List (List ℕ) → List ℕ → Option ℕ
 number_in [] text = None
-number_in (name ∷ names) text = if bytes_eq name text then Some 0 else option_map (λ n. n + 1) (number_in names text)
+number_in (name ∷ names) text =
+    if bytes_eq name text then Some 0 else option_map (λ n. n + 1) (number_in names text)
 
--- the names with one more behind them, where it isn't among them
+-- the names with one more after them, where it isn't among them
 abbrev pub with_name : List (List ℕ) → List ℕ → List (List ℕ)
 with_name [] text = text ∷ []
-with_name (name ∷ names) text = if bytes_eq name text then name ∷ names else name ∷ with_name names text
+with_name (name ∷ names) text =
+    if bytes_eq name text then name ∷ names else name ∷ with_name names text
 
 -- these names and then those of nodes, each at its first use
 abbrev pub with_names : List (List ℕ) → List Row → List (List ℕ)
@@ -49,4 +51,5 @@ pub record AreOfNodes (rows : List Row) (numbers : List ℕ) : Type 0 where
 
 -- of the first nodes the numbers of their names among these
 abbrev pub AreNumbersOf : (names : List (List ℕ)) → List Row → (numbers : List ℕ) → Type 0
-AreNumbersOf names rows numbers = (i number : ℕ) → slice_get numbers i ≡ Some number → number_in names (untyped_at rows i).name ≡ Some number
+AreNumbersOf names rows numbers = (i number : ℕ) → slice_get numbers i ≡ Some number
+    → number_in names (untyped_at rows i).name ≡ Some number

@@ -1,4 +1,4 @@
--- Only private clauses cite this: trees whose rows stand among others.
+-- Only private clauses cite this: trees whose rows are among others.
 use Rattle.std.specs.Prelude.{◌≡◌, ℕ, ◌+◌, List, [], ◌∷◌, ◌++◌, length, if◌then◌else◌}
 use Rattle.yv_node_definition.specs.Kinds.{is_case, is_passed}
 use Rattle.yv_nodes.specs.declared.node.NodeId.{NodeId}
@@ -16,7 +16,7 @@ pub record Sits (rows : List Row) (at : ℕ) (ts : Forest) : Type 0 where
   pub split : rows ≡ front ++ rows_below parent at ts ++ back
   pub before : length front ≡ at
 
--- these are the numbers of trees whose rows stand there
+-- these are the numbers of trees whose rows are there
 pub record HaveTrees (rows : List Row) (cs : List NodeId) : Type 0 where
   pub at : ℕ
   pub trees : Forest
@@ -45,7 +45,8 @@ abbrev pub told_from : ℕ → Forest → List NodeId
 told_from first no_trees = []
 told_from first (tree (node l kids) ts) =
     (if is_case l.defined.kind then [] else record { 0 = first } ∷ [])
-    ++ (if is_passed l.defined.kind then told_from (first + 1) kids else []) ++ told_from (first + 1 + count kids) ts
+    ++ (if is_passed l.defined.kind then told_from (first + 1) kids else [])
+    ++ told_from (first + 1 + count kids) ts
 
 abbrev pub told_of : List Row → List NodeId → List NodeId
 told_of rows cs = told_from (start_of cs) (pick_trees rows cs)

@@ -25,8 +25,8 @@ use Rattle.yv_schema_tables.specs.InnerSits.{members_of}
 use Rattle.yv_schema_tables.specs.NodeNumbers.{HasNoColon}
 use Rattle.yv_schema_tables.specs.Sound.{IsSound, inside, member_named}
 
--- A front is the number of the file of the module whose name stands in front of a node's name in
--- its member, or none where the member is the name alone.
+-- A front is the number of the file of the module whose name comes before a node's name in its
+-- member, or none where the member is the name alone.
 
 abbrev pub is_front : Option ℕ → Option ℕ → Bool
 is_front None None = true
@@ -43,10 +43,12 @@ abbrev pub is_called : (around front : Option ℕ) → List ℕ → Label → Bo
 is_called around front name l = is_front (front_of around l) front && bytes_eq l.defined.name name
 
 -- the first of these nodes that has this front and this name
-abbrev pub member_called : List Row → (around : Option ℕ) → List NodeId → (front : Option ℕ) → List ℕ → Option NodeId
+abbrev pub member_called : List Row → (around : Option ℕ) → List NodeId → (front : Option ℕ)
+    → List ℕ → Option NodeId
 member_called rows around [] front name = None
 member_called rows around (c ∷ cs) front name =
-    if is_called around front name (slice_index_or rows c.0 blank_row).label then Some c else member_called rows around cs front name
+    if is_called around front name (slice_index_or rows c.0 blank_row).label then Some c
+    else member_called rows around cs front name
 
 -- two members have one name
 abbrev pub same_member : Member → Member → Bool
@@ -55,37 +57,43 @@ same_member a b = is_front a.module_file b.module_file && (a.name == b.name)
 -- the first of these nodes that has a member
 abbrev pub first_held : List HeldNode → Member → Option NodeId
 first_held [] member = None
-first_held (held ∷ others) member = if same_member held.member member then Some held.node else first_held others member
+first_held (held ∷ others) member =
+    if same_member held.member member then Some held.node else first_held others member
 
 -- what a directory has at a member
 abbrev pub held_at : Directory → Member → Option NodeId
 held_at (Few nodes) member = first_held nodes.items member
 held_at (Many table) member = get same_member table.value member
 
--- what is found at a name with this number, where it has one, behind a front
+-- what is found at a name with this number, where it has one, after a front
 abbrev pub at_number : (Member → Option NodeId) → (front : Option ℕ) → Option ℕ → Option NodeId
 at_number found front None = None
 at_number found front (Some number) = found (record { module_file = front; name = number })
 
--- what a directory of some of these nodes has at a name behind a front
+-- what a directory of some of these nodes has at a name after a front
 abbrev pub directory_entry : List Row → Directory → (front : Option ℕ) → List ℕ → Option NodeId
-directory_entry rows directory front name = at_number (held_at directory) front (number_in (names_of rows) name)
+directory_entry rows directory front name =
+    at_number (held_at directory) front (number_in (names_of rows) name)
 
 -- the directory has the first of these nodes at each front and name
-pub record IsDirectory (rows : List Row) (around : Option ℕ) (cs : List NodeId) (directory : Directory) : Type 0 where
-  pub gives : (front : Option ℕ) (name : List ℕ) → directory_entry rows directory front name ≡ member_called rows around cs front name
+pub record IsDirectory (rows : List Row) (around : Option ℕ) (cs : List NodeId)
+    (directory : Directory) : Type 0 where
+  pub gives : (front : Option ℕ) (name : List ℕ)
+      → directory_entry rows directory front name ≡ member_called rows around cs front name
 
 -- the directory of a node has what the members of its object name: its own module is around
 abbrev pub IsOfRow : List Row → Row → Directory → Type 0
-IsOfRow rows row directory = IsDirectory rows (Some row.label.module_file) (members_of rows row) directory
+IsOfRow rows row directory =
+    IsDirectory rows (Some row.label.module_file) (members_of rows row) directory
 
 -- a directory for each node
 pub record AreDirectories (rows : List Row) (directories : List Directory) : Type 0 where
   pub each : length directories ≡ length rows
-  pub gives : (i : ℕ) (directory : Directory) → slice_get directories i ≡ Some directory → IsOfRow rows (slice_index_or rows i blank_row) directory
+  pub gives : (i : ℕ) (directory : Directory) → slice_get directories i ≡ Some directory
+      → IsOfRow rows (slice_index_or rows i blank_row) directory
 
--- what stands at a place where this stood, once a child was added there, or elsewhere: of several
--- the first stays
+-- what is at a place where this was, once a child was added there, or elsewhere: of several the
+-- first stays
 abbrev pub kept_first : (is_there : Bool) → NodeId → Option NodeId → Option NodeId
 kept_first is_there child (Some first) = Some first
 kept_first is_there child None = if is_there then Some child else None
@@ -110,7 +118,8 @@ Namesakes ls f = Among ls (λ k l. Stands (IsNamesake ls k l) (duplicate_at l)) 
 -- the number of the file of the first of these modules that has this name
 abbrev pub module_file_named : List Module → List ℕ → Option ℕ
 module_file_named [] name = None
-module_file_named (m ∷ ms) name = if bytes_eq m.name name then Some m.module_file else module_file_named ms name
+module_file_named (m ∷ ms) name =
+    if bytes_eq m.name name then Some m.module_file else module_file_named ms name
 
 abbrev pub ModuleTable : Type 0
 ModuleTable = BTreeMap (RcStr Global) ℕ
@@ -118,25 +127,33 @@ ModuleTable = BTreeMap (RcStr Global) ℕ
 -- the directory has what the members of an object name: without a colon, and with a module before
 -- the first colon
 pub record IsAnswering (s : Rows) (p : NodeId) (directory : Directory) : Type 0 where
-  pub bare : (member : List ℕ) → HasNoColon member → directory_entry s.nodes directory None member ≡ member_named s (inside s p) member
-  pub fronted : (owner name : List ℕ) (module_file : ℕ) → module_file_named s.modules owner ≡ Some module_file
-      → directory_entry s.nodes directory (Some module_file) name ≡ member_named s (inside s p) (owner ++ 58 ∷ name)
+  pub bare : (member : List ℕ) → HasNoColon member
+      → directory_entry s.nodes directory None member ≡ member_named s (inside s p) member
+  pub fronted : (owner name : List ℕ) (module_file : ℕ)
+      → module_file_named s.modules owner ≡ Some module_file
+      → directory_entry s.nodes directory (Some module_file) name
+      ≡ member_named s (inside s p) (owner ++ 58 ∷ name)
 
 -- the directories of the root and of the nodes have what members name, modules and the numbers of
 -- nodes' names are known by name, and a member with the name of no module names nothing
-pub record IsKept (module_files : ModuleTable) (names : NameTable) (at_top : Directory) (directories : List Directory) (s : Rows) : Type 0 where
+pub record IsKept (module_files : ModuleTable) (names : NameTable) (at_top : Directory)
+    (directories : List Directory) (s : Rows) : Type 0 where
   pub sound : IsSound s
   pub counted : length s.nodes ≡ count (whole s)
   pub each : length directories ≡ length s.nodes
-  pub module_files_are : (name : List ℕ) → get_by_name module_files name ≡ module_file_named s.modules name
+  pub module_files_are : (name : List ℕ)
+      → get_by_name module_files name ≡ module_file_named s.modules name
   pub names_are : HaveNumbers (names_of s.nodes) names
   pub top : IsAnswering s root at_top
-  pub below : (p : NodeId) (directory : Directory) → is_root p ≡ false → slice_get directories p.0 ≡ Some directory → IsAnswering s p directory
-  pub unknown : (p : NodeId) (owner name : List ℕ) → rank p ≤ length s.nodes → HasNoColon owner → module_file_named s.modules owner ≡ None
+  pub below : (p : NodeId) (directory : Directory) → is_root p ≡ false
+      → slice_get directories p.0 ≡ Some directory → IsAnswering s p directory
+  pub unknown : (p : NodeId) (owner name : List ℕ) → rank p ≤ length s.nodes → HasNoColon owner
+      → module_file_named s.modules owner ≡ None
       → member_named s (inside s p) (owner ++ 58 ∷ name) ≡ None
 
 -- besides, what lists and choices name is kept
-pub record IsHeld (module_files : ModuleTable) (names : NameTable) (at_top : Directory) (directories : List Directory) (leafs : LeafTargets) (s : Rows)
+pub record IsHeld (module_files : ModuleTable) (names : NameTable) (at_top : Directory)
+    (directories : List Directory) (leafs : LeafTargets) (s : Rows)
     : Type 0 where
   pub kept : IsKept module_files names at_top directories s
   pub named_leafs : AreLeafTargets s.nodes leafs

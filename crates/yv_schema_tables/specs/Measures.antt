@@ -7,6 +7,7 @@ use Rattle.yv_nodes.specs.Defaults.{width}
 use Rattle.yv_nodes.specs.Tree.{Label, Forest, no_trees, tree, node}
 use Rattle.yv_schema_tables.specs.declared.measures.Measures.{Measures}
 
+-- a node is a container
 abbrev pub is_container : NodeKind → Bool
 is_container kind.Container = true
 is_container _ = false
@@ -20,21 +21,28 @@ is_open l = is_passed l.defined.kind || is_container l.defined.kind && not l.def
 -- operations, notifications and what is in them count nothing
 abbrev pub count_met : Forest → ℕ
 count_met no_trees = 0
-count_met (tree (node l kids) ts) = (if is_operation_or_notification l.defined.kind then 0 else width l + (if is_open l then count_met kids else 0)) + count_met ts
+count_met (tree (node l kids) ts) =
+    (if is_operation_or_notification l.defined.kind then 0
+    else width l + (if is_open l then count_met kids else 0)) + count_met ts
 
 -- the greatest of numbers of the nodes at any depth, but for operations, notifications and what is
 -- in them
 abbrev pub greatest : (Label → Forest → ℕ) → Forest → ℕ
 greatest of no_trees = 0
-greatest of (tree (node l kids) ts) = max (if is_operation_or_notification l.defined.kind then 0 else max (of l kids) (greatest of kids)) (greatest of ts)
+greatest of (tree (node l kids) ts) =
+    max (if is_operation_or_notification l.defined.kind then 0
+    else max (of l kids) (greatest of kids)) (greatest of ts)
 
 -- what is met below a container or a list
 abbrev pub met_below : Label → Forest → ℕ
-met_below l kids = if is_container l.defined.kind || is_list l.defined.kind then count_met kids else 0
+met_below l kids =
+    if is_container l.defined.kind || is_list l.defined.kind then count_met kids else 0
 
+-- how many `unique` statements a node has
 abbrev pub uniques_of : Label → Forest → ℕ
 uniques_of l kids = length l.defined.uniques
 
+-- how many types a node has
 abbrev pub types_of : Label → Forest → ℕ
 types_of l kids = length l.defined.types
 

@@ -19,9 +19,10 @@ is_known (tree (node l kids) ts) member = bytes_eq l.member member || is_known t
 -- the first of these nodes whose JSON member is called so
 abbrev pub member_named : Rows → List NodeId → List ℕ → Option NodeId
 member_named s [] member = None
-member_named s (c ∷ cs) member = if bytes_eq (row_at s c).label.member member then Some c else member_named s cs member
+member_named s (c ∷ cs) member =
+    if bytes_eq (row_at s c).label.member member then Some c else member_named s cs member
 
--- the root, or a node that is no choice or case: JSON objects are of these
+-- the root, or a node that isn't a choice or case: JSON objects are of these
 abbrev pub is_object : Rows → NodeId → Bool
 is_object s p = is_root p || not (is_passed (row_at s p).label.defined.kind)
 
@@ -34,13 +35,13 @@ object_trees s p = if is_object s p then opened_trees (below s p) else no_trees
 abbrev pub inside : Rows → NodeId → List NodeId
 inside s p = if is_object s p then opened_from (rank p) (below s p) else []
 
--- a child stands behind its parent, whose number it has
+-- a child comes after its parent, whose number it has
 pub record IsChild (s : Rows) (p c : NodeId) : Type 0 where
   pub behind : rank p ≤ c.0
   pub within : c.0 < length s.nodes
   pub above : (row_at s c).parent ≡ p
 
--- what stands in an object stands behind its node, and is a data node
+-- what is in an object comes after its node, and is a data node
 pub record IsInside (s : Rows) (p c : NodeId) : Type 0 where
   pub behind : rank p ≤ c.0
   pub within : c.0 < length s.nodes
@@ -57,13 +58,15 @@ IsFoundBelow s p c = is_data (row_at s c).label.defined.kind ≡ true → IsFoun
 
 -- no two of these nodes have one member
 abbrev pub DifferInMember : List Label → Type 0
-DifferInMember ls = (i k : ℕ) (a b : Label) → i < k → slice_get ls i ≡ Some a → slice_get ls k ≡ Some b → a.member ≢ b.member
+DifferInMember ls = (i k : ℕ) (a b : Label) → i < k → slice_get ls i ≡ Some a
+    → slice_get ls k ≡ Some b → a.member ≢ b.member
 
--- the members of each object differ: those at the root, and those below each node that is no choice
--- or case (RFC 7950, section 6.2.1)
+-- the members of each object differ: those at the root, and those below each node that isn't a
+-- choice or case (RFC 7950, section 6.2.1)
 pub record MembersDiffer (ts : Forest) : Type 0 where
   pub top : DifferInMember (labels (opened_trees ts))
-  pub below : (k : ℕ) (p : Place) → slice_get (places ts) k ≡ Some p → is_passed p.label.defined.kind ≡ false
+  pub below : (k : ℕ) (p : Place) → slice_get (places ts) k ≡ Some p
+      → is_passed p.label.defined.kind ≡ false
       → DifferInMember (labels (opened_trees p.kids))
 
 -- the target of an augment is a node, and what it adds are children of that
@@ -72,7 +75,7 @@ pub record IsNote (s : Rows) (n : Note) : Type 0 where
   pub given : All (IsChild s n.target) n.nodes
 
 -- there are at most as many nodes as the limit and as numbers, they are numbered as their tree is,
--- children stand behind their parents, no two of one object have one member, each name of a key and
+-- children come after their parents, no two of one object have one member, each name of a key and
 -- each path of a `unique` statement is that of a leaf, augments add children to nodes, and the
 -- paths of leafrefs lead from where they climb to, to leafs and leaf-lists
 pub record IsSound (s : Rows) : Type 0 where
@@ -82,7 +85,8 @@ pub record IsSound (s : Rows) : Type 0 where
   pub top : s.top ≡ numbers_from 0 (whole s)
   pub children : (p : NodeId) → rank p ≤ length s.nodes → All (IsChild s p) (children_of s p)
   pub found : (p : NodeId) → rank p ≤ length s.nodes → All (IsFound s p) (inside s p)
-  pub found_below : (p : NodeId) → rank p ≤ length s.nodes → is_object s p ≡ true → All (IsFoundBelow s p) (children_of s p)
+  pub found_below : (p : NodeId) → rank p ≤ length s.nodes → is_object s p ≡ true
+      → All (IsFoundBelow s p) (children_of s p)
   pub leafs : HaveLeafs s.nodes
   pub members : MembersDiffer (whole s)
   pub notes : All (IsNote s) s.augments

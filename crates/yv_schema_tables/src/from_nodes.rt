@@ -30,22 +30,33 @@ impl Schema {
         notes: Vec<AugmentNote>,
         links: Links,
     ) -> Result<Schema, Stop>
+        // The modules are these.
         requires modules { AreModules modules.items }
+        // The nodes, those at the top and the links fit together.
         requires numbers { AreNumbered modules.items nodes.rows top.items links }
+        // Each note is of nodes that are there.
         requires notes { All
             (IsNote (made_of nodes.rows top.items nodes.limit modules.items notes.items links))
             notes.items }
+        // The schema's tree is the one with these rows and these numbers at the top.
         ensures schema { (ts : Forest) → nodes.rows ≡ rows_from 0 ts → top.items ≡ numbers_from 0 ts
             → IfOk result (λ s. whole s ≡ ts) }
+        // The limit is that of the nodes.
         ensures limit { IfOk result (λ s. s.limit ≡ nodes.limit) }
+        // The modules are these.
         ensures modules { IfOk result (λ s. s.modules ≡ modules.items) }
+        // The notes on augments are these.
         ensures augments { IfOk result (λ s. s.augments ≡ notes.items) }
+        // The links are these.
         ensures links { IfOk result (λ s. s.links ≡ links) }
+        // A schema is returned only if nothing is refused of the nodes.
         ensures clear { (ts : Forest) → nodes.rows ≡ rows_from 0 ts → top.items ≡ numbers_from 0 ts
             → OnOk result (IsLeast (BadRows ts) None) }
+        // A refusal is the least that applies to them.
         ensures refusal { (ts : Forest) → nodes.rows ≡ rows_from 0 ts → top.items
             ≡ numbers_from 0 ts
             → (r : Refusal) → result ≡ Err (Fault r) → IsLeast (BadRows ts) (Some r) }
+        // `PatternBuild` is never returned.
         ensures builds { result ≢ Err PatternBuild }
     {
         targets_are_leafs();

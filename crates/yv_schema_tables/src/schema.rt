@@ -74,8 +74,11 @@ impl Schema {
 
     /// How many nodes there are: never more than the limit.
     pub fn len(&self) -> u32
+        // The number of nodes, which is that of the tree, and at most the limit.
         ensures rows { result ≡ length self.now.nodes }
+        // That is how many nodes its tree has.
         ensures nodes { result ≡ count (whole self.now) }
+        // There are no more than the limit.
         ensures within { length self.now.nodes ≤ self.now.limit }
     {
         self.nodes.len()
@@ -112,8 +115,13 @@ impl Schema {
 
     /// The node of this number.
     pub fn node(&self, id: NodeId) -> &Node
+        // The number is that of a node.
         requires { id.0 < length self.now.nodes }
+        // The row of that number.
         ensures value { result.now ≡ row_at self.now id }
+        // The schema is sound: its rows are those of its tree, each data node of an object is found
+        // by its member, each name of a key and each path of a `unique` statement names a leaf, and
+        // each link leads to its target.
         ensures sound { IsSound self.now }
     {
         self.nodes.get(id)
@@ -121,10 +129,15 @@ impl Schema {
 
     /// The children of this node, or of the root, in the order of their statements.
     pub fn children(&self, parent: NodeId) -> &[NodeId]
+        // The number is that of a node, or the root.
         requires { rank parent ≤ length self.now.nodes }
+        // The numbers of the children, in order.
         ensures value { result.now ≡ children_of self.now parent }
+        // Each is a child of the parent.
         ensures each { All (IsChild self.now parent) result.now }
+        // They are the trees below it.
         ensures trees { AreTrees self.now result.now }
+        // The schema is sound.
         ensures sound { IsSound self.now }
     {
         if parent == Schema::ROOT {
@@ -137,7 +150,9 @@ impl Schema {
     /// The numbers of the leafs that a list's key names, in order (RFC 7950, section 7.8.2): none
     /// without a key. Takes time log n.
     pub fn keys(&self, list: NodeId) -> &[NodeId]
+        // The numbers of the leafs that the names of its key name, in order, one for each name.
         requires { list.0 < length self.now.nodes }
+        // The numbers of the leafs that the names of its key name, in order, one for each name.
         ensures { map (λ n. Some n) result.now
             ≡ map (key_leaf_at self.now.nodes list) (row_at self.now list).label.defined.keys }
     {
@@ -147,7 +162,11 @@ impl Schema {
     /// For each of a list's `unique` statements the numbers of the leafs that its paths name, in
     /// order (RFC 7950, section 7.8.3): at most 64 statements. Takes time log n.
     pub fn uniques(&self, list: NodeId) -> &[Vec<NodeId>]
+        // For each of its `unique` statements the numbers of the leafs that its paths name, in
+        // order, one for each path.
         requires { list.0 < length self.now.nodes }
+        // For each of its `unique` statements the numbers of the leafs that its paths name, in
+        // order, one for each path.
         ensures { map (λ leafs. map (λ n. Some n) leafs.items) result.now
             ≡ map (map (unique_leaf_at self.now.nodes list))
             (row_at self.now list).label.defined.uniques }
@@ -159,7 +178,11 @@ impl Schema {
     /// 7950, section 7.9.3). None where there is no default, and of a node that is not a choice.
     /// Takes time log n.
     pub fn default_case(&self, choice: NodeId) -> Option<NodeId>
+        // The first node directly below it, of its own module, that has the name in its default;
+        // none without a default, and for a node that is not a choice.
         requires { choice.0 < length self.now.nodes }
+        // The first node directly below it, of its own module, that has the name in its default;
+        // none without a default, and for a node that is not a choice.
         ensures { result ≡ default_case_at self.now.nodes choice }
     {
         self.leafs.default_case(choice)
@@ -174,8 +197,11 @@ impl Schema {
 
     /// The `augment` statements at the top of these modules.
     pub fn augments(&self) -> &[AugmentNote]
+        // The notes on augments.
         ensures value { result.now ≡ self.now.augments }
+        // Each is of nodes that are there.
         ensures each { All (IsNote self.now) result.now }
+        // The schema is sound.
         ensures sound { IsSound self.now }
     {
         self.notes.as_slice()
@@ -183,8 +209,11 @@ impl Schema {
 
     /// Where the paths of the leafrefs lead.
     pub fn links(&self) -> &Links
+        // The links of the leafrefs; each leads from the place to which it climbs to its target.
         ensures value { result.now ≡ self.now.links }
+        // Each leads from the place to which it climbs to its target.
         ensures links { AreLinked (reference_in result.now) (whole self.now) }
+        // The schema is sound.
         ensures sound { IsSound self.now }
     {
         &self.links
@@ -204,10 +233,16 @@ impl Schema {
     /// section 4). A choice or case has no object: below it nothing is found. The meter counts the
     /// look-up.
     pub fn find(&self, meter: &mut Meter, parent: NodeId, member: &str) -> Option<NodeId>
+        // The number is that of a node, or the root.
         requires within { rank parent ≤ length self.now.nodes }
+        // The first data node below the parent, through choices and cases, whose JSON member has
+        // this name; none if the parent is a choice or case.
         ensures value { result ≡ member_named self.now (inside self.now parent) member.now }
+        // It is inside the parent.
         ensures child { IfSome result (IsInside self.now parent) }
+        // There is one exactly if an object of the parent may have such a member.
         ensures knows { is_some result ≡ is_known (object_trees self.now parent) member.now }
+        // One look-up is counted.
         ensures steps { meter.new ≡ count_up (meter.old + 1) }
     {
         meter.visit();
@@ -227,7 +262,7 @@ impl Schema {
         }
     }
 
-    // What a directory has at a name behind the name of the module of this file, or behind none.
+    // What a directory has at a name after the name of the module of this file, or after none.
     fn find_in(&self, directory: &Directory, module_file: Option<u32>, name: &str) -> Option<NodeId>
         ensures { result ≡ directory_entry self.now.nodes directory.now module_file name.now }
     {

@@ -12,10 +12,11 @@ use Rattle.yv_source.specs.Outcome.{Outcome, TextComesTo}
 
 -- the refusal at an offset of a text
 abbrev pub refusal_in : List ℕ → Code → ℕ → Refusal
-refusal_in text c offset = record { code = c; file = 0; offset = offset; line = line_of (take offset text) }
+refusal_in text c offset =
+    record { code = c; file = 0; offset = offset; line = line_of (take offset text) }
 
--- a file is refused for its size; or else at its first byte that isn't UTF-8, which stands behind
--- the longest front that is; or else at its first character that isn't legal
+-- a file is refused for its size; or else at its first byte that isn't UTF-8, which comes after the
+-- longest front that is; or else at its first character that isn't legal
 abbrev pub IsBadFile : List ℕ → Refusal → Type 0
 IsBadFile bytes r =
     (IsTooLarge bytes × (r ≡ refusal_in bytes code.TooLarge 0))

@@ -11,7 +11,7 @@ use Rattle.yv_streams.specs.Files.{File}
 abbrev pub IsRead : File → Tree → Type 0
 IsRead f t = IsLegalFile f.bytes × IsSpelled f.bytes t
 
--- a file's bytes are no legal text, or one that spells no statement
+-- a file's bytes aren't legal text, or one that spells no statement
 abbrev pub IsUnread : File → Refusal → Type 0
 IsUnread f r = IsBadFile f.bytes r ⊎ (IsLegalFile f.bytes × IsRefused f.bytes r)
 

@@ -6,9 +6,10 @@ use Rattle.yv_source.specs.Quotes.{quoted_value}
 use Rattle.yv_source.specs.Keywords.{IsKeyword}
 use Rattle.yv_source.specs.Pieces.{Piece, Word, Single, Double, Semicolon, Open, Close, Plus, Token}
 
--- a token is a statement's keyword, which stands at this line and offset
+-- a token is a statement's keyword, which is at this line and offset
 abbrev pub IsHead : Token → Head → Type 0
-IsHead t h = (t.piece ≡ Word h.keyword) × IsKeyword h.keyword × (h.line ≡ line_of t.front) × (h.offset ≡ length t.front)
+IsHead t h = (t.piece ≡ Word h.keyword) × IsKeyword h.keyword × (h.line ≡ line_of t.front)
+    × (h.offset ≡ length t.front)
 
 -- what a quoted text says that has this text in front; a single-quoted one has no escapes (section
 -- 6.1.3)
@@ -22,7 +23,8 @@ abbrev pub IsJoined : List Token → List ℕ → Type 0
 IsJoined [] text = ⊥
 IsJoined (t ∷ []) text = Says t.front t.piece text
 IsJoined (t ∷ p ∷ ts) text =
-    (first : List ℕ) × (others : List ℕ) × (text ≡ first ++ others) × Says t.front t.piece first × (p.piece ≡ Plus)
+    (first : List ℕ) × (others : List ℕ) × (text ≡ first ++ others) × Says t.front t.piece first
+    × (p.piece ≡ Plus)
     × IsJoined ts others
 
 -- the tokens of an argument: none, an unquoted text, or quoted texts
@@ -32,11 +34,12 @@ IsArgument [] (Some text) = ⊥
 IsArgument (t ∷ ts) None = ⊥
 IsArgument (t ∷ ts) (Some text) = ((t.piece ≡ Word text) × (ts ≡ [])) ⊎ IsJoined (t ∷ ts) text
 
--- the tokens behind a statement's argument: a semicolon, or braces round those inside its block
+-- the tokens after a statement's argument: a semicolon, or braces round those inside its block
 abbrev pub IsBody : (List Token → Type 0) → Forest → List Token → Type 0
 IsBody IsInside c body =
     ((t : Token) × (body ≡ t ∷ []) × (t.piece ≡ Semicolon) × (c ≡ End))
-    ⊎ ((t : Token) × (inner : List Token) × (u : Token) × (body ≡ t ∷ (inner ++ u ∷ [])) × (t.piece ≡ Open) × (u.piece ≡ Close) × IsInside inner)
+    ⊎ ((t : Token) × (inner : List Token) × (u : Token) × (body ≡ t ∷ (inner ++ u ∷ []))
+    × (t.piece ≡ Open) × (u.piece ≡ Close) × IsInside inner)
 
 -- the tokens of statements in order, each with its keyword, its argument and its block
 abbrev pub Spells : Forest → List Token → Type 0
@@ -61,4 +64,5 @@ Goes ts = (t : Tree) × (more : List Token) × SpellsOne t (ts ++ more)
 
 -- these tokens begin those of some statement of at most this depth
 abbrev pub GoesWithin : ℕ → List Token → Type 0
-GoesWithin limit ts = (t : Tree) × (more : List Token) × SpellsOne t (ts ++ more) × (depth t.children + 1 ≤ limit)
+GoesWithin limit ts =
+    (t : Tree) × (more : List Token) × SpellsOne t (ts ++ more) × (depth t.children + 1 ≤ limit)

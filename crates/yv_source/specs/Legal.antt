@@ -12,7 +12,7 @@ most_bytes = 4194304
 abbrev pub IsTooLarge : List ℕ → Type 0
 IsTooLarge bytes = most_bytes < length bytes
 
--- bytes within it that are no text
+-- bytes within it that aren't text
 abbrev pub IsNoText : List ℕ → Type 0
 IsNoText bytes = (length bytes ≤ most_bytes) × (IsUtf8 bytes → ⊥)
 
@@ -28,8 +28,9 @@ IsLegalText text = (length text ≤ most_bytes) × IsTrue (list_all is_legal (ch
 abbrev pub IsLegalFile : List ℕ → Type 0
 IsLegalFile bytes = IsUtf8 bytes × IsLegalText bytes
 
--- the first character that isn't legal stands at this offset
+-- the first character that isn't legal is at this offset
 abbrev pub IsIllegalAt : List ℕ → ℕ → Type 0
 IsIllegalAt text at =
     (front : List ℕ) × (c : ℕ) × (rest : List ℕ) × (chars text ≡ front ++ c ∷ rest)
-    × IsTrue (list_all is_legal front) × IsFalse (is_legal c) × (at ≡ length (encode_utf8_all front))
+    × IsTrue (list_all is_legal front) × IsFalse (is_legal c)
+    × (at ≡ length (encode_utf8_all front))

@@ -12,7 +12,7 @@ pub mod Outcome
 pub mod Pieces
 pub mod Place
 pub mod Quotes
--- what private clauses alone cite
+-- what private clauses only cite
 pub mod Inner
 -- statements as trees, how they are built, and the codes of refusals
 pub use Rattle.yv_statement.specs.Tree

@@ -2,7 +2,7 @@
 use Rattle.std.specs.Prelude.{ℕ, ◌+◌, ◌≤◌, ◌++◌, List, [], ◌∷◌}
 use Rattle.yv_statement.specs.Tree.{Forest, End, Then, Tree}
 
--- the offsets of statements, each before those of its block, and these before the statements behind
+-- the offsets of statements, each before those of its block, and these before the statements after
 -- it
 abbrev pub offsets : Forest → List ℕ
 offsets End = []
@@ -13,6 +13,6 @@ abbrev pub Ascends : ℕ → List ℕ → Type 0
 Ascends low [] = Unit {0}
 Ascends low (n ∷ ns) = (low ≤ n) × Ascends (n + 1) ns
 
--- a statement stands before those in its block, and each of these before the ones behind it
+-- a statement comes before those in its block, and each of these before the ones after it
 abbrev pub IsInOrder : Tree → Type 0
 IsInOrder t = Ascends 0 (offsets (Then t.head t.children End))

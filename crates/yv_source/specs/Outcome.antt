@@ -1,4 +1,4 @@
--- What a text comes to: the one statement that it spells, or what is refused first.
+-- The outcome of a text: the one statement that it spells, or what is refused first.
 use Rattle.std.specs.Prelude.{◌≡◌, ℕ, ◌+◌, ◌-◌, ◌≤◌, List, [], ◌∷◌, ◌++◌, length, take, drop, ◌⊎◌}
 use Rattle.yv_statement.specs.Tree.{Tree}
 use Rattle.yv_source.specs.Place.{mark_len}
@@ -6,7 +6,7 @@ use Rattle.yv_source.specs.Pieces.{Piece, Before, Apart, MayBegin, Cuts, behind,
 use Rattle.yv_source.specs.Grammar.{SpellsOne, depth, Goes, GoesWithin}
 use Rattle.yv_source.specs.Escapes.{IsNewer, HasNoBadPair, HasBadPair}
 
--- what a text comes to: a statement, or a refusal at an offset
+-- the outcome of a text: a statement, or a refusal at an offset
 pub data Outcome : Type 0 where
   Statement : Tree → Outcome
   BadToken : (offset : ℕ) → Outcome
@@ -18,12 +18,12 @@ pub data Outcome : Type 0 where
 abbrev pub most_deep : ℕ
 most_deep = 64
 
--- Why a text comes to an outcome, once it was cut into these pieces and this rest. Spelled: its
+-- Why a text has an outcome, once it was cut into these pieces and this rest. Spelled: its
 -- tokens are those of the statement, and in a YANG 1.1 file no backslash pair of theirs is bad.
--- BadToken: no piece may stand at the rest. BadSyntax: the text ends where no statement does, or a
--- piece may stand at the rest with which its tokens begin none. TooDeep: a piece may stand there
--- with which its tokens begin only statements that are too deep. BadEscape: its tokens are those of
--- a statement of a YANG 1.1 file, and their first bad pair stands at the offset.
+-- BadToken: no piece may be at the rest. BadSyntax: the text ends where no statement does, or a
+-- piece may be at the rest with which its tokens begin none. TooDeep: a piece may be there with
+-- which its tokens begin only statements that are too deep. BadEscape: its tokens are those of a
+-- statement of a YANG 1.1 file, and their first bad pair is at the offset.
 abbrev pub Why : List ℕ → List Piece → Before → List ℕ → Outcome → Type 0
 Why front ps before rest (Statement t) =
     (rest ≡ []) × SpellsOne t (tokens front ps) × (depth t.children + 1 ≤ most_deep)
@@ -47,9 +47,8 @@ StandsAt at (BadSyntax offset) = offset ≡ at
 StandsAt at (TooDeep offset) = offset ≡ at
 StandsAt at (BadEscape offset) = Unit {0}
 
--- What a text comes to that stands behind a front which is skipped. It was cut as far as its tokens
--- begin those of a statement that isn't too deep; so nothing is refused in front of the outcome's
--- place.
+-- The outcome of a text that follows a front which is skipped. It was cut as far as its tokens
+-- begin those of a statement that isn't too deep; so nothing is refused before the outcome's place.
 pub record ComesTo (front text : List ℕ) (outcome : Outcome) : Type 0 where
   pub pieces : List Piece
   pub rest : List ℕ
@@ -58,6 +57,6 @@ pub record ComesTo (front text : List ℕ) (outcome : Outcome) : Type 0 where
   pub why : Why front pieces (behind Apart pieces) rest outcome
   pub place : StandsAt (length front + (length text - length rest)) outcome
 
--- what a file's text comes to, behind its byte order mark
+-- the outcome of a file's text, after its byte order mark
 abbrev pub TextComesTo : List ℕ → Outcome → Type 0
 TextComesTo text outcome = ComesTo (take (mark_len text) text) (drop (mark_len text) text) outcome

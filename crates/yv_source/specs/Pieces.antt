@@ -53,7 +53,8 @@ until stop (b ∷ rest) = cond (stop (b ∷ rest)) [] (b ∷ until stop rest)
 abbrev pub ends_word : List ℕ → Bool
 ends_word [] = true
 ends_word (b ∷ rest) =
-    is_blank b || b == double_quote || b == single_quote || b == semicolon || b == opening_brace || b == closing_brace
+    is_blank b || b == double_quote || b == single_quote || b == semicolon || b == opening_brace
+    || b == closing_brace
     || (b == slash && (begins slash rest || begins asterisk rest))
     || (b == asterisk && begins slash rest)
 
@@ -63,20 +64,20 @@ up_to_quote behind_backslash [] = []
 up_to_quote true (b ∷ rest) = b ∷ up_to_quote false rest
 up_to_quote false (b ∷ rest) = cond (b == double_quote) [] (b ∷ up_to_quote (b == backslash) rest)
 
--- what stands in front of a place: an unquoted text right before it, a quoted text as the last
--- piece but for blanks and comments, or neither
+-- what comes before a place: an unquoted text right before it, a quoted text as the last piece but
+-- for blanks and comments, or neither
 pub data Before : Type 0 where
   Apart : Before
   UnquotedWord : Before
   QuotedText : Before
 
--- what stands in front behind a blank or a comment
+-- what comes before the next place, after a blank or a comment
 abbrev pub past_gap : Before → Before
 past_gap Apart = Apart
 past_gap UnquotedWord = Apart
 past_gap QuotedText = QuotedText
 
--- what stands in front behind a piece
+-- what comes before the next place, after a piece
 abbrev pub past : Before → Piece → Before
 past before (Blank b) = past_gap before
 past before (LineComment t) = past_gap before
@@ -89,24 +90,28 @@ past before Open = Apart
 past before Close = Apart
 past before Plus = Apart
 
--- A piece may stand at a place, before what is left of the text. A line comment goes to the line's
+-- A piece may be at a place, before what is left of the text. A line comment goes to the line's
 -- end, a block comment to the first */ (section 6.1.2), an unquoted text as far as it can, a quoted
--- one to the first quote. No quoted text stands right behind an unquoted one, and behind a quoted
--- text a + joins (section 6.1.3).
+-- one to the first quote. No quoted text is right after an unquoted one, and after a quoted text a
+-- + joins (section 6.1.3).
 abbrev pub MayStand : Before → Piece → List ℕ → Type 0
 MayStand before (Blank b) rest = IsTrue (is_blank b)
 MayStand before (LineComment t) rest = until (begins line_feed) (t ++ rest) ≡ t
-MayStand before (BlockComment t) rest = until (begins_two asterisk slash) (t ++ asterisk ∷ slash ∷ rest) ≡ t
+MayStand before (BlockComment t) rest =
+    until (begins_two asterisk slash) (t ++ asterisk ∷ slash ∷ rest) ≡ t
 MayStand before (Word t) rest =
-    (t ≢ []) × (until ends_word (t ++ rest) ≡ t) × ((before ≡ QuotedText) → begins plus_sign t ≡ false)
-MayStand before (Single t) rest = (before ≢ UnquotedWord) × (until (begins single_quote) (t ++ single_quote ∷ rest) ≡ t)
-MayStand before (Double t) rest = (before ≢ UnquotedWord) × (up_to_quote false (t ++ double_quote ∷ rest) ≡ t)
+    (t ≢ []) × (until ends_word (t ++ rest) ≡ t)
+    × ((before ≡ QuotedText) → begins plus_sign t ≡ false)
+MayStand before (Single t) rest =
+    (before ≢ UnquotedWord) × (until (begins single_quote) (t ++ single_quote ∷ rest) ≡ t)
+MayStand before (Double t) rest =
+    (before ≢ UnquotedWord) × (up_to_quote false (t ++ double_quote ∷ rest) ≡ t)
 MayStand before Semicolon rest = Unit {0}
 MayStand before Open rest = Unit {0}
 MayStand before Close rest = Unit {0}
 MayStand before Plus rest = before ≡ QuotedText
 
--- a piece may stand at a place, and what is left of the text begins with it
+-- a piece may be at a place, and what is left of the text begins with it
 abbrev pub MayBegin : Before → List ℕ → Piece → Type 0
 MayBegin before rest p = (more : List ℕ) × (rest ≡ slice p ++ more) × MayStand before p more
 
@@ -114,18 +119,19 @@ MayBegin before rest p = (more : List ℕ) × (rest ≡ slice p ++ more) × MayS
 abbrev pub Cuts : Before → List ℕ → List Piece → List ℕ → Type 0
 Cuts before text [] rest = text ≡ rest
 Cuts before text (p ∷ ps) rest =
-    (more : List ℕ) × (text ≡ slice p ++ more) × MayStand before p more × Cuts (past before p) more ps rest
+    (more : List ℕ) × (text ≡ slice p ++ more) × MayStand before p more
+    × Cuts (past before p) more ps rest
 
--- what stands in front behind these pieces
+-- what comes before the next place, after these pieces
 abbrev pub behind : Before → List Piece → Before
 behind before [] = before
 behind before (p ∷ ps) = behind (past before p) ps
 
--- something is left, and no piece may stand there
+-- something is left, and no piece may be there
 abbrev pub IsUncut : Before → List ℕ → Type 0
 IsUncut before rest = (rest ≢ []) × ((p : Piece) → MayBegin before rest p → ⊥)
 
--- a piece that is no blank and no comment, with the text in front of it (a token of section 6.1.1)
+-- a piece that isn't a blank and no comment, with the text before it (a token of section 6.1.1)
 pub record Token : Type 0 where
   pub front : List ℕ
   pub piece : Piece

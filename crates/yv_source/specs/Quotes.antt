@@ -9,6 +9,7 @@ use Rattle.yv_source.specs.Pieces.{begins}
 abbrev pub is_gap : ℕ → Bool
 is_gap c = c == space || c == tab
 
+-- so many spaces
 abbrev pub spaces : ℕ → List ℕ
 spaces zero = []
 spaces (suc n) = space ∷ spaces n
@@ -22,7 +23,7 @@ unindent n (c ∷ rest) =
     (cond (c == space) (unindent (n - 1) rest)
     (cond (c == tab) (spaces (8 - n) ++ unindent (n - 8) rest) (c ∷ rest)))
 
--- a character in front of the first of these lines
+-- a character before the first of these lines
 abbrev pub onto_first : ℕ → List (List ℕ) → List (List ℕ)
 onto_first c [] = (c ∷ []) ∷ []
 onto_first c (line ∷ others) = (c ∷ line) ∷ others
@@ -30,7 +31,8 @@ onto_first c (line ∷ others) = (c ∷ line) ∷ others
 -- the lines of a text, each with its line feed
 abbrev pub lines_of : List ℕ → List (List ℕ)
 lines_of [] = [] ∷ []
-lines_of (c ∷ rest) = cond (c == line_feed) ((c ∷ []) ∷ lines_of rest) (onto_first c (lines_of rest))
+lines_of (c ∷ rest) =
+    cond (c == line_feed) ((c ∷ []) ∷ lines_of rest) (onto_first c (lines_of rest))
 
 -- these lines in a row, each unindented
 abbrev pub all_unindented : ℕ → List (List ℕ) → List ℕ
@@ -49,33 +51,35 @@ without_indent n text = but_the_first n (lines_of text)
 -- whether a text begins with spaces and tabs, or none, and a line break, which is LF or CR LF
 abbrev pub breaks : List ℕ → Bool
 breaks [] = false
-breaks (c ∷ rest) = c == line_feed || (c == carriage_return && begins line_feed rest) || (is_gap c && breaks rest)
+breaks (c ∷ rest) =
+    c == line_feed || (c == carriage_return && begins line_feed rest) || (is_gap c && breaks rest)
 
--- a text without the spaces and tabs in front of its line breaks
+-- a text without the spaces and tabs before its line breaks
 abbrev pub without_trailing : List ℕ → List ℕ
 without_trailing [] = []
-without_trailing (c ∷ rest) = cond (is_gap c && breaks rest) (without_trailing rest) (c ∷ without_trailing rest)
+without_trailing (c ∷ rest) =
+    cond (is_gap c && breaks rest) (without_trailing rest) (c ∷ without_trailing rest)
 
 -- what a backslash and a character say: a line feed, a tab, a quote or a backslash, or else both as
--- they stand
+-- they are
 abbrev pub escape : ℕ → List ℕ
 escape c =
     cond (c == letter_n) (line_feed ∷ [])
     (cond (c == letter_t) (tab ∷ [])
     (cond (c == double_quote || c == backslash) (c ∷ []) (backslash ∷ c ∷ [])))
 
--- a text with its escapes read, behind a backslash or not
+-- a text with its escapes read, after a backslash or not
 abbrev pub unescape : Bool → List ℕ → List ℕ
 unescape false [] = []
 unescape true [] = backslash ∷ []
 unescape false (c ∷ rest) = cond (c == backslash) (unescape true rest) (c ∷ unescape false rest)
 unescape true (c ∷ rest) = escape c ++ unescape false rest
 
--- the characters of a text whose first quote stands behind this many columns, stripped up to and
+-- the characters of a text whose first quote comes after this many columns, stripped up to and
 -- including the quote's
 abbrev pub strip : ℕ → List ℕ → List ℕ
 strip column text = without_trailing (without_indent (column + 1) (chars text))
 
--- the bytes of what a double-quoted text says whose first quote stands there
+-- the bytes of what a double-quoted text says whose first quote is there
 abbrev pub quoted_value : ℕ → List ℕ → List ℕ
 quoted_value column text = encode_utf8_all (unescape false (strip column text))

@@ -13,7 +13,7 @@ use Rattle.yv_source.specs.declared.texts.Texts.{Texts}
 abbrev pub IsText : File → List ℕ → Type 0
 IsText f text = IsLegalFile f.bytes × (text ≡ f.bytes)
 
--- the bytes of the file of this number are no legal text
+-- the bytes of the file of this number aren't legal text
 pub record IsNoText (files : List File) (n : ℕ) (r : Refusal) : Type 0 where
   pub file : File
   pub at : slice_get files n ≡ Some file
@@ -22,10 +22,11 @@ pub record IsNoText (files : List File) (n : ℕ) (r : Refusal) : Type 0 where
   pub placed : r ≡ in_file n own
 
 -- the texts are those of the first files; the next one is none where there is a refusal, and else
--- there is no next one. A refusal is told of a file whose number 32 bits hold
+-- there is no next one. A refusal is known of a file whose number 32 bits hold
 pub record AreTexts (files : List File) (t : Texts) : Type 0 where
   pub each : AllZip IsText (take (length t.texts.items) files) t.texts.items
-  pub rest : MatchOption t.bad (length t.texts.items ≡ length files) (IsNoText files (length t.texts.items))
+  pub rest : MatchOption t.bad (length t.texts.items ≡ length files)
+      (IsNoText files (length t.texts.items))
   pub few : IfSome t.bad (λ r. length t.texts.items ≤ 4294967295)
 
 -- the texts before this one spell statements, and this one spells none

@@ -1,4 +1,4 @@
-// What a double-quoted text says, written in one pass: blanks that may stand before a line break
+// What a double-quoted text says, written in one pass: blanks that may come before a line break
 // wait until it is known whether they do. Runs in which nothing is stripped or escaped are written
 // at once.
 
@@ -284,7 +284,7 @@ impl Writer {
         self.keep_plain(c)
     }
 
-    // The same, where no CR stands before.
+    // The same, where no CR comes before.
     fn keep_plain(&mut self, c: char) -> Result<(), AllocError>
         ensures { OnOk result (self.new ≡ keep_plain c self.old) }
     {
@@ -353,7 +353,7 @@ impl Writer {
         }
     }
 
-    // Keeps what may have stood before a line break.
+    // Keeps what may have came before a line break.
     fn trail(&mut self) -> Result<(), AllocError>
         ensures { OnOk result (self.new ≡ trail self.old) }
     {

@@ -5,16 +5,21 @@ ghost use Rattle.yv_source.specs.{Answer.{IsBadFile, IsSpelled, IsRefused}, Lega
 
 /// A bad file is refused in one way, and isn't legal.
 pub fn a_bad_file_is_refused_once()
+    // A bad file is refused in one way.
     ensures once { (bytes : List ℕ) (r s : Refusal) → IsBadFile bytes r → IsBadFile bytes s → r
         ≡ s }
+    // It is not legal.
     ensures not_legal { (bytes : List ℕ) (r : Refusal) → IsBadFile bytes r → IsLegalFile bytes → ⊥ }
 {}
 
 /// A text spells one statement at most, or is refused in one way, and not both.
 pub fn a_text_is_spelled_or_refused_once()
+    // A text spells at most one statement.
     ensures spells { (text : List ℕ) (t u : Tree) → IsSpelled text t → IsSpelled text u → t ≡ u }
+    // It is refused in at most one way.
     ensures refuses { (text : List ℕ) (r s : Refusal) → IsRefused text r → IsRefused text s → r
         ≡ s }
+    // It never does both.
     ensures not_both { (text : List ℕ) (t : Tree) (r : Refusal) → IsSpelled text t
         → IsRefused text r → ⊥ }
 {}

@@ -21,18 +21,24 @@ use yv_statement::{Code, Statement, Stop};
 /// applies, BadEscape at the first backslash pair that YANG 1.1 doesn't know, in a file of that
 /// version. An offset counts bytes, a line is counted from 1.
 pub fn parse<'a>(alloc: Global, source: &'a Source) -> Result<Statement<'a>, Stop>
+    // The statement is the one that the text spells.
     ensures spells { IfOk result (IsSpelled source.now.text) }
+    // The refusal is the one with which the text is refused.
     ensures refuses { (r : Refusal) → result ≡ Err (Stop.Fault r) → IsRefused source.now.text r }
+    // `PatternBuild` is never returned.
     ensures never_built { result ≡ Err Stop.PatternBuild → ⊥ }
 
-    // The text spells one statement at most, or is refused in one way: that is answered, unless
-    // memory runs out.
+    // If the text spells a statement, that statement is returned, or out of memory.
     ensures only_spelled { (t : Tree) → IsSpelled source.now.text t → (result ≡ Ok t)
         ⊎ (result ≡ Err Stop.NoMemory) }
+    // If the text is refused, that refusal is returned, or out of memory.
     ensures only_refused { (r : Refusal) → IsRefused source.now.text r
         → (result ≡ Err (Stop.Fault r)) ⊎ (result ≡ Err Stop.NoMemory) }
 
+    // Each statement comes before those of its block, and these come before the statements that
+    // follow it.
     ensures order { IfOk result IsInOrder }
+    // The text of a source is legal.
     ensures legal { IsLegalFile source.now.text }
 {
     parse_text(alloc, source.text())
@@ -94,7 +100,7 @@ fn at_end<'a>(
     }
 }
 
-// The statement, where it stands whole.
+// The statement, where it is whole.
 fn whole_statement<'a>(mut stack: Vec<Statement<'a>>, phase: Phase) -> Option<Statement<'a>>
     ensures { result ≡ ended_in phase (reverse stack.entry.items) }
 {

@@ -173,8 +173,8 @@ fn word_len(bytes: &[u8]) -> usize
     bytes.len()
 }
 
-// Whether an unquoted text ends at an offset. Most bytes end none, so that what is behind them
-// isn't looked at.
+// Whether an unquoted text ends at an offset. Most bytes end none, so that what is after them isn't
+// looked at.
 fn is_word_end(bytes: &[u8], at: usize) -> bool
     requires { at < length bytes.now }
     ensures { result ≡ ends_word (drop at bytes.now) }
@@ -182,7 +182,7 @@ fn is_word_end(bytes: &[u8], at: usize) -> bool
     !goes_on(bytes[at]) && ends_word(&bytes[at..])
 }
 
-// Whether a byte ends no unquoted text, whatever is behind it. The ranges leave out every mark, and
+// Whether a byte ends no unquoted text, whatever is after it. The ranges leave out every mark, and
 // the one with the letters is asked for first.
 fn goes_on(byte: u8) -> bool
     ensures { (rest : List ℕ) → result ≡ true → ends_word (byte ∷ rest) ≡ false }
@@ -252,7 +252,7 @@ fn mark_offset(bytes: &[u8]) -> usize
     memchr2(b'"', b'\\', bytes).unwrap_or(bytes.len())
 }
 
-// A double-quoted text, from behind its first quote.
+// A double-quoted text, from after its first quote.
 fn double(before: Before, rest: &[u8]) -> Ahead
     ensures { let piece = Piece.Double (up_to_quote false rest.now) in
         result
@@ -270,7 +270,7 @@ fn double(before: Before, rest: &[u8]) -> Ahead
     }
 }
 
-// A single-quoted text, from behind its first quote.
+// A single-quoted text, from after its first quote.
 fn single(before: Before, rest: &[u8]) -> Ahead
     ensures { let piece = Piece.Single (until (begins single_quote) rest.now) in
         result
@@ -289,7 +289,7 @@ fn single(before: Before, rest: &[u8]) -> Ahead
     }
 }
 
-/// A comment between marks, from behind its first two bytes.
+/// A comment between marks, from after its first two bytes.
 pub(crate) fn block_comment(rest: &[u8]) -> Ahead
     ensures { let piece = Piece.BlockComment (until (begins_two asterisk slash) rest.now) in
         result ≡ ahead_of (closed_by_two piece (from (begins_two asterisk slash) rest.now)) }

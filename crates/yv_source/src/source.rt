@@ -46,13 +46,17 @@ impl Source {
     /// that isn't UTF-8, else BadCharacter at the first character that isn't legal (RFC 7950,
     /// section 14, yang-char). The name is what messages call the file by, and isn't looked at.
     pub fn new(alloc: Global, name: &str, bytes: &[u8]) -> Result<Source, Stop>
+        // The source has this name and these bytes.
         ensures source { IfOk result
             (λ source. source ≡ record { name = name.now; text = bytes.now }) }
+        // They are UTF-8, at most 4,194,304 bytes, of legal characters.
         ensures legal { OnOk result (IsLegalFile bytes.now) }
+        // A refusal is returned exactly if it is that of a bad file.
         ensures refuses { (r : Refusal) → (result ≡ Err (Stop.Fault r)) ↔ IsBadFile bytes.now r }
+        // `PatternBuild` is never returned.
         ensures never_built { result ≡ Err Stop.PatternBuild → ⊥ }
 
-        // A legal file's text is given, unless memory runs out.
+        // For a legal file its source is returned, or out of memory.
         ensures only_legal { IsLegalFile bytes.now
             → (result ≡ Ok (record { name = name.now; text = bytes.now }))
             ⊎ (result ≡ Err Stop.NoMemory) }
@@ -75,7 +79,9 @@ impl Source {
 
     /// The file's text, with its byte order mark where it has one.
     pub fn text(&self) -> &str
+        // The text of the file.
         ensures value { result.now ≡ self.now.text }
+        // It is legal.
         ensures legal { IsLegalFile self.now.text }
     {
         self.text.as_str()

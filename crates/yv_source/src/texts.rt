@@ -16,7 +16,7 @@ use yv_streams::Input;
 #[derive(Drop)]
 pub struct Texts<'a> {
     pub(crate) texts: Vec<Text<'a>>,
-    /// Why the next file's bytes are no text, where there is such a file.
+    /// Why the next file's bytes aren't text, where there is such a file.
     pub(crate) bad: Option<Refusal>,
 }
 
@@ -41,10 +41,13 @@ impl<'a> Texts<'a> {
 
     /// The statement that each file spells, or the refusal of the first file that spells none.
     pub fn statements(&self, alloc: Global) -> Result<Vec<Statement<'a>>, Stop>
+        // A statement for each file, which its bytes spell.
         ensures reads { (files : List File) → AreTexts files self.now
             → IfOk result (λ statements. AllZip IsRead files statements.items) }
+        // A refusal is that of the first file that cannot be read, and gives its number.
         ensures refuses { (files : List File) → AreTexts files self.now → (r : TheRefusal) → result
             ≡ Err (Fault r) → IsUnreadAt files r }
+        // `PatternBuild` is never returned.
         ensures never_built { result ≢ Err PatternBuild }
     {
         match parse_all(alloc, &self.texts) {

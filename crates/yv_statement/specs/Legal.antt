@@ -9,5 +9,6 @@ is_legal c =
     && (nat_lt c 64976 || nat_lt 65007 c)
     && nat_lt (c % 65536) 65534
 
+-- all characters are legal
 abbrev pub all_legal : List ℕ → Bool
 all_legal characters = list_all is_legal characters

@@ -11,6 +11,7 @@ IsUpToBy [] ys = Unit {0}
 IsUpToBy (x ∷ xs) [] = ⊥
 IsUpToBy (x ∷ xs) (y ∷ ys) = (x < y) ⊎ ((x ≡ y) × IsUpToBy xs ys)
 
+-- what is compared of refusals, the first difference first
 abbrev pub keys_of : Refusal → List ℕ
 keys_of r = phase_of r.code ∷ r.file ∷ r.offset ∷ number_of r.code ∷ r.line ∷ []
 
@@ -19,7 +20,7 @@ keys_of r = phase_of r.code ∷ r.file ∷ r.offset ∷ number_of r.code ∷ r.l
 abbrev pub IsUpTo : Refusal → Refusal → Type 0
 IsUpTo r s = IsUpToBy (keys_of r) (keys_of s)
 
--- the least refusal that stands, or none where none does
+-- the least refusal that is, or none where none does
 abbrev pub IsLeast : (Refusal → Type 0) → Option Refusal → Type 0
 IsLeast Stands None = (s : Refusal) → Stands s → ⊥
 IsLeast Stands (Some r) = Stands r × ((s : Refusal) → Stands s → IsUpTo r s)
@@ -34,7 +35,7 @@ IsLesser (Some r) (Some s) c = ((c ≡ Some r) × IsUpTo r s) ⊎ ((c ≡ Some s
 abbrev pub refusal_at : Code → ℕ → Head → Refusal
 refusal_at c file head = record { code = c; file = file; offset = head.offset; line = head.line }
 
--- f is this refusal, which stands where P holds
+-- f is this refusal, which is where P holds
 abbrev pub Stands : Type 0 → Refusal → Refusal → Type 0
 Stands P r f = P × (f ≡ r)
 

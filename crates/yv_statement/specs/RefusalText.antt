@@ -8,8 +8,10 @@ use Rattle.yv_statement.specs.Codes.{name_of}
 
 -- the number of the file, the line, and the name of the code
 abbrev pub refusal_text : Refusal → List ℕ
-refusal_text r = codes "file " ++ decimal r.file ++ codes ", line " ++ decimal r.line ++ codes ": " ++ name_of r.code
+refusal_text r = codes "file " ++ decimal r.file ++ codes ", line " ++ decimal r.line ++ codes ": "
+    ++ name_of r.code
 
+-- what is printed of a stop
 abbrev pub stop_text : Stop → List ℕ
 stop_text (Fault r) = refusal_text r
 stop_text PatternBuild = codes "pattern not built"

@@ -14,21 +14,23 @@ pub record Entry : Type 0 where
   pub features : List (List ℕ)
 
 -- a selection, as clauses see it: modules with the features of them that are supported, and modules
--- that are there for their definitions alone
+-- that are there for their definitions only
 pub record Selected : Type 0 where
   pub support : List Entry
   pub imports : List (List ℕ)
 
+-- a module that is named with features
 abbrev pub entry_of : String Global × Vec (String Global) Global → Entry
 entry_of p = record { «module» = string_bytes p.0; features = map string_bytes p.1.items }
 
+-- what a selection names
 abbrev pub selected_of : Selection → Selected
 selected_of s = record {
   support = map entry_of s.support.items;
   imports = map string_bytes s.import_only.items;
 }
 
--- every module is implemented but those that are there for their definitions alone
+-- every module is implemented but those that are there for their definitions only
 abbrev pub is_implemented : Selected → List ℕ → Bool
 is_implemented c «module» = not (is_among c.imports «module»)
 
@@ -40,7 +42,7 @@ is_of «module» e = bytes_eq e.module «module»
 unfoldable pub is_listed : List ℕ → List ℕ → Entry → Bool
 is_listed «module» feature e = is_of «module» e && is_among e.features feature
 
--- every feature is supported, but of a module that has an entry those alone that one of its entries
+-- every feature is supported, but of a module that has an entry those only that one of its entries
 -- lists
 abbrev pub is_supported : Selected → List ℕ → List ℕ → Bool
 is_supported c «module» feature =

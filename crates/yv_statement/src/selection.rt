@@ -19,7 +19,9 @@ pub struct Selection {
 impl Selection {
     /// The selection of everything: each module is implemented, and each feature is supported.
     pub fn everything(alloc: Global) -> Selection
+        // No module is named with features.
         ensures support { (selected_of result).support ≡ [] }
+        // No module is imported only.
         ensures imports { (selected_of result).imports ≡ [] }
     {
         Selection {

@@ -62,7 +62,9 @@ impl<'a> Statement<'a> {
 
     /// Gives it more of its argument, or the first part. A first part that is lent isn't copied.
     pub fn extend(&mut self, alloc: Global, text: CowStr<'a>) -> Result<(), AllocError>
+        // The text is appended to the argument, or becomes it.
         ensures ok { OnOk result (self.new ≡ with_more (cow_str_bytes text.entry) self.old) }
+        // After an error the statement is unchanged.
         ensures err { OnErr result (self.new ≡ self.old) }
     {
         match &mut self.argument {
@@ -79,7 +81,9 @@ impl<'a> Statement<'a> {
 
     /// Adds a statement to its block, after the others.
     pub fn adopt(&mut self, mut child: Statement<'a>) -> Result<(), AllocError>
+        // The child is appended to the block.
         ensures ok { OnOk result (self.new ≡ push_child self.old child.entry) }
+        // After an error the statement is unchanged.
         ensures err { OnErr result (self.new ≡ self.old) }
     {
         child.settle();
@@ -110,7 +114,10 @@ impl<'a> Statement<'a> {
 
     /// Whether it has this keyword, without a comparison of texts.
     pub fn is(&self, keyword: Keyword) -> bool
+        // Whether its keyword means this one.
         ensures kind { result ≡ same (keyword_of self.now.head.keyword) keyword }
+        // That is whether the texts are equal, where the keyword has one: it has none where it is
+        // an extension's or unknown.
         ensures text { IfSome (written keyword)
             (λ text. result ≡ bytes_eq self.now.head.keyword text) }
     {

@@ -6,7 +6,7 @@ use Rattle.yv_streams.specs.declared.input.Input.{Input}
 abbrev pub file_limit : ℕ
 file_limit = 4194304
 
--- a name, and what stands in the file of that name
+-- a name, and what is in the file of that name
 pub record File : Type 0 where
   pub name : List ℕ
   pub bytes : List ℕ

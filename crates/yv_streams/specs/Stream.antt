@@ -36,24 +36,27 @@ CountsNothing old new =
 -- one more fault
 abbrev pub CountsFault : {T : Type 0} → Counted T → Counted T → Type 0
 CountsFault old new =
-    (stream_faults new ≡ one_more (stream_faults old)) × (stream_interrupts new ≡ stream_interrupts old)
+    (stream_faults new ≡ one_more (stream_faults old))
+    × (stream_interrupts new ≡ stream_interrupts old)
 
 -- one more interruption
 abbrev pub CountsInterrupt : {T : Type 0} → Counted T → Counted T → Type 0
 CountsInterrupt old new =
-    (stream_faults new ≡ stream_faults old) × (stream_interrupts new ≡ one_more (stream_interrupts old))
+    (stream_faults new ≡ stream_faults old)
+    × (stream_interrupts new ≡ one_more (stream_interrupts old))
 
--- a call of a stream that has failed is none of what it wraps, and one more fault
+-- a call of a stream that has failed makes no call of what it wraps, and is one more fault
 abbrev pub GivesUp : {T : Type 0} → Counted T → Counted T → Type 0
-GivesUp old new = has_failed old ≡ true → (stream_inner new ≡ stream_inner old) × CountsFault old new
+GivesUp old new =
+    has_failed old ≡ true → (stream_inner new ≡ stream_inner old) × CountsFault old new
 
 -- the calls that went wrong and weren't borne: the faults, and the interruptions past the first
 -- 1,000
 abbrev pub stream_failures : {T : Type 0} → Counted T → ℕ
 stream_failures c = stream_faults c + (stream_interrupts c - 1000)
 
--- At most one call wasn't borne. No call came behind it, since each call of a stream that has
--- failed is one more fault.
+-- At most one call wasn't borne. No call came after it, since each call of a stream that has failed
+-- is one more fault.
 abbrev pub FailsOnceAtMost : {T : Type 0} → Counted T → Type 0
 FailsOnceAtMost c = stream_failures c ≤ 1
 

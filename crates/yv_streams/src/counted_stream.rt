@@ -19,9 +19,13 @@ pub struct Counted<T> {
 }
 
 impl<T> Counted<T> {
+    /// Wraps a reader or a writer. Nothing has gone wrong yet.
     pub fn new(inner: T) -> Counted<T>
+        // This is what is wrapped.
         ensures inner { stream_inner result ≡ inner }
+        // No faults are counted.
         ensures faults { stream_faults result ≡ 0 }
+        // No interruptions are counted.
         ensures interrupts { stream_interrupts result ≡ 0 }
     {
         Counted {
@@ -96,15 +100,23 @@ impl<T> Counted<T> {
 impl<R: Read> Read for Counted<R> {
     ghost remaining = { λ c. R.remaining (stream_inner c) };
 
+    /// One call of the reader that is wrapped, unless the stream has failed.
     fn read(&mut self, buf: &mut [u8]) -> io::Result<usize>
+        // It gives at most as many bytes as there is room for.
         ensures bound { ReadsAtMost result buf.new }
+        // What a call of what is wrapped takes or gives, and what it adds to the counts; that it is
+        // only one call is tested.
         ensures bytes { ReadConsumes (R.remaining (stream_inner self.old))
             (R.remaining (stream_inner self.new)) result buf.new }
+        // A success counts nothing.
         ensures gives { OnOk result (CountsNothing self.old self.new) }
+        // An interruption is counted as one.
         ensures interrupts { IfErr result (λ e. error_kind e ≡ ErrorKind.Interrupted
             → CountsInterrupt self.old self.new) }
+        // Any other error is counted as a fault.
         ensures fails { IfErr result (λ e. error_kind e ≢ ErrorKind.Interrupted
             → CountsFault self.old self.new) }
+        // If the stream has failed, what is wrapped isn't called, and one more fault is counted.
         ensures given_up { GivesUp self.old self.new }
     {
         if self.has_failed() {
@@ -121,18 +133,28 @@ impl<R: Read> Read for Counted<R> {
 impl<W: Write> Write for Counted<W> {
     ghost contents = { λ c. W.contents (stream_inner c) };
 
+    /// One call of the writer that is wrapped, unless the stream has failed.
     fn write(&mut self, buf: &[u8]) -> io::Result<usize>
+        // It takes at most these bytes.
         ensures bound { WritesAtMost result buf.now }
+        // What a call of what is wrapped takes or gives, and what it adds to the counts; that it is
+        // only one call is tested.
         ensures bytes { WriteAppends (W.contents (stream_inner self.old))
             (W.contents (stream_inner self.new)) result buf.now }
+        // A write that takes bytes counts nothing.
         ensures takes { IfOk result (λ n. 0 < n → CountsNothing self.old self.new) }
+        // One that takes none of the bytes that it was given is a fault.
         ensures none_taken { IfOk result (λ n. n ≡ 0 → 0 < length buf.now
             → CountsFault self.old self.new) }
+        // One that was given none counts nothing.
         ensures none_given { OnOk result (length buf.now ≡ 0 → CountsNothing self.old self.new) }
+        // An interruption is counted as one.
         ensures interrupts { IfErr result (λ e. error_kind e ≡ ErrorKind.Interrupted
             → CountsInterrupt self.old self.new) }
+        // Any other error is counted as a fault.
         ensures fails { IfErr result (λ e. error_kind e ≢ ErrorKind.Interrupted
             → CountsFault self.old self.new) }
+        // If the stream has failed, what is wrapped isn't called, and one more fault is counted.
         ensures given_up { GivesUp self.old self.new }
     {
         if self.has_failed() {
@@ -147,14 +169,21 @@ impl<W: Write> Write for Counted<W> {
         result
     }
 
+    /// One flush of the writer that is wrapped, unless the stream has failed.
     fn flush(&mut self) -> io::Result<()>
+        // What a call of what is wrapped takes or gives, and what it adds to the counts; that it is
+        // only one call is tested.
         ensures bytes { Keeps (W.contents (stream_inner self.old))
             (W.contents (stream_inner self.new)) }
+        // A success counts nothing.
         ensures ends { OnOk result (CountsNothing self.old self.new) }
+        // An interruption is counted as one.
         ensures interrupts { IfErr result (λ e. error_kind e ≡ ErrorKind.Interrupted
             → CountsInterrupt self.old self.new) }
+        // Any other error is counted as a fault.
         ensures fails { IfErr result (λ e. error_kind e ≢ ErrorKind.Interrupted
             → CountsFault self.old self.new) }
+        // If the stream has failed, what is wrapped isn't called, and one more fault is counted.
         ensures given_up { GivesUp self.old self.new }
     {
         if self.has_failed() {

@@ -24,15 +24,23 @@ pub fn read_input<R: Read>(
     name: &str,
     reader: &mut Counted<R>,
 ) -> Result<Input, InputFault>
+    // The reader is fresh.
     requires { IsFresh reader.old }
+    // The name, and the bytes that the reader gave until its end, or its first 4,194,305.
     ensures name { IfOk result (λ i. (file_of i).name ≡ name.now) }
+    // It has the bytes that the reader gave until its end, or its first 4,194,305.
     ensures bytes { IfOk result (λ i. IfSome (R.remaining (stream_inner reader.old))
         (λ xs. (file_of i).bytes ≡ take (file_limit + 1) xs)) }
+    // Just these bytes are consumed.
     ensures consumes { IfOk result (λ i. Consumes (R.remaining (stream_inner reader.old))
         (R.remaining (stream_inner reader.new)) (file_of i).bytes) }
+    // There are at most 4,194,305.
     ensures bound { IfOk result (λ i. length (file_of i).bytes ≤ file_limit + 1) }
+    // `Read` is returned exactly if the reader has failed.
     ensures fault { IsErrOf result InputFault.Read ↔ (has_failed reader.new ≡ true) }
+    // At most one call of the reader failed in a way that is not tolerated, and none came after it.
     ensures once { FailsOnceAtMost reader.new }
+    // At most 4,194,305 bytes are consumed from the reader, whatever is returned.
     ensures takes { TakesAtMost (file_limit + 1) (R.remaining (stream_inner reader.old))
         (R.remaining (stream_inner reader.new)) }
 {

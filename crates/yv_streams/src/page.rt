@@ -78,8 +78,11 @@ impl Page {
 
     /// Writes what the page holds, unless the writer has failed.
     pub fn turn<W: Write>(&mut self, writer: &mut Counted<W>)
+        // The same text is still the one of which the first bytes were written and the page holds
+        // the rest.
         ensures pages { Keeps (paged_output W.contents writer.old self.old)
             (paged_output W.contents writer.new self.new) }
+        // The page holds nothing, unless the writer has failed.
         ensures empties { IsEmptied (has_failed writer.new) self.new }
     {
         if !writer.has_failed() {

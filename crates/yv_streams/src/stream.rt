@@ -38,14 +38,21 @@ pub fn read_up_to<R: Read>(
     limit: usize,
     reader: &mut Counted<R>,
 ) -> Result<Vec<u8>, InputFault>
+    // The reader has not failed.
     requires { has_failed reader.old ≡ false }
+    // Just the bytes that are returned are consumed.
     ensures gives { IfOk result (λ v. Consumes (R.remaining (stream_inner reader.old))
         (R.remaining (stream_inner reader.new)) v.items) }
+    // There are at most `limit` of them.
     ensures bound { IfOk result (λ v. length v.items ≤ limit) }
+    // If there are fewer, the reader is at its end.
     ensures end { IfOk result (λ v. length v.items < limit
         → IsAtEnd (R.remaining (stream_inner reader.new))) }
+    // `Read` is returned exactly if the reader has failed.
     ensures fault { IsErrOf result InputFault.Read ↔ (has_failed reader.new ≡ true) }
+    // At most one call of the reader failed in a way that is not tolerated, and none came after it.
     ensures once { FailsOnceAtMost reader.new }
+    // At most `limit` bytes are consumed from the reader, whatever is returned.
     ensures takes { TakesAtMost limit (R.remaining (stream_inner reader.old))
         (R.remaining (stream_inner reader.new)) }
 {
@@ -92,7 +99,7 @@ fn read_some<R: Read>(
     }
 }
 
-// Whether the reader goes on behind an error, which it does behind an interruption that is borne.
+// Whether the reader goes on after an error, which it does after an interruption that is borne.
 fn goes_on<R>(reader: &Counted<R>) -> Result<bool, InputFault>
     ensures on { has_failed reader.now ≡ false → result ≡ Ok true }
     ensures fault { has_failed reader.now ≡ true → result ≡ Err InputFault.Read }
@@ -106,12 +113,17 @@ fn goes_on<R>(reader: &Counted<R>) -> Result<bool, InputFault>
 
 /// Writes the bytes from the first to the last, and answers whether all were taken.
 pub fn write_whole<W: Write>(writer: &mut Counted<W>, bytes: &[u8]) -> bool
+    // The writer has not failed.
     requires { has_failed writer.old ≡ false }
+    // If true is returned, the writer has received the bytes, and nothing else.
     ensures ends { result ≡ true → Appends (W.contents (stream_inner writer.old))
         (W.contents (stream_inner writer.new)) bytes.now }
+    // In any case it has received the first of them, and nothing else.
     ensures part { (n : ℕ) × Appends (W.contents (stream_inner writer.old))
         (W.contents (stream_inner writer.new)) (take n bytes.now) }
+    // False is returned exactly if the writer has failed.
     ensures fault { result ≡ false ↔ (has_failed writer.new ≡ true) }
+    // At most one call of the writer failed in a way that is not tolerated, and none came after it.
     ensures once { FailsOnceAtMost writer.new }
 {
     let mut written = 0;

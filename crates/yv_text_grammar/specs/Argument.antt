@@ -15,7 +15,8 @@ has_form form.Name text = is_name text
 has_form form.EnumName text = is_enum_name text
 has_form form.Version text = is_one_of (codes "1" ∷ codes "1.1" ∷ []) text
 has_form form.Boolean text = is_one_of (codes "true" ∷ codes "false" ∷ []) text
-has_form form.Status text = is_one_of (codes "current" ∷ codes "deprecated" ∷ codes "obsolete" ∷ []) text
+has_form form.Status text =
+    is_one_of (codes "current" ∷ codes "deprecated" ∷ codes "obsolete" ∷ []) text
 has_form form.OrderedBy text = is_one_of (codes "system" ∷ codes "user" ∷ []) text
 has_form form.Modifier text = is_one_of (codes "invert-match" ∷ []) text
 has_form form.Date text = is_date text
@@ -37,6 +38,7 @@ abbrev pub may_lack : Form → Bool
 may_lack form.Absent = true
 may_lack _ = false
 
+-- an argument, or its absence, is as a form allows
 abbrev pub argument_has : Form → Option (List ℕ) → Bool
 argument_has f None = may_lack f
 argument_has f (Some text) = has_form f text
@@ -48,4 +50,5 @@ IfFeatureFits f argument = Unit {0}
 
 -- the argument of a statement with this keyword, in the block of a parent, has its form
 abbrev pub ArgumentFits : Keyword → Keyword → Option (List ℕ) → Type 0
-ArgumentFits parent keyword argument = (argument_has (form_of parent keyword) argument ≡ true) × IfFeatureFits (form_of parent keyword) argument
+ArgumentFits parent keyword argument = (argument_has (form_of parent keyword) argument ≡ true)
+    × IfFeatureFits (form_of parent keyword) argument

@@ -1,21 +1,27 @@
 -- Bytes by name, and kinds of bytes.
 use Rattle.std.specs.Prelude.{ℕ, Bool, ◌&&◌, ◌||◌, ◌==◌, nat_le}
 
+-- the byte `-`
 abbrev pub dash : ℕ
 dash = 45
 
+-- the byte `.`
 abbrev pub dot : ℕ
 dot = 46
 
+-- the byte `/`
 abbrev pub slash : ℕ
 slash = 47
 
+-- the byte `:`
 abbrev pub colon : ℕ
 colon = 58
 
+-- the byte `[`
 abbrev pub opening_bracket : ℕ
 opening_bracket = 91
 
+-- the byte `(`
 abbrev pub opening_parenthesis : ℕ
 opening_parenthesis = 40
 

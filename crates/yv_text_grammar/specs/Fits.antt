@@ -31,13 +31,16 @@ IsAllowed (Some Any) n = Unit {0}
 
 -- the number of the children with each keyword, no extension's, is within the table
 abbrev pub IsCounted : Tree → Type 0
-IsCounted s = (k : Keyword) → k ≢ word.Extended → IsAllowed (occurs_in (rows_of (keyword_at s)) k) (occurrences k (trees s.children))
+IsCounted s = (k : Keyword) → k ≢ word.Extended
+    → IsAllowed (occurs_in (rows_of (keyword_at s)) k) (occurrences k (trees s.children))
 
 -- an extension's statement fits whatever is in it; another fits where it is right, its children are
 -- counted and each fits
 pub data FitsIn : Keyword → Tree → Type 0 where
   extension : {parent : Keyword} {s : Tree} → keyword_at s ≡ word.Extended → FitsIn parent s
-  plain : {parent : Keyword} {s : Tree} → OwnFits parent s → IsCounted s → ((k : ℕ) (c : Tree) → slice_get (trees s.children) k ≡ Some c → FitsIn (keyword_at s) c) → FitsIn parent s
+  plain : {parent : Keyword} {s : Tree} → OwnFits parent s → IsCounted s
+      → ((k : ℕ) (c : Tree) → slice_get (trees s.children) k ≡ Some c → FitsIn (keyword_at s) c)
+      → FitsIn parent s
 
 -- a file's root fits where it is a module or submodule, and fits without a parent
 abbrev pub Fits : Tree → Type 0

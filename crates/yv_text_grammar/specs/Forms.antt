@@ -56,7 +56,8 @@ form_of parent word.FractionDigits = form.FractionDigits
 form_of parent word.Key = form.Key
 form_of parent word.Unique = form.Unique
 form_of parent word.Refine = form.DescendantPath
-form_of parent word.Augment = if same parent word.Uses then form.DescendantPath else form.AbsolutePath
+form_of parent word.Augment =
+    if same parent word.Uses then form.DescendantPath else form.AbsolutePath
 form_of parent word.Path = form.LeafrefPath
 form_of parent word.IfFeature = form.IfFeature
 form_of parent word.Input = form.Absent

@@ -6,7 +6,7 @@ use Rattle.yv_text_grammar.specs.Bytes.{is_blank}
 use Rattle.yv_text_grammar.specs.Words.{words}
 use Rattle.yv_text_grammar.specs.declared.words.Words.{Words}
 
--- how many bytes stand before the first blank
+-- how many bytes come before the first blank
 abbrev pub word_len : List ℕ → ℕ
 word_len [] = 0
 word_len (b ∷ bs) = if is_blank b then 0 else suc (word_len bs)

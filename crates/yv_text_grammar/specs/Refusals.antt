@@ -1,4 +1,4 @@
--- What is wrong with a statement, and which refusals stand for it. They name the file as 0.
+-- What is wrong with a statement, and which refusals say so. They name the file as 0.
 use Rattle.std.specs.Prelude.{◌≡◌, ◌≢◌, ℕ, ◌⊎◌, ◌==◌, Bool, true, false, not, ◌&&◌, ◌||◌, List, Option, None, Some, take, length, codes}
 use Rattle.std.specs.List.{list_any, slice_get}
 use Rattle.std.specs.Str.{bytes_eq}
@@ -15,6 +15,7 @@ use Rattle.yv_statement.specs.declared.keyword.Keyword.TheVariants as word
 use Rattle.yv_text_grammar.specs.declared.table.Occurs.{Occurs}
 use Rattle.yv_text_grammar.specs.declared.table.Occurs.TheVariants.{One, Optional, Any}
 
+-- the keyword of a statement
 abbrev pub keyword_at : Tree → Keyword
 keyword_at s = keyword_of s.head.keyword
 
@@ -36,15 +37,17 @@ is_unsupported keyword argument = false
 -- the statement itself is wrong, in the block of a parent
 abbrev pub OwnRefusal : Keyword → Tree → Refusal → Type 0
 OwnRefusal parent s f =
-    Stands (is_unsupported (keyword_at s) s.head.argument ≡ true) (refusal_at code.Unsupported 0 s.head) f
+    Stands (is_unsupported (keyword_at s) s.head.argument ≡ true)
+    (refusal_at code.Unsupported 0 s.head) f
     ⊎ (Stands (keyword_at s ≡ word.Unknown) (refusal_at code.UnknownStatement 0 s.head) f
-    ⊎ Stands (ArgumentFits parent (keyword_at s) s.head.argument → ⊥) (refusal_at code.BadArgument 0 s.head) f)
+    ⊎ Stands (ArgumentFits parent (keyword_at s) s.head.argument → ⊥)
+    (refusal_at code.BadArgument 0 s.head) f)
 
 -- one of these statements has this keyword
 abbrev pub has : Keyword → List Tree → Bool
 has k cs = list_any (λ c. same (keyword_at c) k) cs
 
--- one more child is too many, where one with its keyword stands before it or not; where no row
+-- one more child is too many, where one with its keyword comes before it or not; where no row
 -- allows it, any is
 abbrev pub is_excess : Option Occurs → Bool → Bool
 is_excess None before = true
@@ -52,35 +55,45 @@ is_excess (Some One) before = before
 is_excess (Some Optional) before = before
 is_excess (Some Any) before = false
 
--- a child with this keyword, no extension's, may not stand or is one too many
+-- a child with this keyword, no extension's, may not be or is one too many
 abbrev pub is_misplaced : Rows → Keyword → Bool → Bool
 is_misplaced rows k before = not (same k word.Extended) && is_excess (occurs_in rows k) before
 
--- the child c, behind n others of s, may not stand there or is one too many
+-- the child c, after n others of s, may not be there or is one too many
 abbrev pub IsMisplaced : Tree → ℕ → Tree → Type 0
-IsMisplaced s n c = is_misplaced (rows_of (keyword_at s)) (keyword_at c) (has (keyword_at c) (take n (trees s.children))) ≡ true
+IsMisplaced s n c = is_misplaced (rows_of (keyword_at s)) (keyword_at c)
+    (has (keyword_at c) (take n (trees s.children))) ≡ true
 
--- a child that has to stand is missing
+-- a child that has to be is missing
 abbrev pub LacksChild : Tree → Type 0
-LacksChild s = list_any (λ r. is_one r.1 && not (has r.0 (trees s.children))) (rows_of (keyword_at s)) ≡ true
+LacksChild s =
+    list_any (λ r. is_one r.1 && not (has r.0 (trees s.children))) (rows_of (keyword_at s)) ≡ true
 
 -- a child is misplaced, or the statement lacks one
 abbrev pub CountsBadly : Tree → Refusal → Type 0
 CountsBadly s f =
-    Among (trees s.children) (λ n c. Stands (IsMisplaced s n c) (refusal_at code.Cardinality 0 c.head)) (length (trees s.children)) f
+    Among (trees s.children)
+    (λ n c. Stands (IsMisplaced s n c) (refusal_at code.Cardinality 0 c.head))
+    (length (trees s.children)) f
     ⊎ Stands (LacksChild s) (refusal_at code.Cardinality 0 s.head) f
 
--- f stands at s or below it, in the block of a parent; an extension's statement isn't looked into
+-- f is at s or below it, in the block of a parent; an extension's statement isn't looked into
 pub data Faulty : Keyword → Tree → Refusal → Type 0 where
-  own : {parent : Keyword} {s : Tree} {f : Refusal} → keyword_at s ≢ word.Extended → OwnRefusal parent s f → Faulty parent s f
-  number : {parent : Keyword} {s : Tree} {f : Refusal} → keyword_at s ≢ word.Extended → CountsBadly s f → Faulty parent s f
-  below : {parent : Keyword} {s : Tree} {f : Refusal} (k : ℕ) (c : Tree) → keyword_at s ≢ word.Extended → slice_get (trees s.children) k ≡ Some c → Faulty (keyword_at s) c f → Faulty parent s f
+  own : {parent : Keyword} {s : Tree} {f : Refusal} → keyword_at s ≢ word.Extended
+      → OwnRefusal parent s f → Faulty parent s f
+  number : {parent : Keyword} {s : Tree} {f : Refusal} → keyword_at s ≢ word.Extended
+      → CountsBadly s f → Faulty parent s f
+  below : {parent : Keyword} {s : Tree} {f : Refusal} (k : ℕ) (c : Tree)
+      → keyword_at s ≢ word.Extended → slice_get (trees s.children) k ≡ Some c
+      → Faulty (keyword_at s) c f → Faulty parent s f
 
+-- a keyword is that of a root
 abbrev pub is_module : Keyword → Bool
 is_module word.Module = true
 is_module word.Submodule = true
 is_module _ = false
 
--- a file's root is no module or submodule, or f stands in the root, whose parent is unknown
+-- a file's root isn't a module or submodule, or f is in the root, whose parent is unknown
 abbrev pub Bad : Tree → Refusal → Type 0
-Bad s f = Stands (is_module (keyword_at s) ≡ false) (refusal_at code.Cardinality 0 s.head) f ⊎ Faulty word.Unknown s f
+Bad s f = Stands (is_module (keyword_at s) ≡ false) (refusal_at code.Cardinality 0 s.head) f
+    ⊎ Faulty word.Unknown s f

@@ -17,7 +17,8 @@ is_absolute_path (b ∷ bs) = b == slash && is_descendant_path bs
 
 -- `../`, and then a descendant path or the same again
 abbrev pub is_relative_path : List ℕ → Bool
-is_relative_path (a ∷ b ∷ c ∷ rest) = (a == dot && (b == dot && c == slash)) && (is_descendant_path rest || is_relative_path rest)
+is_relative_path (a ∷ b ∷ c ∷ rest) =
+    (a == dot && (b == dot && c == slash)) && (is_descendant_path rest || is_relative_path rest)
 is_relative_path _ = false
 
 -- a leafref's path is absolute or relative (section 9.9.2, without predicates)
@@ -26,13 +27,14 @@ is_leafref_path text = is_absolute_path text || is_relative_path text
 
 -- not empty, and no blank at either end
 abbrev pub is_trimmed : List ℕ → Bool
-is_trimmed text = not (is_empty text) && (not (is_blank (slice_index text 0)) && not (is_blank (slice_index text (length text - 1))))
+is_trimmed text = not (is_empty text)
+    && (not (is_blank (slice_index text 0)) && not (is_blank (slice_index text (length text - 1))))
 
 -- words that pass a test, with blanks between alone
 abbrev pub are_words : (List ℕ → Bool) → List ℕ → Bool
 are_words test text = is_trimmed text && list_all test (words text)
 
--- no word stands twice: none is among those behind it
+-- no word is there twice: none is among those after it
 abbrev pub none_twice : List (List ℕ) → Bool
 none_twice [] = true
 none_twice (w ∷ ws) = not (list_any (bytes_eq w) ws) && none_twice ws
@@ -50,7 +52,7 @@ is_unique text = are_words is_descendant_path text
 abbrev pub is_enum_name : List ℕ → Bool
 is_enum_name text = not (is_empty text) && bytes_eq (trim text) text
 
--- the number that digits write, behind one that stands before them
+-- the number that digits write, after one that comes before them
 abbrev pub decimal_after : ℕ → List ℕ → ℕ
 decimal_after n [] = n
 decimal_after n (b ∷ bs) = decimal_after (10 * n + (b - 48)) bs
@@ -58,13 +60,15 @@ decimal_after n (b ∷ bs) = decimal_after (10 * n + (b - 48)) bs
 -- one digit or more, which write a number from low to high; zeros may lead
 unfoldable pub is_number : ℕ → ℕ → List ℕ → Bool
 is_number low high text =
-    not (is_empty text) && (list_all is_digit text && (nat_le low (decimal_after 0 text) && nat_le (decimal_after 0 text) high))
+    not (is_empty text) && (list_all is_digit text
+    && (nat_le low (decimal_after 0 text) && nat_le (decimal_after 0 text) high))
 
--- an enum's value is a number of 32 bits with a sign: digits, perhaps behind a `-` (section
+-- an enum's value is a number of 32 bits with a sign: digits, perhaps after a `-` (section
 -- 9.6.4.2)
 unfoldable pub is_enum_value : List ℕ → Bool
 is_enum_value text =
-    if not (is_empty text) && nat_eq (slice_index text 0) dash then is_number 0 2147483648 (drop 1 text) else is_number 0 2147483647 text
+    if not (is_empty text) && nat_eq (slice_index text 0) dash
+    then is_number 0 2147483648 (drop 1 text) else is_number 0 2147483647 text
 
 -- `unbounded`, or a number from 1 (section 7.7.6)
 abbrev pub is_max_elements : List ℕ → Bool
@@ -77,7 +81,11 @@ is_fraction_digits text = is_number 1 18 text && not (starts_with nat_eq text (c
 -- `dddd-dd-dd`, the second number from 1 to 12, the third from 1 to 31
 unfoldable pub is_date : List ℕ → Bool
 is_date text =
-    nat_eq (length text) 10 && (list_all is_digit (take 4 text) && (nat_eq (slice_index text 4) dash && (is_number 1 12 (slice_range text 5 7) && (nat_eq (slice_index text 7) dash && is_number 1 31 (slice_range text 8 10)))))
+    nat_eq (length text) 10
+    && (list_all is_digit (take 4 text)
+    && (nat_eq (slice_index text 4) dash
+    && (is_number 1 12 (slice_range text 5 7)
+    && (nat_eq (slice_index text 7) dash && is_number 1 31 (slice_range text 8 10)))))
 
 -- one of these words
 abbrev pub is_one_of : List (List ℕ) → List ℕ → Bool

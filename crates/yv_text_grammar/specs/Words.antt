@@ -3,6 +3,7 @@ use Rattle.std.specs.Prelude.{ℕ, Bool, not, List, filter, length, nat_eq}
 use Rattle.std.specs.List.{slice_split}
 use Rattle.yv_text_grammar.specs.Bytes.{is_blank}
 
+-- a text has no bytes
 abbrev pub is_empty : List ℕ → Bool
 is_empty text = nat_eq (length text) 0
 

@@ -57,7 +57,7 @@ fn none_twice_longest(text: &[u8]) -> bool
     none_twice_in(&mut table, text)
 }
 
-// The same, by a table: words that fill it are sorted, those after them are sought among them, and
+// The same, by a table: words that fill it are sorted, those after them are looked up in it, and
 // so on.
 fn none_twice_in<'a>(table: &mut [&'a [u8]], text: &'a [u8]) -> bool
     requires { 0 < length table.old }

@@ -28,7 +28,9 @@ use yv_statement::{Code, Keyword, Refusal, Statement, lesser, refusal_if};
 /// for a `key`: one of n different names costs about n * n / 32,768 searches in a table, which is a
 /// second for 500,000 names.
 pub fn conform(root: &Statement) -> Result<(), Refusal>
+    // Ok exactly if the root fits the tables of substatements and the grammars of arguments.
     ensures fits { IsOk result ↔ Fits root.now }
+    // Otherwise the refusal is the least that applies.
     ensures least { IsLeast (Bad root.now) (result_err result) }
 {
     let keyword = root.kind();
@@ -47,8 +49,7 @@ fn is_module(keyword: Keyword) -> bool
     matches!(keyword, Keyword::Module | Keyword::Submodule)
 }
 
-// The least refusal in a statement that stands in the block of a parent; the root's parent is
-// unknown.
+// The least refusal in a statement that is in the block of a parent; the root's parent is unknown.
 fn first_refusal(parent: Keyword, statement: &Statement) -> Option<Refusal>
     ensures fits { IfNone result (FitsIn parent statement.now) }
     ensures least { IsLeast (Faulty parent statement.now) result }
@@ -122,14 +123,14 @@ fn has_call_or_filter(text: &[u8]) -> bool
     text.iter().any(|byte| *byte == b'[' || *byte == b'(')
 }
 
-// Whether a child with this keyword may not stand, or is one too many.
+// Whether a child with this keyword may not be, or is one too many.
 fn is_misplaced(rows: &[Row], keyword: Keyword, before: bool) -> bool
     ensures { result ≡ is_misplaced (map row rows.now) keyword before }
 {
     keyword != Keyword::Extended && is_excess(occurs(rows, keyword), before)
 }
 
-// How often a child with this keyword may stand.
+// How often a child with this keyword may be.
 fn occurs(rows: &[Row], keyword: Keyword) -> Option<Occurs>
     ensures { result ≡ occurs_in (map row rows.now) keyword }
 {
@@ -152,7 +153,7 @@ fn is_excess(occurs: Option<Occurs>, before: bool) -> bool
     }
 }
 
-// Whether a child that has to stand was not seen.
+// Whether a child that has to be was not seen.
 fn lacks_child(rows: &[Row], seen: &KeywordSet) -> bool
     ensures { result
         ≡ list_any (λ r. is_one r.1 && not (is_marked seen.now r.0)) (map row rows.now) }

@@ -35,7 +35,7 @@ impl<'a> Iterator for Words<'a> {
     }
 }
 
-// How many bytes stand before the first blank.
+// How many bytes come before the first blank.
 fn word_len(text: &[u8]) -> usize
     ensures len { result ≡ word_len text.now }
     ensures bound { result ≤ length text.now }
@@ -57,7 +57,7 @@ pub fn is_blank(byte: u8) -> bool
     byte == b' ' || byte == b'\t' || byte == b'\r' || byte == b'\n'
 }
 
-// The text behind the blanks at its front.
+// The text after the blanks at its front.
 fn skip_blanks(text: &[u8]) -> &[u8]
     ensures words { words result.now ≡ words text.now }
     ensures bound { length result.now ≤ length text.now }

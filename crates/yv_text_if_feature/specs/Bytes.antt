@@ -1,15 +1,19 @@
 -- Bytes by name, and kinds of bytes.
 use Rattle.std.specs.Prelude.{ℕ, Bool, ◌&&◌, ◌||◌, ◌==◌, nat_le}
 
+-- the byte `-`
 abbrev pub dash : ℕ
 dash = 45
 
+-- the byte `.`
 abbrev pub dot : ℕ
 dot = 46
 
+-- the byte `:`
 abbrev pub colon : ℕ
 colon = 58
 
+-- the byte `_`
 abbrev pub underscore : ℕ
 underscore = 95
 

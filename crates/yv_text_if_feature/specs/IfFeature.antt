@@ -29,7 +29,8 @@ mutual
   -- a factor is a name, `not` and a factor, or an expression in parentheses
   pub data IsFactor : ℕ → List Token → IfFeature → Type 0 where
     name : {n : ℕ} {word : List ℕ} → IsFactor n (token.Name word ∷ []) (Name word)
-    after_not : {n : ℕ} {ts : List Token} {c : IfFeature} → IsFactor n ts c → IsFactor n (token.Not ∷ ts) (Not c)
+    after_not : {n : ℕ} {ts : List Token} {c : IfFeature} → IsFactor n ts c
+        → IsFactor n (token.Not ∷ ts) (Not c)
     inner : {n : ℕ} {xs ts : List Token} {c : IfFeature} → IsExpression n xs c
         → ts ≡ token.Open ∷ xs ++ token.Close ∷ [] → IsFactor (suc n) ts c
 

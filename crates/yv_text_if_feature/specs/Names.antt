@@ -18,4 +18,5 @@ is_identifier (b ∷ bs) = is_start b && list_all is_part bs
 
 -- a name is an identifier, or two with a colon between
 unfoldable pub is_name : List ℕ → Bool
-is_name text = nat_le (count_by (λ b. b == colon) text) 1 && list_all is_identifier (slice_split (λ b. b == colon) text)
+is_name text = nat_le (count_by (λ b. b == colon) text) 1
+    && list_all is_identifier (slice_split (λ b. b == colon) text)

@@ -11,6 +11,7 @@ Agrees names (token.Name n) b = b ≡ names n
 Agrees names t b = Unit {0}
 
 -- an evaluator has read these words, the names among which are true or false: whatever follows, it
--- then comes to the truth of the condition that all words are, or to none where they are none
+-- then has the truth of the condition that all words are, or no truth where they are no condition
 unfoldable pub HasRead : (List ℕ → Bool) → State → List Token → Type 0
-HasRead names e before = (rest : List Token) → IsTruth names (before ++ rest) (completion names e rest)
+HasRead names e before =
+    (rest : List Token) → IsTruth names (before ++ rest) (completion names e rest)

@@ -6,7 +6,7 @@ use Rattle.yv_text_if_feature.specs.Tokens.{Token}
 use Rattle.yv_text_if_feature.specs.Tokens as token
 use Rattle.yv_text_if_feature.specs.declared.frame.Frame.{Frame}
 
--- what is known: whether a word stood where it may not, whether an operand comes next, and of the
+-- what is known: whether a word was where it may not, whether an operand comes next, and of the
 -- terms and factors that were read inside the innermost parenthesis and outside of each what they
 -- come to so far
 pub record State : Type 0 where
@@ -15,6 +15,7 @@ pub record State : Type 0 where
   pub frame : Frame
   pub outside : List Frame
 
+-- nothing was read of an expression
 abbrev pub empty : Frame
 empty = record { earlier = false; term = true; negated = false }
 
@@ -27,12 +28,16 @@ abbrev pub differ : Bool → Bool → Bool
 differ true b = not b
 differ false b = b
 
+-- one more factor was read
 abbrev pub with_factor : Bool → Frame → Frame
-with_factor b f = record { earlier = f.earlier; term = f.term && differ f.negated b; negated = false }
+with_factor b f =
+    record { earlier = f.earlier; term = f.term && differ f.negated b; negated = false }
 
+-- one more `not` was read
 abbrev pub with_not : Frame → Frame
 with_not f = record { earlier = f.earlier; term = f.term; negated = not f.negated }
 
+-- one more `or` was read
 abbrev pub with_or : Frame → Frame
 with_or f = record { earlier = f.earlier || f.term; term = true; negated = false }
 
@@ -41,7 +46,8 @@ with_or f = record { earlier = f.earlier || f.term; term = true; negated = false
 abbrev pub ends : (List ℕ → Bool) → Bool → Frame → List Frame → List Token → Option Bool
 ends names true f fs (token.Name n ∷ ts) = ends names false (with_factor (names n) f) fs ts
 ends names true f fs (token.Not ∷ ts) = ends names true (with_not f) fs ts
-ends names true f fs (token.Open ∷ ts) = if nat_lt (length fs) 64 then ends names true empty (f ∷ fs) ts else None
+ends names true f fs (token.Open ∷ ts) =
+    if nat_lt (length fs) 64 then ends names true empty (f ∷ fs) ts else None
 ends names false f fs (token.And ∷ ts) = ends names true f fs ts
 ends names false f fs (token.Or ∷ ts) = ends names true (with_or f) fs ts
 ends names false f (g ∷ fs) (token.Close ∷ ts) = ends names false (with_factor (holds f) g) fs ts
@@ -50,4 +56,5 @@ ends names wanted f fs ts = None
 
 -- the truth to which these words complete what is known
 abbrev pub completion : (List ℕ → Bool) → State → List Token → Option Bool
-completion names e rest = if e.is_lost then None else ends names e.wants_operand e.frame e.outside rest
+completion names e rest =
+    if e.is_lost then None else ends names e.wants_operand e.frame e.outside rest

@@ -19,9 +19,11 @@ pub data Token : Type 0 where
 abbrev pub token_of : List ℕ → Token
 token_of word =
     if bytes_eq word (codes "(") then Open else (if bytes_eq word (codes ")") then Close
-    else (if bytes_eq word (codes "not") then Not else (if bytes_eq word (codes "and") then And else (if bytes_eq word (codes "or") then Or
+    else (if bytes_eq word (codes "not") then Not
+    else (if bytes_eq word (codes "and") then And else (if bytes_eq word (codes "or") then Or
     else (if is_name word then Name word else Wrong)))))
 
+-- a text has no bytes
 abbrev pub is_empty : List ℕ → Bool
 is_empty text = nat_eq (length text) 0
 
@@ -30,7 +32,8 @@ is_empty text = nat_eq (length text) 0
 abbrev pub pieces : List ℕ → List (List ℕ)
 pieces [] = [] ∷ []
 pieces (b ∷ bs) =
-    if is_blank b then [] ∷ pieces bs else (if is_parenthesis b then [] ∷ (b ∷ []) ∷ pieces bs else onto_first b (pieces bs))
+    if is_blank b then [] ∷ pieces bs
+    else (if is_parenthesis b then [] ∷ (b ∷ []) ∷ pieces bs else onto_first b (pieces bs))
 
 -- the words of a text are its pieces that aren't empty
 unfoldable pub words : List ℕ → List (List ℕ)

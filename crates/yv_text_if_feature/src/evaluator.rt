@@ -23,7 +23,7 @@ use std::marker::Model;
 /// Contracts see it as what is known of the expression.
 #[derive(Drop)]
 pub struct Evaluator {
-    // Whether a word stood where it may not.
+    // Whether a word was where it may not.
     is_lost: bool,
     // Whether an operand comes next.
     wants_operand: bool,

@@ -58,6 +58,7 @@ pub struct Words<'a> {
 
 impl<'a> Words<'a> {
     pub fn new(text: &'a str) -> Words<'a>
+        // An iterator over the words of the text; each parenthesis is one word.
         ensures { tokens_left result ≡ tokens text.now }
     {
         Words {
@@ -101,7 +102,7 @@ fn first_len(text: &[u8]) -> usize
     }
 }
 
-// How many bytes stand before the first blank or parenthesis.
+// How many bytes come before the first blank or parenthesis.
 fn word_len(text: &[u8]) -> usize
     ensures len { result ≡ word_len text.now }
     ensures bound { result ≤ length text.now }
@@ -116,7 +117,7 @@ fn word_len(text: &[u8]) -> usize
     count
 }
 
-// The text behind the blanks at its front.
+// The text after the blanks at its front.
 fn skip_blanks(text: &[u8]) -> &[u8]
     ensures words { words result.now ≡ words text.now }
     ensures bound { length result.now ≤ length text.now }

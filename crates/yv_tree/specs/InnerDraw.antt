@@ -10,10 +10,12 @@ use Rattle.yv_tree.specs.Diagram.{text_of}
 
 -- the text of a node and of those below it
 abbrev pub tree_text : Rows → List Module → (own : ℕ) → (margin : List ℕ) → Bool → NodeId → List ℕ
-tree_text s modules own margin follows c = text_of (tree_lines modules own margin follows (tree_of s c))
+tree_text s modules own margin follows c =
+    text_of (tree_lines modules own margin follows (tree_of s c))
 
 -- that of a node that waits for what follows it
-abbrev pub waiting_text : Rows → List Module → (own : ℕ) → (margin : List ℕ) → Bool → Option NodeId → List ℕ
+abbrev pub waiting_text : Rows → List Module → (own : ℕ) → (margin : List ℕ) → Bool → Option NodeId
+    → List ℕ
 waiting_text s modules own margin follows None = []
 waiting_text s modules own margin follows (Some c) = tree_text s modules own margin follows c
 
@@ -21,7 +23,7 @@ waiting_text s modules own margin follows (Some c) = tree_text s modules own mar
 abbrev pub trees_text : Rows → List Module → (own : ℕ) → (margin : List ℕ) → Forest → List ℕ
 trees_text s modules own margin ts = text_of (forest_lines modules own margin ts)
 
--- these trees behind the tree of a node that waits
+-- these trees after the tree of a node that waits
 abbrev pub waiting_trees : Rows → Option NodeId → Forest → Forest
 waiting_trees s None ts = ts
 waiting_trees s (Some c) ts = tree (tree_of s c) ts

@@ -8,8 +8,10 @@ use Rattle.yv_nodes.specs.Rows.{Module}
 -- `first`
 abbrev pub place_from : (first : ℕ) → List Module → (module_file : ℕ) → Option ℕ
 place_from first [] module_file = None
-place_from first (m ∷ ms) module_file = if m.module_file == module_file then Some first else place_from (first + 1) ms module_file
+place_from first (m ∷ ms) module_file =
+    if m.module_file == module_file then Some first else place_from (first + 1) ms module_file
 
 -- a map has the place of the first module of each number
 abbrev pub ArePlaces : List Module → BTreeMap ℕ ℕ → Type 0
-ArePlaces modules places = (module_file : ℕ) → get nat_cmp places module_file ≡ place_from 0 modules module_file
+ArePlaces modules places =
+    (module_file : ℕ) → get nat_cmp places module_file ≡ place_from 0 modules module_file

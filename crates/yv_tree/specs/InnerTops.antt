@@ -14,7 +14,8 @@ pub record AreTops (s : Rows) (own : ℕ) (part : Part) (cs : List NodeId) : Typ
   pub trees : AreTrees s cs
 
 -- the modules of a schema, and the nodes of each part
-pub record AreReady (s : Rows) (own : ℕ) (modules : List Module) (data_nodes rpcs notifications : List NodeId) : Type 0 where
+pub record AreReady (s : Rows) (own : ℕ) (modules : List Module)
+    (data_nodes rpcs notifications : List NodeId) : Type 0 where
   pub known : modules ≡ s.modules
   pub data_tops : AreTops s own Data data_nodes
   pub rpc_tops : AreTops s own Rpcs rpcs

@@ -259,7 +259,7 @@ fn put_piece<P: Paper>(module_file: u32, piece: &PathPiece, paper: &mut P, page:
     paper.put(page, piece.name());
 }
 
-// Whether a piece has a prefix that stands for the module of this number.
+// Whether a piece has a prefix of the module of this number.
 fn is_of(piece: &PathPiece, module_file: u32) -> bool
     ensures { result ≡ is_module_file (Some module_file) piece.now.module_file }
 {

@@ -103,7 +103,7 @@ impl Drawing<'_> {
         }
     }
 
-    // Whether an augment is one of this module, and shows nodes that stand below no node of it.
+    // Whether an augment is one of this module, and shows nodes that are below no node of it.
     fn is_shown(&self, augment: &AugmentNote) -> bool
         requires { IsNote self.now.schema.now augment.now }
         ensures { result ≡ is_shown self.now.schema.now self.now.own augment.now }

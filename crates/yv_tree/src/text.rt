@@ -36,7 +36,7 @@ impl Text {
         Ok(text)
     }
 
-    // Puts a piece behind the others, where there is room.
+    // Puts a piece after the others, where there is room.
     fn push(&mut self, piece: &str)
         requires { is_err self.old.room ≡ false }
         ensures { Adds piece.now

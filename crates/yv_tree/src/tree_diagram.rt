@@ -110,12 +110,18 @@ impl<'a> TreeDiagram<'a> {
     /// Writes the diagram, and answers whether all was taken. It takes no memory, however much text
     /// that is.
     pub fn write<W: Write>(&self, writer: &mut Counted<W>) -> bool
+        // The writer has not failed.
         requires { has_failed writer.old ≡ false }
+        // If true is returned, the writer has received the text of the diagram, and nothing else.
         ensures done { result ≡ true → Appends (W.contents (stream_inner writer.old))
             (W.contents (stream_inner writer.new)) self.now }
+        // In any case it has received the first bytes of that text, and nothing else.
         ensures part { (n : ℕ) × Appends (W.contents (stream_inner writer.old))
             (W.contents (stream_inner writer.new)) (take n self.now) }
+        // False is returned exactly if the writer has failed.
         ensures fault { result ≡ false ↔ (has_failed writer.new ≡ true) }
+        // At most one call of the writer failed in a way that is not tolerated, and none came after
+        // it.
         ensures once { FailsOnceAtMost writer.new }
     {
         let mut page = Page::new();

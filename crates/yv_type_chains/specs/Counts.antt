@@ -10,16 +10,21 @@ mutual
   -- a leafref has none, since its values are its target's; a union has those of its members, a
   -- derived type those of the type that it follows, and any other type is one
   pub data Counts (files : Briefs) (rows : List Row) : ℕ → ℕ → Type 0 where
-    leafref : {k : ℕ} {r : Row} → slice_get rows k ≡ Some r → is_leafref r ≡ true → Counts files rows k 0
-    union : {k n : ℕ} {r : Row} → slice_get rows k ≡ Some r → is_union r ≡ true → CountAll files rows (types_in rows k) n → Counts files rows k n
-    plain : {k : ℕ} {r : Row} → slice_get rows k ≡ Some r → is_type r ≡ true → is_built_in (name_in r) ≡ true → is_leafref r ≡ false → is_union r ≡ false
+    leafref : {k : ℕ} {r : Row} → slice_get rows k ≡ Some r → is_leafref r ≡ true
+        → Counts files rows k 0
+    union : {k n : ℕ} {r : Row} → slice_get rows k ≡ Some r → is_union r ≡ true
+        → CountAll files rows (types_in rows k) n → Counts files rows k n
+    plain : {k : ℕ} {r : Row} → slice_get rows k ≡ Some r → is_type r ≡ true
+        → is_built_in (name_in r) ≡ true → is_leafref r ≡ false → is_union r ≡ false
         → Counts files rows k 1
-    through_typedef : {k j n : ℕ} → Follows files rows k j → Counts files rows j n → Counts files rows k n
+    through_typedef : {k j n : ℕ} → Follows files rows k j → Counts files rows j n
+        → Counts files rows k n
 
   -- the sum of several types' counts
   pub data CountAll (files : Briefs) (rows : List Row) : List ℕ → ℕ → Type 0 where
     none : CountAll files rows [] 0
-    more : {m a b n : ℕ} {ms : List ℕ} → Counts files rows m a → CountAll files rows ms b → n ≡ a + b → CountAll files rows (m ∷ ms) n
+    more : {m a b n : ℕ} {ms : List ℕ} → Counts files rows m a → CountAll files rows ms b
+        → n ≡ a + b → CountAll files rows (m ∷ ms) n
 
 -- the values of type k may have more than 64 types
 abbrev pub HasTooMany : Briefs → List Row → ℕ → Type 0

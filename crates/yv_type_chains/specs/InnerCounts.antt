@@ -13,7 +13,8 @@ cap n = min n 65
 -- a total and the counts of the members, if each has one
 abbrev pub total_from : List (Option ℕ) → ℕ → List ℕ → Option ℕ
 total_from counts total [] = Some total
-total_from counts total (m ∷ ms) = option_and_then (λ count. total_from counts (cap (total + count)) ms) (at counts m)
+total_from counts total (m ∷ ms) =
+    option_and_then (λ count. total_from counts (cap (total + count)) ms) (at counts m)
 
 -- this is the count of type k, up to 65, or it has none
 pub record IsCount (files : Briefs) (rows : List Row) (k : ℕ) (count : Option ℕ) : Type 0 where

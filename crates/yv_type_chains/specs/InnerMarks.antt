@@ -10,9 +10,10 @@ use Rattle.yv_type_chains.specs.Refusals.{IsChild, is_derived}
 abbrev pub is_marked : List Bool → ℕ → Bool
 is_marked marks k = slice_index_or marks k false
 
--- those are marked in whose block a statement stands of which P holds
+-- those are marked in whose block a statement is of which P holds
 abbrev pub AreMarked : (ℕ → Row → Type 0) → List Row → List Bool → Type 0
-AreMarked P rows marks = (k : ℕ) → (is_marked marks k ≡ true) ↔ ((c : ℕ) × (s : Row) × IsChild rows k c s × P k s)
+AreMarked P rows marks =
+    (k : ℕ) → (is_marked marks k ≡ true) ↔ ((c : ℕ) × (s : Row) × IsChild rows k c s × P k s)
 
 -- statement k passes a test
 abbrev pub Passes : (Row → Bool) → List Row → ℕ → Type 0
@@ -24,7 +25,8 @@ IsInherited rows k word = Passes is_derived rows k × (is_of_built_in word ≡ t
 
 -- the built-in type to which type k leads doesn't take it
 abbrev pub IsForeign : Briefs → List Row → ℕ → List ℕ → Type 0
-IsForeign files rows k word = (kind : List ℕ) × HasKind files rows k kind × (is_foreign kind word ≡ true)
+IsForeign files rows k word =
+    (kind : List ℕ) × HasKind files rows k kind × (is_foreign kind word ≡ true)
 
 -- the statement is one that type k needs
 abbrev pub Meets : List Row → ℕ → Row → Type 0

@@ -8,7 +8,8 @@ use Rattle.yv_statement.specs.Words.{is_among}
 -- those that say something on the values
 abbrev pub restrictions : List (List ℕ)
 restrictions =
-    codes "range" ∷ codes "fraction-digits" ∷ codes "length" ∷ codes "pattern" ∷ codes "enum" ∷ codes "bit" ∷ codes "base" ∷ codes "path"
+    codes "range" ∷ codes "fraction-digits" ∷ codes "length" ∷ codes "pattern" ∷ codes "enum"
+    ∷ codes "bit" ∷ codes "base" ∷ codes "path"
     ∷ codes "require-instance" ∷ codes "type" ∷ []
 
 -- those that only the built-in type itself takes, and no type that is derived from it
@@ -49,9 +50,11 @@ substatements_needed =
     (codes "leafref", codes "path") ∷
     (codes "union", codes "type") ∷ []
 
+-- a table has a kind with this word
 abbrev pub has_pair : List (List ℕ × List ℕ) → List ℕ → List ℕ → Bool
 has_pair pairs kind word = list_any (λ p. bytes_eq p.0 kind && bytes_eq p.1 word) pairs
 
+-- a table has a kind at all
 abbrev pub has_kind : List (List ℕ × List ℕ) → List ℕ → Bool
 has_kind pairs kind = list_any (λ p. bytes_eq p.0 kind) pairs
 

@@ -12,7 +12,7 @@ use Rattle.yv_type_chains.specs.Kinds.{is_of_built_in, is_foreign, needs, needs_
 use Rattle.yv_type_chains.specs.Types.{HasKind, is_union}
 use Rattle.yv_type_chains.specs.Counts.{HasTooMany}
 
--- statement c stands in the block of k
+-- statement c is in the block of k
 abbrev pub IsChild : List Row → ℕ → ℕ → Row → Type 0
 IsChild rows k c s = (slice_get rows c ≡ Some s) × (s.scope ≡ k)
 
@@ -23,16 +23,21 @@ is_derived r = is_type r && not (is_built_in (name_in r))
 -- type k doesn't take the substatement: the built-in type to which it leads never does, or only
 -- that type itself does
 pub data IsMisfit (files : Briefs) (rows : List Row) (k : ℕ) (s : Row) : Type 0 where
-  foreign : {kind : List ℕ} → HasKind files rows k kind → is_foreign kind s.head.keyword ≡ true → IsMisfit files rows k s
-  not_inheritable : {r : Row} → slice_get rows k ≡ Some r → is_derived r ≡ true → is_of_built_in s.head.keyword ≡ true → IsMisfit files rows k s
+  foreign : {kind : List ℕ} → HasKind files rows k kind → is_foreign kind s.head.keyword ≡ true
+      → IsMisfit files rows k s
+  not_inheritable : {r : Row} → slice_get rows k ≡ Some r → is_derived r ≡ true
+      → is_of_built_in s.head.keyword ≡ true → IsMisfit files rows k s
 
 -- Type k has a substatement that it doesn't take, or names a built-in type and lacks what that must
 -- have, or it leads to leafref and is a member of a union.
 pub data IsBadType (files : Briefs) (rows : List Row) (k : ℕ) (r : Row) : Type 0 where
-  misfit : (c : ℕ) {s : Row} → IsChild rows k c s → IsMisfit files rows k s → IsBadType files rows k r
-  lacks_one : is_type r ≡ true → needs_any (name_in r) ≡ true → ((c : ℕ) (s : Row) → IsChild rows k c s → needs (name_in r) s.head.keyword ≡ true → ⊥)
+  misfit : (c : ℕ) {s : Row} → IsChild rows k c s → IsMisfit files rows k s
       → IsBadType files rows k r
-  leafref_in_union : {u : Row} → HasKind files rows k (codes "leafref") → slice_get rows r.scope ≡ Some u → is_union u ≡ true → IsBadType files rows k r
+  lacks_one : is_type r ≡ true → needs_any (name_in r) ≡ true
+      → ((c : ℕ) (s : Row) → IsChild rows k c s → needs (name_in r) s.head.keyword ≡ true → ⊥)
+      → IsBadType files rows k r
+  leafref_in_union : {u : Row} → HasKind files rows k (codes "leafref")
+      → slice_get rows r.scope ≡ Some u → is_union u ≡ true → IsBadType files rows k r
 
 -- what is wrong with the numbered statement
 abbrev pub BadRow : Briefs → List Row → ℕ → Row → Refusal → Type 0

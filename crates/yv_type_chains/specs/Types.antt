@@ -8,16 +8,19 @@ use Rattle.yv_link_scopes.specs.declared.kind.NameKind.TheVariants.{Typedef}
 use Rattle.yv_link_definitions.specs.BuiltIn.{is_built_in}
 use Rattle.yv_link_definitions.specs.Refers.{Refers, is_type}
 
--- a type of this number stands in a block: a root, which is its own block, doesn't stand in it
+-- a type of this number is in a block: a root, which is its own block, isn't in it
 abbrev pub is_inner : ℕ → Row → Bool
 is_inner n r = is_type r && nat_lt r.scope n
 
+-- a numbered statement is a `type` in this block
 abbrev pub is_type_in : ℕ → ℕ → Row → Bool
 is_type_in block n r = is_inner n r && (r.scope == block)
 
+-- the numbers of the types in a block, among these statements
 abbrev pub types_from : ℕ → ℕ → List Row → List ℕ
 types_from block n [] = []
-types_from block n (r ∷ rs) = (if is_type_in block n r then n ∷ [] else []) ++ types_from block (n + 1) rs
+types_from block n (r ∷ rs) =
+    (if is_type_in block n r then n ∷ [] else []) ++ types_from block (n + 1) rs
 
 -- the types in a block, in order
 abbrev pub types_in : List Row → ℕ → List ℕ
@@ -31,9 +34,11 @@ type_of rows definition = slice_get (types_in rows definition) 0
 abbrev pub is_kind : List ℕ → Row → Bool
 is_kind name r = is_type r && bytes_eq (name_in r) name
 
+-- a type names the built-in type `union`
 abbrev pub is_union : Row → Bool
 is_union r = is_kind (codes "union") r
 
+-- a type names the built-in type `leafref`
 abbrev pub is_leafref : Row → Bool
 is_leafref r = is_kind (codes "leafref") r
 
@@ -46,8 +51,10 @@ pub record Follows (files : Briefs) (rows : List Row) (k j : ℕ) : Type 0 where
 -- b is the type statement that names the built-in type to which type k leads along typedefs: k
 -- itself where it names one
 pub data HasBase (files : Briefs) (rows : List Row) : ℕ → ℕ → Type 0 where
-  built_in : {k : ℕ} {r : Row} → slice_get rows k ≡ Some r → is_type r ≡ true → is_built_in (name_in r) ≡ true → HasBase files rows k k
-  through_typedef : {k j b : ℕ} → Follows files rows k j → HasBase files rows j b → HasBase files rows k b
+  built_in : {k : ℕ} {r : Row} → slice_get rows k ≡ Some r → is_type r ≡ true
+      → is_built_in (name_in r) ≡ true → HasBase files rows k k
+  through_typedef : {k j b : ℕ} → Follows files rows k j → HasBase files rows j b
+      → HasBase files rows k b
 
 -- the built-in type to which type k leads has this name
 pub record HasKind (files : Briefs) (rows : List Row) (k : ℕ) (name : List ℕ) : Type 0 where
@@ -74,8 +81,10 @@ RestsOn files rows k j = Follows files rows k j ⊎ IsMember rows k j
 abbrev pub IsTypeAt : List Row → ℕ → Type 0
 IsTypeAt rows k = (r : Row) × (slice_get rows k ≡ Some r) × (is_type r ≡ true)
 
--- all types, each once and behind those on which it rests
+-- all types, each once and after those on which it rests
 pub record IsOrderOfTypes (files : Briefs) (rows : List Row) (order : List ℕ) : Type 0 where
   pub exact : (a : ℕ) → Contains order a ↔ IsTypeAt rows a
-  pub once : (i j : ℕ) → i < length order → j < length order → slice_index order i ≡ slice_index order j → i ≡ j
-  pub behind : (i b : ℕ) → i < length order → RestsOn files rows (slice_index order i) b → Contains (take i order) b
+  pub once : (i j : ℕ) → i < length order → j < length order
+      → slice_index order i ≡ slice_index order j → i ≡ j
+  pub behind : (i b : ℕ) → i < length order → RestsOn files rows (slice_index order i) b
+      → Contains (take i order) b

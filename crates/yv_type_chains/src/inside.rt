@@ -14,7 +14,7 @@ pub(crate) fn is_type(entry: &Entry<'_, '_>) -> bool
     entry.is(Keyword::Type)
 }
 
-/// Whether a statement is a type that stands in a block.
+/// Whether a statement is a type that is in a block.
 pub(crate) fn is_inner(number: usize, entry: &Entry<'_, '_>) -> bool
     ensures { result ≡ is_inner number (row entry.now) }
 {

@@ -31,7 +31,7 @@ impl<'a, 'b> Draft<'_, 'a, 'b> {
         Some(name_of(entry.statement))
     }
 
-    // Whether a restriction is none of the built-in type to which a type leads.
+    // Whether the built-in type to which a type leads doesn't allow a restriction.
     fn is_foreign(&self, bases: &[Option<usize>], number: usize, statement: &Statement<'_>) -> bool
         ensures { AreBased (files_in self.now.rows.now) (rows_in self.now.rows.now) bases.now
             → IsTrue result

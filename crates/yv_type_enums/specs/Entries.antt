@@ -28,12 +28,14 @@ listing kind t = filter (λ c. has_word (entry_word kind) c.head) (trees t.child
 -- the text that says the number of an entry: that of its first `value` or `position`, where it has
 -- one
 abbrev pub number_text : NumberKind → Tree → Option (List ℕ)
-number_text kind c = option_map (λ s. name_of s.head) (find (λ s. has_word (number_word kind) s.head) (trees c.children))
+number_text kind c = option_map (λ s. name_of s.head)
+    (find (λ s. has_word (number_word kind) s.head) (trees c.children))
 
 -- an entry, as it is numbered: its name, and what the text of its number states
 abbrev pub entry_of : NumberKind → Tree → Entry
 entry_of kind c = record { name = name_of c.head; stated = stated_number (number_text kind c) }
 
+-- the entries that a statement lists, with what they state
 abbrev pub entries : NumberKind → Tree → List Entry
 entries kind t = map (entry_of kind) (listing kind t)
 
@@ -43,4 +45,5 @@ is_on truth file c = all_hold (truth file) (trees c.children)
 
 -- one of these entries has the name and is on
 abbrev pub is_on_among : (ℕ → List ℕ → Bool) → ℕ → List Tree → List ℕ → Bool
-is_on_among truth file cs name = list_any (λ c. bytes_eq (name_of c.head) name && is_on truth file c) cs
+is_on_among truth file cs name =
+    list_any (λ c. bytes_eq (name_of c.head) name && is_on truth file c) cs

@@ -1,4 +1,4 @@
--- For private clauses alone: entries of statements that are lent, and what is told of them.
+-- For private clauses only: entries of statements that are lent, and what is known of them.
 use Rattle.std.specs.Prelude.{ℕ, Bool, true, ◌&&◌, List, map, Option, Some, None, is_some, slice_get}
 use Rattle.std.specs.Option.{option_map}
 use denote.Ref.{Bor}
@@ -24,7 +24,8 @@ entries_in kind lines = map (entry_of kind) (borrow lines)
 -- the refusal of the statement at this place
 abbrev pub refusal_of_entry : ℕ → List Tree → Option ℕ → Option Refusal
 refusal_of_entry file cs None = None
-refusal_of_entry file cs (Some i) = option_map (λ c. refusal_at BadNumbering file c.head) (slice_get cs i)
+refusal_of_entry file cs (Some i) =
+    option_map (λ c. refusal_at BadNumbering file c.head) (slice_get cs i)
 
 -- the name is a value of the base, where there is one
 abbrev pub base_has : Option (Bor Values) → List ℕ → Bool

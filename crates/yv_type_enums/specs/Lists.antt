@@ -9,5 +9,6 @@ use Rattle.yv_type_enums.specs.declared.lists.Lists.{Lists}
 
 -- these are the names of the types of these files; how, only the readers ask
 pub record AreLists (files : Files) (truth : Truth) (lists : Lists) : Type 0 where
-  pub types : (k : ℕ) (told : NamesView) → (told_at lists.types k ≡ Some told) ↔ HasNames files truth k told
+  pub types : (k : ℕ) (told : NamesView) → (told_at lists.types k ≡ Some told)
+      ↔ HasNames files truth k told
   pub least : IsLeast (BadLists files truth) lists.fault

@@ -33,13 +33,17 @@ number_from base (e ∷ es) name = number_in (keep_numbers base (e ∷ es)) name
 
 -- A derived type has the values of its base where it lists nothing. Else a name with a number is a
 -- value where it is one in the base and is given by an entry that is on.
-abbrev pub is_value_from : (List ℕ → Bool) → (List ℕ → Option ℤ) → (List Tree → List ℕ → Bool) → List Tree → List ℕ → Bool
+abbrev pub is_value_from : (List ℕ → Bool) → (List ℕ → Option ℤ) → (List Tree → List ℕ → Bool)
+    → List Tree → List ℕ → Bool
 is_value_from base number listed [] name = base name
-is_value_from base number listed (c ∷ cs) name = is_some (number name) && (base name && listed (c ∷ cs) name)
+is_value_from base number listed (c ∷ cs) name =
+    is_some (number name) && (base name && listed (c ∷ cs) name)
 
 -- No entry of a type statement is wrong, or f is the refusal of the first one that is.
-abbrev pub IsRefusal : (List Entry → List Pair) → (List Pair → Entry → Bool) → NumberKind → ℕ → Tree → Option Refusal → Type 0
+abbrev pub IsRefusal : (List Entry → List Pair) → (List Pair → Entry → Bool) → NumberKind → ℕ → Tree
+    → Option Refusal → Type 0
 IsRefusal pairs wrong kind file t None = IsFirstWrong pairs wrong (entries kind t) None
 IsRefusal pairs wrong kind file t (Some f) =
-    (i : ℕ) × (c : Tree) × IsFirstWrong pairs wrong (entries kind t) (Some i) × (slice_get (listing kind t) i ≡ Some c)
+    (i : ℕ) × (c : Tree) × IsFirstWrong pairs wrong (entries kind t) (Some i)
+    × (slice_get (listing kind t) i ≡ Some c)
     × (f ≡ refusal_at BadNumbering file c.head)

@@ -12,7 +12,8 @@ use Rattle.yv_type_enums.specs.Types.{Truth, Start, StartsFrom, IsFaultBy}
 -- f is the refusal of the first wrong entry of type k
 abbrev pub BadType : Files → Truth → ℕ → Row → Refusal → Type 0
 BadType files truth k r f =
-    (s : Start) × (t : Tree) × StartsFrom files truth k s × (slice_get (statements_of files) k ≡ Some t) × IsFaultBy r.file t s (Some f)
+    (s : Start) × (t : Tree) × StartsFrom files truth k s
+    × (slice_get (statements_of files) k ≡ Some t) × IsFaultBy r.file t s (Some f)
 
 -- f is what is wrong with one of the types
 abbrev pub BadLists : Files → Truth → Refusal → Type 0

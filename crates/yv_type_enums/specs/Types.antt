@@ -1,4 +1,4 @@
--- What is told of the names of `type` statements that lead along typedefs to `enumeration` or to
+-- What is known of the names of `type` statements that lead along typedefs to `enumeration` or to
 -- `bits`: a derived type lists some of the names of the type that it follows, or none and has them
 -- all (RFC 7950, sections 7.3.4, 9.6.3, 9.6.4,
 -- 9.7.3 and 9.7.4).
@@ -19,23 +19,24 @@ use Rattle.yv_type_enums.specs.Names.{IsRefusal, is_value_among, is_value_from, 
 abbrev pub Truth : Type 0
 Truth = ℕ → List ℕ → Bool
 
--- what is told of a type's names: whether they are values or bits, the number of each, and which
+-- what is known of a type's names: whether they are values or bits, the number of each, and which
 -- are values
 pub record NamesView : Type 0 where
   pub kind : NumberKind
   pub number : List ℕ → Option ℤ
   pub value : List ℕ → Bool
 
--- what a type statement's names are taken from: a new type has them by itself, a derived one from
--- what is told of the type that it follows
+-- where a type statement's names come from: a new type has them by itself, a derived one from
+-- what is known of the type that it follows
 pub data Start : Type 0 where
   new : NumberKind → Start
   from : NamesView → Start
 
+-- the number of a name in a type that isn't derived
 abbrev pub new_number : NumberKind → Tree → List ℕ → Option ℤ
 new_number kind t = number_in (number_entries kind (entries kind t))
 
--- what is told of a type statement in a file
+-- what is known of a type statement in a file
 abbrev pub names_of_start : Truth → ℕ → Tree → Start → NamesView
 names_of_start truth file t (new kind) = record {
   kind = kind;
@@ -45,13 +46,15 @@ names_of_start truth file t (new kind) = record {
 names_of_start truth file t (from base) = record {
   kind = base.kind;
   number = number_from base.number (entries base.kind t);
-  value = is_value_from base.value (number_from base.number (entries base.kind t)) (is_on_among truth file) (listing base.kind t);
+  value = is_value_from base.value (number_from base.number (entries base.kind t))
+      (is_on_among truth file) (listing base.kind t);
 }
 
 -- none of its entries is wrong, or f is the refusal of the first one that is
 abbrev pub IsFaultBy : ℕ → Tree → Start → Option Refusal → Type 0
 IsFaultBy file t (new kind) f = IsRefusal (number_entries kind) (is_wrong kind) kind file t f
-IsFaultBy file t (from base) f = IsRefusal (keep_numbers base.number) (is_wrong_in base.number) base.kind file t f
+IsFaultBy file t (from base) f =
+    IsRefusal (keep_numbers base.number) (is_wrong_in base.number) base.kind file t f
 
 -- the kind of a type that names `enumeration` or `bits`
 abbrev pub kind_in : Row → Option NumberKind
@@ -63,10 +66,14 @@ kind_in r =
 mutual
   -- from what type k takes its names
   pub data StartsFrom (files : Files) (truth : Truth) : ℕ → Start → Type 0 where
-    first : {k : ℕ} {r : Row} {kind : NumberKind} → slice_get (rows_of files) k ≡ Some r → kind_in r ≡ Some kind → StartsFrom files truth k (new kind)
-    from_base : {k j : ℕ} {base : NamesView} → Follows (map brief_of files) (rows_of files) k j → HasNames files truth j base → StartsFrom files truth k (from base)
+    first : {k : ℕ} {r : Row} {kind : NumberKind} → slice_get (rows_of files) k ≡ Some r
+        → kind_in r ≡ Some kind → StartsFrom files truth k (new kind)
+    from_base : {k j : ℕ} {base : NamesView} → Follows (map brief_of files) (rows_of files) k j
+        → HasNames files truth j base → StartsFrom files truth k (from base)
 
-  -- what is told of type k; types that lead elsewhere have nothing told
+  -- what is known of type k; types that lead elsewhere have nothing known
   pub data HasNames (files : Files) (truth : Truth) : ℕ → NamesView → Type 0 where
-    from_entries : {k : ℕ} {s : Start} {r : Row} {t : Tree} {told : NamesView} → StartsFrom files truth k s → slice_get (rows_of files) k ≡ Some r
-        → slice_get (statements_of files) k ≡ Some t → told ≡ names_of_start truth r.file t s → HasNames files truth k told
+    from_entries : {k : ℕ} {s : Start} {r : Row} {t : Tree} {told : NamesView}
+        → StartsFrom files truth k s → slice_get (rows_of files) k ≡ Some r
+        → slice_get (statements_of files) k ≡ Some t → told ≡ names_of_start truth r.file t s
+        → HasNames files truth k told

@@ -44,12 +44,16 @@ impl<'a> NamedEntries<'a> {
         kind: NumberKind,
         statement: &'a Statement<'_>,
     ) -> Result<Listing<'a>, AllocError>
+        // The number of each name that an enumeration or bits type lists; wrong entries are left
+        // out.
         ensures numbers { IfOk result (λ l. (name : List ℕ)
             → number_of l.names name
             ≡ number_in (number_entries kind (entries kind statement.now)) name) }
+        // The names that are values: those with a number whose conditions hold.
         ensures values { IfOk result (λ l. (name : List ℕ) → is_value l.names name
             ≡ is_value_among (number_of l.names)
             (is_on_among (truth_in linked.now) file (listing kind statement.now)) name) }
+        // The least that is wrong with the entries, or none.
         ensures fault { IfOk result
             (λ l. IsRefusal (number_entries kind) (is_wrong kind) kind file statement.now l.fault) }
     {
@@ -71,13 +75,16 @@ impl<'a> NamedEntries<'a> {
         kind: NumberKind,
         statement: &'a Statement<'_>,
     ) -> Result<Listing<'a>, AllocError>
+        // The same for a type that is derived from one with these names.
         ensures numbers { IfOk result (λ l. (name : List ℕ)
             → number_of l.names name
             ≡ number_from (number_of self.now) (entries kind statement.now) name) }
+        // The names that are values: those that the base has and whose conditions hold here too.
         ensures values { IfOk result (λ l. (name : List ℕ) → is_value l.names name
             ≡ is_value_from (is_value self.now) (number_of l.names)
             (is_on_among (truth_in linked.now) file)
             (listing kind statement.now) name) }
+        // The least that is wrong with the entries, or none.
         ensures fault { IfOk result
             (λ l. IsRefusal (keep_numbers (number_of self.now)) (is_wrong_in (number_of self.now))
             kind
@@ -121,8 +128,10 @@ impl<'a> NamedEntries<'a> {
 
     /// The same names once more, over the same tables. It takes constant time.
     pub fn copy(&self) -> Result<NamedEntries<'a>, AllocError>
+        // The names have the same numbers.
         ensures numbers { IfOk result
             (λ copy. (name : List ℕ) → number_of copy name ≡ number_of self.now name) }
+        // The same names are values.
         ensures values { IfOk result
             (λ copy. (name : List ℕ) → is_value copy name ≡ is_value self.now name) }
     {
@@ -148,8 +157,10 @@ impl<'a> NamedEntries<'a> {
     /// The names that are values, as plain types take them. The list is shared: it takes constant
     /// time.
     pub fn values(&self) -> Result<NameSet, AllocError>
+        // Exactly the names that are values.
         ensures same { IfOk result
             (λ names. (name : List ℕ) → is_named names name ≡ is_value self.now name) }
+        // Each once, in the order of their bytes.
         ensures rises { IfOk result (λ names. Rises names) }
     {
         match self.shared.list.copy()? {

@@ -9,7 +9,8 @@ use Rattle.yv_link_identities.specs.declared.references.IdentityRef.{IdentityRef
 
 -- a type names a base: one of the base statements in the block of the type statement has a name
 -- that means it
-pub record NamesBase (files : Briefs) (rows : List Row) (kind : ℕ) (base : IdentityRef) : Type 0 where
+pub record NamesBase (files : Briefs) (rows : List Row) (kind : ℕ)
+    (base : IdentityRef) : Type 0 where
   pub number : ℕ
   pub statement : Row
   pub stands : slice_get rows number ≡ Some statement
@@ -17,7 +18,7 @@ pub record NamesBase (files : Briefs) (rows : List Row) (kind : ℕ) (base : Ide
   pub inside : statement.scope ≡ kind
   pub means : reference_of files rows statement.file (name_in statement) ≡ Some base
 
--- an identity that stands at the place is derived from the base
+-- an identity that is at the place is derived from the base
 pub record IsBelow (files : Briefs) (rows : List Row) (place base : IdentityRef) : Type 0 where
   pub number : ℕ
   pub statement : Row
@@ -29,4 +30,5 @@ pub record IsBelow (files : Briefs) (rows : List Row) (place base : IdentityRef)
 
 -- it is derived from every base that the type names
 abbrev pub IsBelowAll : Briefs → List Row → ℕ → IdentityRef → Type 0
-IsBelowAll files rows kind place = (base : IdentityRef) → NamesBase files rows kind base → IsBelow files rows place base
+IsBelowAll files rows kind place =
+    (base : IdentityRef) → NamesBase files rows kind base → IsBelow files rows place base

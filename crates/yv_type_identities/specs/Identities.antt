@@ -20,13 +20,18 @@ use Rattle.yv_type_identities.specs.declared.identities.IdentityLists.{IdentityL
 -- these are the identities that are values of a type with these bases
 abbrev pub IsFound : Linked → List (ℕ × ℕ) → List Id → Type 0
 IsFound linked key members = (files : Files) (choice : Selected) → AreLinked files choice linked
-    → (module_file called : List ℕ) → IsTrue (list_any (is_identity module_file called) members) ↔ HasKeyValue (truth_in linked) choice files key module_file called
+    → (module_file called : List ℕ) → IsTrue (list_any (is_identity module_file called) members)
+    ↔ HasKeyValue (truth_in linked) choice files key module_file called
 
 -- this was read of these linked files; how, only the readers ask
 pub record AreIdentities (linked : Linked) (identities : IdentityLists) : Type 0 where
-  pub bases : (files : Files) (choice : Selected) → AreLinked files choice linked → (block : ℕ) (base : IdentityRef)
-      → IsTrue (list_any (is_at base) (bases_at identities.bases.items block)) ↔ NamesBase (map brief_of files) (rows_of files) block base
+  pub bases : (files : Files) (choice : Selected) → AreLinked files choice linked
+      → (block : ℕ) (base : IdentityRef)
+      → IsTrue (list_any (is_at base) (bases_at identities.bases.items block))
+      ↔ NamesBase (map brief_of files) (rows_of files) block base
   pub candidates : (files : Files) (choice : Selected) → AreLinked files choice linked
       → AreCandidates (truth_in linked) choice files identities.candidates.list.items
-  pub shared : (s : SharedMembers) → identities.shared ≡ Some s → AreShared linked identities.candidates.list.items s
-  pub found : (k : ℕ) (f : KeyMembers) → slice_get identities.found.items k ≡ Some f → IsFound linked f.key.items f.members
+  pub shared : (s : SharedMembers) → identities.shared ≡ Some s
+      → AreShared linked identities.candidates.list.items s
+  pub found : (k : ℕ) (f : KeyMembers) → slice_get identities.found.items k ≡ Some f
+      → IsFound linked f.key.items f.members

@@ -12,7 +12,7 @@ use Rattle.yv_link_identities.specs.declared.references.IdentityRef.{IdentityRef
 use Rattle.yv_type_identities.specs.Bases.{IsBelow}
 use Rattle.yv_type_identities.specs.InnerSets.{is_key}
 
--- the base that a statement gives the type in whose block it stands
+-- the base that a statement gives the type in whose block it is
 abbrev pub base_of : Briefs → List Row → Row → Option IdentityRef
 base_of files rows s = if is_base s then reference_of files rows s.file (name_in s) else None
 
@@ -22,4 +22,5 @@ bases_at lists k = unwrap_or (option_map (λ v. v.items) (slice_get lists k)) []
 
 -- an identity is derived from each base of a key
 abbrev pub IsBelowKey : Briefs → List Row → List (ℕ × ℕ) → IdentityRef → Type 0
-IsBelowKey files rows key place = (base : IdentityRef) → list_any (is_key base) key ≡ true → IsBelow files rows place base
+IsBelowKey files rows key place =
+    (base : IdentityRef) → list_any (is_key base) key ≡ true → IsBelow files rows place base

@@ -24,17 +24,21 @@ fails truth number s = is_if_feature_of number s && not (truth s.file (name_in s
 
 -- the names of the modules to which files belong
 abbrev pub AreModuleNames : Briefs → List (RcStr Global) → Type 0
-AreModuleNames files module_files = (k : ℕ) (h : RcStr Global) → slice_get module_files k ≡ Some h → rc_str_bytes h ≡ module_name_in (slice_get files k)
+AreModuleNames files module_files = (k : ℕ) (h : RcStr Global) → slice_get module_files k ≡ Some h
+    → rc_str_bytes h ≡ module_name_in (slice_get files k)
 
 -- all that is asked of a numbered statement
 abbrev pub passes : Selected → Briefs → BTreeSet ℕ → ℕ → Row → Bool
 passes choice files off number r =
-    is_identity r && (names_implemented choice files (id_at files r).module_file && not (contains nat_cmp off number))
+    is_identity r && (names_implemented choice files (id_at files r).module_file
+    && not (contains nat_cmp off number))
 
 -- the numbered statement r is an identity of an implemented module, and on
-pub record IsCandidate (truth : Truth) (choice : Selected) (files : Files) (number : ℕ) (r : Row) : Type 0 where
+pub record IsCandidate (truth : Truth) (choice : Selected) (files : Files) (number : ℕ)
+    (r : Row) : Type 0 where
   pub identity : is_identity r ≡ true
-  pub implemented : names_implemented choice (map brief_of files) (id_at (map brief_of files) r).module_file ≡ true
+  pub implemented : names_implemented choice (map brief_of files)
+      (id_at (map brief_of files) r).module_file ≡ true
   pub on : IsOn truth (rows_of files) number
 
 -- a candidate is the statement
@@ -43,14 +47,19 @@ pub record IsOf (files : Briefs) (r : Row) (c : Candidate) : Type 0 where
   pub name : id_of c.member ≡ id_at files r
 
 -- these are all such statements
-pub record AreCandidates (truth : Truth) (choice : Selected) (files : Files) (cs : List Candidate) : Type 0 where
+pub record AreCandidates (truth : Truth) (choice : Selected) (files : Files)
+    (cs : List Candidate) : Type 0 where
   pub sound : (k : ℕ) (c : Candidate) → slice_get cs k ≡ Some c
-      → (number : ℕ) × (r : Row) × (slice_get (rows_of files) number ≡ Some r) × IsCandidate truth choice files number r × IsOf (map brief_of files) r c
-  pub full : (number : ℕ) (r : Row) → slice_get (rows_of files) number ≡ Some r → IsCandidate truth choice files number r
+      → (number : ℕ) × (r : Row) × (slice_get (rows_of files) number ≡ Some r)
+      × IsCandidate truth choice files number r × IsOf (map brief_of files) r c
+  pub full : (number : ℕ) (r : Row) → slice_get (rows_of files) number ≡ Some r
+      → IsCandidate truth choice files number r
       → (k : ℕ) × (c : Candidate) × (slice_get cs k ≡ Some c) × IsOf (map brief_of files) r c
 
 -- this module has an identity of this name that is a value of a type with these bases
 abbrev pub HasKeyValue : Truth → Selected → Files → List (ℕ × ℕ) → List ℕ → List ℕ → Type 0
 HasKeyValue truth choice files key module_file called =
-    (number : ℕ) × (r : Row) × (slice_get (rows_of files) number ≡ Some r) × IsCandidate truth choice files number r
-    × IsBelowKey (map brief_of files) (rows_of files) key (ref_of r) × (id_at (map brief_of files) r ≡ record { module_file = module_file; name = called })
+    (number : ℕ) × (r : Row) × (slice_get (rows_of files) number ≡ Some r)
+    × IsCandidate truth choice files number r
+    × IsBelowKey (map brief_of files) (rows_of files) key (ref_of r)
+    × (id_at (map brief_of files) r ≡ record { module_file = module_file; name = called })

@@ -6,7 +6,8 @@ use Rattle.yv_link_identities.specs.declared.references.IdentityRef.{IdentityRef
 use Rattle.yv_type_identities.specs.declared.sets.References.{References}
 
 abbrev pub has_key : BTreeSet (ℕ × ℕ) → ℕ → ℕ → Bool
-has_key set file offset = contains (λ x y. ordering_then (nat_cmp x.0 y.0) (nat_cmp x.1 y.1)) set (file, offset)
+has_key set file offset =
+    contains (λ x y. ordering_then (nat_cmp x.0 y.0) (nat_cmp x.1 y.1)) set (file, offset)
 
 abbrev pub has : References → IdentityRef → Bool
 has refs place = has_key refs.set place.file place.offset

@@ -23,7 +23,8 @@ IsOn truth = AllHoldBy (λ file text. truth file text ≡ true)
 
 -- the module of a name is there, and it is implemented (section 5.6.5)
 abbrev pub names_implemented : Selected → Briefs → List ℕ → Bool
-names_implemented choice files name = unwrap_or (option_map (λ (m : ModuleRef). m.implemented) (named_module choice files name)) false
+names_implemented choice files name =
+    unwrap_or (option_map (λ (m : ModuleRef). m.implemented) (named_module choice files name)) false
 
 -- an identity by its name and that of the module to which its file belongs (section 5.1)
 abbrev pub id_at : Briefs → Row → Id
@@ -31,14 +32,17 @@ id_at files r = record { module_file = module_name_in (slice_get files r.file); 
 
 -- the numbered statement r is an identity that is derived from every base of the type, of an
 -- implemented module, and none of its conditions is false (section 9.10.2)
-pub record IsValue (truth : Truth) (choice : Selected) (files : Files) (kind number : ℕ) (r : Row) : Type 0 where
+pub record IsValue (truth : Truth) (choice : Selected) (files : Files) (kind number : ℕ)
+    (r : Row) : Type 0 where
   pub identity : is_identity r ≡ true
   pub derived : IsBelowAll (map brief_of files) (rows_of files) kind (ref_of r)
-  pub implemented : names_implemented choice (map brief_of files) (id_at (map brief_of files) r).module_file ≡ true
+  pub implemented : names_implemented choice (map brief_of files)
+      (id_at (map brief_of files) r).module_file ≡ true
   pub on : IsOn truth (rows_of files) number
 
 -- this module has an identity of this name that is a value
 abbrev pub HasValue : Truth → Selected → Files → ℕ → List ℕ → List ℕ → Type 0
 HasValue truth choice files kind module_file called =
-    (number : ℕ) × (r : Row) × (slice_get (rows_of files) number ≡ Some r) × IsValue truth choice files kind number r
+    (number : ℕ) × (r : Row) × (slice_get (rows_of files) number ≡ Some r)
+    × IsValue truth choice files kind number r
     × (id_at (map brief_of files) r ≡ record { module_file = module_file; name = called })

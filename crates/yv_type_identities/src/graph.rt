@@ -48,8 +48,8 @@ fn pair<'a, 'b>(
 }
 
 // An edge that a numbered statement gives: from a base to what is directly derived from it, and
-// from the first statement, which is no identity, to each identity without a base. So a search of
-// the graph begins with these, and meets all others from their bases.
+// from the first statement, which isn't an identity, to each identity without a base. So a search
+// of the graph begins with these, and meets all others from their bases.
 fn edge<'a, 'b>(
     linked: &Linked<'a, 'b>,
     entries: &[Entry<'a, 'b>],

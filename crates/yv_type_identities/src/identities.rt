@@ -82,12 +82,17 @@ impl IdentityLists {
         linked: &Linked<'_, '_>,
         number: usize,
     ) -> Result<Members, AllocError>
+        // If it was read from these files: exactly the identities that are values of the
+        // identityref type of this number: derived from each of its bases, of an implemented
+        // module, and with conditions that hold.
         ensures same { AreIdentities linked.now self.old
             → IfOk result (λ members. (files : Files) (choice : Selected)
             → AreLinked files choice linked.now → (module_file called : List ℕ)
             → IsTrue (list_any (is_identity module_file called) members)
             ↔ HasValue (truth_in linked.now) choice files number module_file called) }
+        // Each once.
         ensures rises { IfOk result (λ members. RiseById members) }
+        // The lists are still those of these files.
         ensures keeps { AreIdentities linked.now self.old → AreIdentities linked.now self.new }
     {
         let key = key_of(alloc, bases_of(&self.bases, number))?;

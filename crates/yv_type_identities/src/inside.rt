@@ -11,7 +11,7 @@ use yv_link::{IdentityRef, Linked};
 use yv_link_scopes::{Entry, name_of};
 use yv_statement::Keyword;
 
-/// The base that a statement gives the type or the identity in whose block it stands.
+/// The base that a statement gives the type or the identity in whose block it is.
 pub(crate) fn base_of<'a, 'b>(linked: &Linked<'a, 'b>, entry: &Entry<'a, 'b>) -> Option<IdentityRef>
     ensures { (files : Files) (choice : Selected) → AreLinked files choice linked.now
         → result ≡ base_of (map brief_of files) (rows_of files) (row entry.now) }
@@ -35,7 +35,7 @@ fn grow(alloc: Global, lists: &mut Vec<Vec<IdentityRef>>, block: usize) -> Resul
     Ok(())
 }
 
-// Puts a base behind those of a block.
+// Puts a base after those of a block.
 fn put(lists: &mut Vec<Vec<IdentityRef>>, block: usize, base: IdentityRef) -> Result<(), AllocError>
     requires { block < length lists.old.items }
     ensures here { OnOk result
@@ -64,7 +64,7 @@ fn add(
     Ok(())
 }
 
-/// For each block the bases that its statements name, as often as they do. Blocks behind the last
+/// For each block the bases that its statements name, as often as they do. Blocks after the last
 /// with a base have no list.
 pub(crate) fn bases_inside(
     alloc: Global,

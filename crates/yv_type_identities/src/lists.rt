@@ -46,8 +46,8 @@ impl Candidates {
     }
 
     // The numbers of those that are in the set, where there is one. It asks of each place in the
-    // set who stands there, and not of each candidate whether it is in the set, since there may be
-    // as many sets as candidates.
+    // set who is there, and not of each candidate whether it is in the set, since there may be as
+    // many sets as candidates.
     fn choose(&self, alloc: Global, left: &Option<References>) -> Result<Vec<usize>, AllocError>
         ensures { IfOk result (λ numbers. (k : ℕ) → IsTrue (list_any (nat_eq k) numbers.items)
             ↔ ((c : Candidate) × (slice_get self.now.list.items k ≡ Some c)

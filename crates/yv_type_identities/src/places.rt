@@ -55,7 +55,7 @@ impl CandidatePlaces {
         }
     }
 
-    // Puts a number behind those at a place.
+    // Puts a number after those at a place.
     fn add(&mut self, alloc: Global, place: IdentityRef, number: usize) -> Result<(), AllocError>
         ensures { OnOk result
             ((k : ℕ × ℕ) (n : ℕ) → is_kept self.new k n

@@ -7,7 +7,8 @@ use Rattle.yv_values.specs.Types.{Plain, wholes, decimals, strings, booleans, oc
 
 -- the whole numbers of so many bits, one of them for the sign
 abbrev pub signed_range : ℕ → List Interval
-signed_range bits = record { low = negsuc (2 ^ (bits - 1) - 1); high = pos (2 ^ (bits - 1) - 1) } ∷ []
+signed_range bits =
+    record { low = negsuc (2 ^ (bits - 1) - 1); high = pos (2 ^ (bits - 1) - 1) } ∷ []
 
 -- the natural numbers of so many bits
 abbrev pub unsigned_range : ℕ → List Interval
@@ -27,7 +28,7 @@ whole_type name =
     else if bytes_eq name (codes "uint64") then Some (wholes true (unsigned_range 64))
     else None
 
--- the type of this name; decimal64 has so many digits behind the point
+-- the type of this name; decimal64 has so many digits after the point
 abbrev pub built_in : List ℕ → ℕ → Option Plain
 built_in name digits =
     if bytes_eq name (codes "decimal64") then Some (decimals digits (signed_range 64))

@@ -13,12 +13,14 @@ use Rattle.yv_type_restrictions.specs.Facets.{child, has_word, IsOutside, IsNoRe
 abbrev pub BadRestriction : ℕ → Option ℕ → List Interval → Option Tree → Refusal → Type 0
 BadRestriction file digits base None f = ⊥
 BadRestriction file digits base (Some c) f =
-    Stands (IsNoRestriction digits base (name_of c.head)) (refusal_at code.BadRestriction file c.head) f
+    Stands (IsNoRestriction digits base (name_of c.head))
+    (refusal_at code.BadRestriction file c.head) f
 
 -- a substatement is a `pattern` outside the dialect
 abbrev pub BadPattern : ℕ → Tree → Refusal → Type 0
 BadPattern file c f =
-    Stands ((has_word (codes "pattern") c ≡ true) × IsOutside (name_of c.head)) (refusal_at code.BadPattern file c.head) f
+    Stands ((has_word (codes "pattern") c ≡ true) × IsOutside (name_of c.head))
+    (refusal_at code.BadPattern file c.head) f
 
 -- one of these statements is
 abbrev pub BadPatterns : ℕ → List Tree → Refusal → Type 0
@@ -27,15 +29,18 @@ BadPatterns file cs f = Among cs (λ k. BadPattern file) (length cs) f
 -- what is wrong with the restrictions of a type statement, by the type that it names
 abbrev pub BadFacets : ℕ → Tree → Plain → Refusal → Type 0
 BadFacets file t (wholes is_text is) f = BadRestriction file None is (child (codes "range") t) f
-BadFacets file t (decimals digits is) f = BadRestriction file (Some digits) is (child (codes "range") t) f
+BadFacets file t (decimals digits is) f =
+    BadRestriction file (Some digits) is (child (codes "range") t) f
 BadFacets file t (strings lengths tests) f =
-    BadRestriction file None lengths (child (codes "length") t) f ⊎ BadPatterns file (trees t.children) f
+    BadRestriction file None lengths (child (codes "length") t) f
+    ⊎ BadPatterns file (trees t.children) f
 BadFacets file t (octets lengths) f = BadRestriction file None lengths (child (codes "length") t) f
 BadFacets file t p f = ⊥
 
 -- a statement is a `pattern` in the dialect
 abbrev pub IsPattern : Tree → Type 0
-IsPattern c = (source : List ℕ) × (has_word (codes "pattern") c ≡ true) × Translates (name_of c.head) source
+IsPattern c =
+    (source : List ℕ) × (has_word (codes "pattern") c ≡ true) × Translates (name_of c.head) source
 
 -- one of these statements is
 abbrev pub HasPattern : List Tree → Type 0

@@ -9,6 +9,7 @@ use Rattle.yv_base_numbers.specs.Restrictions.{Restricts}
 use Rattle.yv_pattern.specs.Spells.{Translates}
 use Rattle.yv_values.specs.Types.{Plain, Test, wholes, decimals, strings, octets}
 
+-- a statement has this keyword
 abbrev pub has_word : List ℕ → Tree → Bool
 has_word word t = bytes_eq t.head.keyword word
 
@@ -25,7 +26,8 @@ IsNoRestriction digits base text = (is : List Interval) → Restricts digits bas
 abbrev pub Leaves : Option ℕ → List Interval → Option Tree → List Interval → Type 0
 Leaves digits base None is = is ≡ base
 Leaves digits base (Some c) is =
-    Restricts digits base (name_of c.head) is ⊎ (IsNoRestriction digits base (name_of c.head) × (is ≡ base))
+    Restricts digits base (name_of c.head) is
+    ⊎ (IsNoRestriction digits base (name_of c.head) × (is ≡ base))
 
 -- the text is outside the dialect
 abbrev pub IsOutside : List ℕ → Type 0
@@ -52,7 +54,8 @@ abbrev pub Narrows : Tree → Plain → Plain → Type 0
 Narrows t (wholes is_text is) q =
     (js : List Interval) × Leaves None is (child (codes "range") t) js × (q ≡ wholes is_text js)
 Narrows t (decimals digits is) q =
-    (js : List Interval) × Leaves (Some digits) is (child (codes "range") t) js × (q ≡ decimals digits js)
+    (js : List Interval) × Leaves (Some digits) is (child (codes "range") t) js
+    × (q ≡ decimals digits js)
 Narrows t (strings lengths tests) q =
     (left : List Interval) × (more : List Test)
     × Leaves None lengths (child (codes "length") t) left

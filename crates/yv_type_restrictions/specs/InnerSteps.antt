@@ -27,7 +27,8 @@ StopsWhere P NoMemory = ⊤
 
 -- What is left of the plain type, if there is one, that a type statement narrows, and the least
 -- that is wrong with its restrictions.
-pub record IsLeft (file : ℕ) (t : Tree) (base plain : Option Plain) (fault : Option Refusal) : Type 0 where
+pub record IsLeft (file : ℕ) (t : Tree) (base plain : Option Plain)
+    (fault : Option Refusal) : Type 0 where
   pub left : (q : Plain) → (plain ≡ Some q) ↔ ((p : Plain) × (base ≡ Some p) × Narrows t p q)
   pub least : IsLeast (λ f. (p : Plain) × (base ≡ Some p) × BadFacets file t p f) fault
 
@@ -37,13 +38,15 @@ BadAt files k f = (r : Row) × (slice_get (rows_of files) k ≡ Some r) × BadNa
 
 -- this is the plain type of the numbered statement, and the least that is wrong with its
 -- restrictions
-pub record IsStep (files : Files) (k : ℕ) (plain : Option Plain) (fault : Option Refusal) : Type 0 where
+pub record IsStep (files : Files) (k : ℕ) (plain : Option Plain)
+    (fault : Option Refusal) : Type 0 where
   pub exact : (q : Plain) → (plain ≡ Some q) ↔ HasPlainType files k q
   pub least : IsLeast (BadAt files k) fault
 
 -- the table has the plain types of those
 abbrev pub AreKnown : Files → (ℕ → Type 0) → Table PlainType → Type 0
-AreKnown files Those types = (k : ℕ) → Those k → (p : Plain) → (plain_at types k ≡ Some p) ↔ HasPlainType files k p
+AreKnown files Those types =
+    (k : ℕ) → Those k → (p : Plain) → (plain_at types k ≡ Some p) ↔ HasPlainType files k p
 
 -- what type k follows
 abbrev pub IsFollowed : Files → ℕ → ℕ → Type 0
@@ -55,4 +58,5 @@ BadAmong files ks f = (k : ℕ) × Contains ks k × BadAt files k f
 
 -- the table has the plain types of these numbers, and no others
 abbrev pub AreTold : Files → List ℕ → Table PlainType → Type 0
-AreTold files ks types = (k : ℕ) (p : Plain) → (plain_at types k ≡ Some p) ↔ (Contains ks k × HasPlainType files k p)
+AreTold files ks types =
+    (k : ℕ) (p : Plain) → (plain_at types k ≡ Some p) ↔ (Contains ks k × HasPlainType files k p)

@@ -13,7 +13,8 @@ use Rattle.yv_type_restrictions.specs.Types.{StartsFrom}
 
 -- what is wrong with the restrictions of type k, by what it narrows
 abbrev pub BadNarrowing : Files → ℕ → Row → Refusal → Type 0
-BadNarrowing files k r f = (t : Tree) × (p : Plain) × StartsFrom files k t p × BadFacets r.file t p f
+BadNarrowing files k r f =
+    (t : Tree) × (p : Plain) × StartsFrom files k t p × BadFacets r.file t p f
 
 -- what is wrong with the restrictions of one of the types
 abbrev pub BadFaceted : Files → Refusal → Type 0

@@ -14,14 +14,16 @@ use Rattle.yv_type_restrictions.specs.Facets.{child, has_word, Narrows}
 use Rattle.yv_type_restrictions.specs.FacetRefusals.{HasPattern}
 use Rattle.yv_values.specs.Types.{Plain}
 
--- a number of digits that decimal64 may have behind the point (section 9.3.4)
+-- a number of digits that decimal64 may have after the point (section 9.3.4)
 abbrev pub few_digits : Option ℤ → Option ℕ
 few_digits (Some (pos n)) = if nat_le n 18 then Some n else None
 few_digits _ = None
 
--- the digits behind the point that a type statement states by its first `fraction-digits`
+-- the digits after the point that a type statement states by its first `fraction-digits`
 abbrev pub stated_digits : Tree → Option ℕ
-stated_digits t = few_digits (option_and_then (λ (c : Tree). integer_of (name_of c.head)) (child (codes "fraction-digits") t))
+stated_digits t = few_digits
+    (option_and_then (λ (c : Tree). integer_of (name_of c.head))
+    (child (codes "fraction-digits") t))
 
 -- the digits with which the built-in type is meant that a type statement names: those of decimal64
 -- have to be stated, the others have none
@@ -35,20 +37,24 @@ named_type t = option_and_then (built_in (name_of t.head)) (digits_of_type t)
 
 -- the numbered statement is this type
 abbrev pub IsTypeAt : Files → ℕ → Tree → Type 0
-IsTypeAt files k t = (slice_get (statements_of files) k ≡ Some t) × (has_word (codes "type") t ≡ true)
+IsTypeAt files k t =
+    (slice_get (statements_of files) k ≡ Some t) × (has_word (codes "type") t ≡ true)
 
 mutual
   -- what type k narrows: the built-in type that it names, or the plain type of the type that it
   -- follows
   pub data StartsFrom (files : Files) : ℕ → Tree → Plain → Type 0 where
-    first : {k : ℕ} {t : Tree} {p : Plain} → IsTypeAt files k t → named_type t ≡ Some p → StartsFrom files k t p
-    through_typedef : {k j : ℕ} {t : Tree} {p : Plain} → IsTypeAt files k t → Follows (map brief_of files) (rows_of files) k j → HasPlainType files j p
+    first : {k : ℕ} {t : Tree} {p : Plain} → IsTypeAt files k t → named_type t ≡ Some p
+        → StartsFrom files k t p
+    through_typedef : {k j : ℕ} {t : Tree} {p : Plain} → IsTypeAt files k t
+        → Follows (map brief_of files) (rows_of files) k j → HasPlainType files j p
         → StartsFrom files k t p
 
   -- what is left of that is the plain type of type k; an enumeration, bits, an identityref, an
   -- instance-identifier, a leafref or a union has none here
   pub data HasPlainType (files : Files) : ℕ → Plain → Type 0 where
-    after_restriction : {k : ℕ} {t : Tree} {p q : Plain} → StartsFrom files k t p → Narrows t p q → HasPlainType files k q
+    after_restriction : {k : ℕ} {t : Tree} {p q : Plain} → StartsFrom files k t p → Narrows t p q
+        → HasPlainType files k q
 
 -- a type statement of the files has a `pattern` in the dialect
 abbrev pub HasTypePattern : Files → Type 0

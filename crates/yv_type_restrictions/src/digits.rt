@@ -24,7 +24,7 @@ fn few_digits(text: &[u8]) -> Option<u32>
     }
 }
 
-// The digits behind the point that a type statement states.
+// The digits after the point that a type statement states.
 fn stated_digits(statement: &Statement<'_>) -> Option<u32>
     ensures { result ≡ stated_digits statement.now }
 {

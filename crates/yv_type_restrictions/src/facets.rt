@@ -24,11 +24,15 @@ pub fn narrow(
     statement: &Statement<'_>,
     base: &PlainType,
 ) -> Result<NarrowedType, Stop>
+    // What the statement's range, length and patterns leave of the type.
     ensures narrows { IfOk result
         (λ n. Narrows statement.now (plain_of base.now) (plain_of n.plain)) }
+    // The least that is wrong with the statement's restrictions, or none if nothing is.
     ensures fault { IfOk result
         (λ n. IsLeast (BadFacets file statement.now (plain_of base.now)) n.fault) }
+    // No refusal is an error here.
     ensures faultless { (r : Refusal) → result ≢ Err (Fault r) }
+    // `PatternBuild` is returned only if the statement has a pattern.
     ensures builds { result ≡ Err PatternBuild → HasPattern (trees statement.now.children) }
 {
     match base {

@@ -31,10 +31,13 @@ impl PlainTypes {
     /// here. Equal patterns are built once, and the types share them. It takes time linear in the
     /// statements except for what `narrowed` says of each type.
     pub fn read(alloc: Global, rows: &Rows<'_, '_>, bases: &Bases) -> Result<PlainTypes, Stop>
+        // They are the plain types of numbers, texts and octets of these files, along typedefs.
         ensures makes { IfOk result
             (λ faceted. (files : Files) → lent_in rows.now ≡ files → AreBases files bases.now
             → AreFaceted files faceted) }
+        // No refusal is an error here.
         ensures faultless { (r : Refusal) → result ≢ Err (Fault r) }
+        // `PatternBuild` is returned only if a type has a pattern.
         ensures builds { result ≡ Err PatternBuild → HasTypePattern (lent_in rows.now) }
     {
         yv_link_scopes::laws::statements_have_their_rows();

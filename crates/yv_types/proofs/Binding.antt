@@ -1,4 +1,4 @@
--- What a prefix stands for.
+-- What a prefix refers to.
 use Rattle.std.proofs.Common.{◌≡◌, ℕ, ◌+◌, suc, ◌&&◌, Bool, true, false, cond, List, [], ◌∷◌, map, refl, sym, ◌∙◌, ap, arith, Option, Some, None, eqb}
 use Rattle.std.specs.List.{filter, find, position_from, slice_get}
 use Rattle.std.specs.Option.{option_and_then, option_map}

@@ -11,6 +11,7 @@ use Rattle.yv_link_definitions.specs.Refers.{Refers}
 use Rattle.yv_type_chains.specs.Types.{type_of}
 use Rattle.yv_node_definition.specs.Definition.{TextInFile}
 
+-- a statement is a `default`
 abbrev pub is_default : Tree → Bool
 is_default t = has_word (codes "default") t.head
 
@@ -26,7 +27,8 @@ default_in file t = option_map (written_in file) (find is_default (trees t.child
 -- prefixes in it are those of this file
 abbrev pub default_at : Files → ℕ → Option TextInFile
 default_at files k =
-    option_and_then (λ (r : Row). option_and_then (default_in r.file) (slice_get (statements_of files) k)) (slice_get (rows_of files) k)
+    option_and_then (λ (r : Row). option_and_then (default_in r.file)
+    (slice_get (statements_of files) k)) (slice_get (rows_of files) k)
 
 -- type k names typedef d
 abbrev pub Means : Files → ℕ → ℕ → Type 0
@@ -37,7 +39,10 @@ Means files k d = Refers (map brief_of files) (rows_of files) Typedef k d
 -- conforms has, ends the way.
 pub data HasDefault (files : Files) : ℕ → Option TextInFile → Type 0 where
   no_typedef : {k : ℕ} → ((d : ℕ) → Means files k d → ⊥) → HasDefault files k None
-  nearest : {k d : ℕ} {w : TextInFile} → Means files k d → default_at files d ≡ Some w → HasDefault files k (Some w)
-  further : {k d j : ℕ} {found : Option TextInFile} → Means files k d → default_at files d ≡ None → type_of (rows_of files) d ≡ Some j
+  nearest : {k d : ℕ} {w : TextInFile} → Means files k d → default_at files d ≡ Some w
+      → HasDefault files k (Some w)
+  further : {k d j : ℕ} {found : Option TextInFile} → Means files k d → default_at files d ≡ None
+      → type_of (rows_of files) d ≡ Some j
       → HasDefault files j found → HasDefault files k found
-  no_type : {k d : ℕ} → Means files k d → default_at files d ≡ None → type_of (rows_of files) d ≡ None → HasDefault files k None
+  no_type : {k d : ℕ} → Means files k d → default_at files d ≡ None
+      → type_of (rows_of files) d ≡ None → HasDefault files k None

@@ -18,7 +18,9 @@ abbrev pub default_of_typedef : Row → Tree → Option TextInFile
 default_of_typedef r t = if is_of Typedef r then default_in r.file t else None
 
 abbrev pub said_at : Files → ℕ → Option TextInFile
-said_at files k = option_and_then (λ (r : Row). option_and_then (default_of_typedef r) (slice_get (statements_of files) k)) (slice_get (rows_of files) k)
+said_at files k = option_and_then
+    (λ (r : Row). option_and_then (default_of_typedef r) (slice_get (statements_of files) k))
+    (slice_get (rows_of files) k)
 
 -- the text at a place, if there is one
 abbrev pub text_at : List (Option WrittenText) → ℕ → Option TextInFile
@@ -38,4 +40,5 @@ IsFollowed files k j = Follows (map brief_of files) (rows_of files) k j
 
 -- the table has the typedefs whose defaults those have
 abbrev pub AreFound : Files → List (Option WrittenText) → (ℕ → Type 0) → List (Option ℕ) → Type 0
-AreFound files said Those found = (k : ℕ) → Those k → HasDefault files k (text_from said (at found k))
+AreFound files said Those found =
+    (k : ℕ) → Those k → HasDefault files k (text_from said (at found k))

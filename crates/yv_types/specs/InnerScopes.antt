@@ -25,8 +25,13 @@ bare f = record { module_file = f.module_file; bindings = [] }
 
 -- with the prefixes that these statements declare
 abbrev pub place_with : List Row → List Row → ℕ → Brief → Place
-place_with rows rs n f = record { module_file = f.module_file; bindings = map (binding_at rows) (filter (is_prefix_in n) rs) }
+place_with rows rs n f =
+    record {
+      module_file = f.module_file;
+      bindings = map (binding_at rows) (filter (is_prefix_in n) rs);
+    }
 
 -- these are the scopes of these files, as far as these statements go
 abbrev pub AreScopesOf : Briefs → List Row → List Row → List Scope → Type 0
-AreScopesOf files rows rs scopes = (n : ℕ) → place_in scopes n ≡ option_map (place_with rows rs n) (slice_get files n)
+AreScopesOf files rows rs scopes =
+    (n : ℕ) → place_in scopes n ≡ option_map (place_with rows rs n) (slice_get files n)

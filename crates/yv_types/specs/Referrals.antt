@@ -17,6 +17,7 @@ use Rattle.yv_types.specs.declared.leafref_path.TypeLeafref.{TypeLeafref}
 abbrev pub first_in : List ℕ → Tree → Option Tree
 first_in word t = find (λ (c : Tree). has_word word c.head) (trees t.children)
 
+-- the argument of a statement is `true`
 abbrev pub says_true : Tree → Bool
 says_true t = bytes_eq (name_of t.head) (codes "true")
 
@@ -40,7 +41,8 @@ path_in file t = option_map (written_in file) (first_in (codes "path") t)
 -- those of this file
 abbrev pub path_at : Files → ℕ → Option TextInFile
 path_at files k =
-    option_and_then (λ (r : Row). option_and_then (path_in r.file) (slice_get (statements_of files) k)) (slice_get (rows_of files) k)
+    option_and_then (λ (r : Row). option_and_then (path_in r.file)
+    (slice_get (statements_of files) k)) (slice_get (rows_of files) k)
 
 -- a text and its file, as they are lent
 abbrev pub written_of : PathText → TextInFile
@@ -62,12 +64,15 @@ own_at files k = record { origin = k; is_required = unwrap_or (required_at files
 -- type k is derived from one of which this holds: it has its path, and what itself says of
 -- instances goes before
 abbrev pub derived_at : Files → ℕ → TypeLeafref → TypeLeafref
-derived_at files k base = record { origin = base.origin; is_required = unwrap_or (required_at files k) base.is_required }
+derived_at files k base =
+    record { origin = base.origin; is_required = unwrap_or (required_at files k) base.is_required }
 
 -- What type k says as a leafref: `origin` is the statement `type leafref` whose path it has, and
 -- `is_required` whether an instance is required. None where it leads to no leafref.
 pub data HasReferral (files : Files) : ℕ → Option TypeLeafref → Type 0 where
   built_in : {k : ℕ} → IsLeafrefAt files k → HasReferral files k (Some (own_at files k))
-  through_typedef : {k j : ℕ} {found : Option TypeLeafref} → FollowsIn files k j → HasReferral files j found
+  through_typedef : {k j : ℕ} {found : Option TypeLeafref} → FollowsIn files k j
+      → HasReferral files j found
       → HasReferral files k (option_map (derived_at files k) found)
-  other : {k : ℕ} → (IsLeafrefAt files k → ⊥) → ((j : ℕ) → FollowsIn files k j → ⊥) → HasReferral files k None
+  other : {k : ℕ} → (IsLeafrefAt files k → ⊥) → ((j : ℕ) → FollowsIn files k j → ⊥)
+      → HasReferral files k None

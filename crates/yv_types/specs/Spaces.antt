@@ -28,19 +28,30 @@ mutual
   -- that a type has one list. An instance-identifier has none, nor has a union with one in it.
   pub data Space (files : Files) (truth : Truth) (choice : Selected) : ℕ → List Plain → Type 0 where
     plain_type : {k : ℕ} {p : Plain} → HasPlainType files k p → Space files truth choice k (p ∷ [])
-    names_type : {k : ℕ} (told : NamesView) (ns : List (List ℕ)) → HasNames files truth k told → Rises ns
-        → ((s : List ℕ) → is_named ns s ≡ told.value s) → Space files truth choice k (of_kind told.kind ns ∷ [])
-    identityref : {k : ℕ} {r : Row} {ids : List Id} → slice_get (rows_of files) k ≡ Some r → is_kind (codes "identityref") r ≡ true
-        → RiseById ids → ((module_file called : List ℕ) → IsTrue (list_any (is_identity module_file called) ids) ↔ HasValue truth choice files k module_file called)
+    names_type : {k : ℕ} (told : NamesView) (ns : List (List ℕ)) → HasNames files truth k told
+        → Rises ns
+        → ((s : List ℕ) → is_named ns s ≡ told.value s)
+        → Space files truth choice k (of_kind told.kind ns ∷ [])
+    identityref : {k : ℕ} {r : Row} {ids : List Id} → slice_get (rows_of files) k ≡ Some r
+        → is_kind (codes "identityref") r ≡ true
+        → RiseById ids → ((module_file called : List ℕ)
+        → IsTrue (list_any (is_identity module_file called) ids)
+        ↔ HasValue truth choice files k module_file called)
         → Space files truth choice k (identities ids ∷ [])
-    leafref : {k : ℕ} {r : Row} → slice_get (rows_of files) k ≡ Some r → is_leafref r ≡ true → Space files truth choice k []
-    union : {k : ℕ} {r : Row} {ps : List Plain} → slice_get (rows_of files) k ≡ Some r → is_union r ≡ true
+    leafref : {k : ℕ} {r : Row} → slice_get (rows_of files) k ≡ Some r → is_leafref r ≡ true
+        → Space files truth choice k []
+    union : {k : ℕ} {r : Row} {ps : List Plain} → slice_get (rows_of files) k ≡ Some r
+        → is_union r ≡ true
         → Spaces files truth choice (types_in (rows_of files) k) ps → Space files truth choice k ps
-    through_typedef : {k j : ℕ} {ps : List Plain} → Follows (map brief_of files) (rows_of files) k j → ((p : Plain) → HasPlainType files k p → ⊥)
-        → ((told : NamesView) → HasNames files truth k told → ⊥) → Space files truth choice j ps → Space files truth choice k ps
+    through_typedef : {k j : ℕ} {ps : List Plain} → Follows (map brief_of files) (rows_of files) k j
+        → ((p : Plain) → HasPlainType files k p → ⊥)
+        → ((told : NamesView) → HasNames files truth k told → ⊥) → Space files truth choice j ps
+        → Space files truth choice k ps
 
-  -- those of several types, one behind the other
-  pub data Spaces (files : Files) (truth : Truth) (choice : Selected) : List ℕ → List Plain → Type 0 where
+  -- those of several types, one after the other
+  pub data Spaces (files : Files) (truth : Truth) (choice : Selected) : List ℕ → List Plain
+      → Type 0 where
     none : Spaces files truth choice [] []
-    more : {m : ℕ} {ms : List ℕ} {ps qs rs : List Plain} → Space files truth choice m ps → Spaces files truth choice ms qs → rs ≡ ps ++ qs
+    more : {m : ℕ} {ms : List ℕ} {ps qs rs : List Plain} → Space files truth choice m ps
+        → Spaces files truth choice ms qs → rs ≡ ps ++ qs
         → Spaces files truth choice (m ∷ ms) rs

@@ -32,45 +32,52 @@ pub record AreLayers (files : Files) (truth : Truth) (layers : Layers) : Type 0 
 
 -- these are the plain types and the defaults of the types of these files, what these say as
 -- leafrefs, and their places; how, only the readers ask
-pub record AreTypes (files : Files) (choice : Selected) (truth : Truth) (types : Types) : Type 0 where
+pub record AreTypes (files : Files) (choice : Selected) (truth : Truth)
+    (types : Types) : Type 0 where
   pub spaces : AreSpaces files truth choice types.spaces
   pub defaults : AreDefaults files types.defaults
   pub leafrefs : AreLeafrefTypes files types.leafrefs
-  pub places : (file offset : ℕ) → placed_in types.places file offset ≡ number_at (rows_of files) (codes "type") file offset
+  pub places : (file offset : ℕ)
+      → placed_in types.places file offset ≡ number_at (rows_of files) (codes "type") file offset
 
--- the plain types that are told of the type statement at an offset of a file
+-- the plain types that are known of the type statement at an offset of a file
 abbrev pub space_at : Types → ℕ → ℕ → Option (List Plain)
-space_at types file offset = option_and_then (plains_at types.spaces) (placed_in types.places file offset)
+space_at types file offset =
+    option_and_then (plains_at types.spaces) (placed_in types.places file offset)
 
--- what is told of the plain types of the statement of this number, where there is one, is so
+-- what is known of the plain types of the statement of this number, where there is one, is so
 abbrev pub IsTold : Files → Selected → Truth → Option ℕ → Option (List Plain) → Type 0
 IsTold files choice truth None None = Unit {0}
 IsTold files choice truth None (Some ps) = ⊥
 IsTold files choice truth (Some k) None = (ps : List Plain) → Space files truth choice k ps → ⊥
 IsTold files choice truth (Some k) (Some ps) = Space files truth choice k ps
 
--- the default that is told of the type statement at an offset of a file
+-- the default that is known of the type statement at an offset of a file
 abbrev pub default_at : Types → ℕ → ℕ → Option TextInFile
-default_at types file offset = option_and_then (found_in types.defaults) (placed_in types.places file offset)
+default_at types file offset =
+    option_and_then (found_in types.defaults) (placed_in types.places file offset)
 
 -- the number of the list of plain types of the numbered type, and that of the typedef that says its
 -- default
 abbrev pub sharing_of : Types → ℕ → Option (ℕ × ℕ)
 sharing_of types k =
-    option_and_then (λ (e : ℕ × List Plain). option_map (λ typedef. (e.0, typedef)) (typedef_in types.defaults k)) (entry_at types.spaces k)
+    option_and_then (λ (e : ℕ × List Plain). option_map (λ typedef. (e.0, typedef))
+    (typedef_in types.defaults k)) (entry_at types.spaces k)
 
 -- those of the type statement at an offset of a file
 abbrev pub sharing_at : Types → ℕ → ℕ → Option (ℕ × ℕ)
-sharing_at types file offset = option_and_then (sharing_of types) (placed_in types.places file offset)
+sharing_at types file offset =
+    option_and_then (sharing_of types) (placed_in types.places file offset)
 
 -- this is the default of the type of this number by its typedefs; none, where there is no type
 abbrev pub IsDefault : Files → Option ℕ → Option TextInFile → Type 0
 IsDefault files None default = default ≡ None
 IsDefault files (Some k) default = HasDefault files k default
 
--- what is told of the type statement at an offset of a file as a leafref
+-- what is known of the type statement at an offset of a file as a leafref
 abbrev pub referring_at : Types → ℕ → ℕ → Option TypeLeafref
-referring_at types file offset = option_and_then (leafref_in types.leafrefs) (placed_in types.places file offset)
+referring_at types file offset =
+    option_and_then (leafref_in types.leafrefs) (placed_in types.places file offset)
 
 -- this is what the type of this number says as a leafref; nothing, where there is no type
 abbrev pub IsReferring : Files → Option ℕ → Option TypeLeafref → Type 0

@@ -22,18 +22,22 @@ use yv_statement::Stop;
 /// from unions and identityrefs share the lists of these, and so do identityrefs with the same
 /// bases; each with bases of its own takes the time that `Identities::of` names.
 pub fn types(alloc: Global, linked: &Linked<'_, '_>, names: &Names) -> Result<Types, Stop>
+    // They are the plain types of these files under their selection.
     ensures makes { IfOk result
         (λ types. (files : Files) (choice : Selected) → AreLinked files choice linked.now
         → AreNames files names.now
         → AreTypes files choice (truth_in linked.now) types) }
+    // Types are returned only if nothing is refused of them.
     ensures clear { OnOk result
         ((files : Files) (choice : Selected) → AreLinked files choice linked.now
         → AreNames files names.now
         → IsLeast (BadTypes files (truth_in linked.now)) None) }
+    // A refusal is the least that applies to them.
     ensures refusal { (r : Refusal) → result ≡ Err (Fault r)
         → (files : Files) (choice : Selected) → AreLinked files choice linked.now
         → AreNames files names.now
         → IsLeast (BadTypes files (truth_in linked.now)) (Some r) }
+    // `PatternBuild` is returned only if a type has a pattern.
     ensures builds { result ≡ Err PatternBuild
         → (files : Files) (choice : Selected) → AreLinked files choice linked.now
         → HasTypePattern files }
@@ -60,20 +64,25 @@ pub fn types(alloc: Global, linked: &Linked<'_, '_>, names: &Names) -> Result<Ty
 /// The same, by the names of the linked files themselves, so that a caller cannot pass those of
 /// others. What types and uses mean is refused before what is wrong with the types.
 pub fn resolve_types(alloc: Global, linked: &Linked<'_, '_>) -> Result<Types, Stop>
+    // They are the plain types of these files under their selection.
     ensures makes { IfOk result
         (λ types. (files : Files) (choice : Selected) → AreLinked files choice linked.now
         → AreTypes files choice (truth_in linked.now) types) }
+    // Types are returned only if nothing is refused of the names.
     ensures names { OnOk result
         ((files : Files) (choice : Selected) → AreLinked files choice linked.now
         → IsLeast (BadNames files) None) }
+    // Nor is anything refused of the types.
     ensures clear { OnOk result
         ((files : Files) (choice : Selected) → AreLinked files choice linked.now
         → IsLeast (BadTypes files (truth_in linked.now)) None) }
+    // A refusal is the least of the names, or, if nothing is refused of these, of the types.
     ensures refusal { (r : Refusal) → result ≡ Err (Fault r)
         → (files : Files) (choice : Selected) → AreLinked files choice linked.now
         → IsLeast (BadNames files) (Some r)
         ⊎ (IsLeast (BadNames files) None
         × IsLeast (BadTypes files (truth_in linked.now)) (Some r)) }
+    // `PatternBuild` is returned only if a type has a pattern.
     ensures builds { result ≡ Err PatternBuild
         → (files : Files) (choice : Selected) → AreLinked files choice linked.now
         → HasTypePattern files }

@@ -60,8 +60,11 @@ impl TypedefDefaults {
     /// the file in which it is written: that of the nearest typedef that says one. None for other
     /// statements, and for types that name built-in types.
     pub fn of(&self, number: usize) -> Option<&WrittenText>
+        // The default of the type statement of this number, that of the nearest typedef that states
+        // one, with its file; none for all else.
         ensures tells { (files : Files) → AreDefaults files self.now
             → HasDefault files number (option_map written_of (option_copied result)) }
+        // The same, as what is recorded at the number.
         ensures same { option_map written_of (option_copied result) ≡ found_in self.now number }
     {
         let typedef = *self.found.get(number)?;
@@ -71,7 +74,9 @@ impl TypedefDefaults {
     /// The number of the typedef that says this default. Types with the same one have the same
     /// default.
     pub fn typedef(&self, number: usize) -> Option<usize>
+        // What is recorded as the typedef that states this default.
         ensures number { result ≡ typedef_in self.now number }
+        // Types with the same typedef have the same default.
         ensures same { (j : ℕ) → typedef_in self.now j ≡ result → found_in self.now j
             ≡ found_in self.now number }
     {

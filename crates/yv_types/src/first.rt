@@ -27,11 +27,14 @@ pub fn first_bad_type(
     linked: &Linked<'_, '_>,
     names: &Names,
 ) -> Result<Option<Refusal>, Stop>
+    // Only that least refusal, or none.
     ensures least { IfOk result
         (λ fault. (files : Files) (choice : Selected) → AreLinked files choice linked.now
         → AreNames files names.now
         → IsLeast (BadTypes files (truth_in linked.now)) fault) }
+    // No refusal is an error here.
     ensures faultless { (r : Refusal) → result ≢ Err (Fault r) }
+    // `PatternBuild` is returned only if a type has a pattern.
     ensures builds { result ≡ Err PatternBuild
         → (files : Files) (choice : Selected) → AreLinked files choice linked.now
         → HasTypePattern files }

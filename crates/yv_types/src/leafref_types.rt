@@ -46,8 +46,12 @@ impl LeafrefTypes {
     /// typedefs, and what the nearest `require-instance` on this way says. None for types that lead
     /// to no leafref, and for other statements.
     pub fn of(&self, number: usize) -> Option<TypeLeafref>
+        // The leafref of the type of this number: the `type leafref` statement that gives its path,
+        // and whether an instance is required, by the nearest `require-instance`; nothing for all
+        // else.
         ensures tells { (files : Files) → AreLeafrefTypes files self.now
             → HasReferral files number result }
+        // The same, as what is recorded at the number.
         ensures same { result ≡ found_in self.now number }
     {
         self.found.get(number).copied()

@@ -28,7 +28,7 @@ fn name_at<'a>(rows: &Rows<'a, '_>, number: usize) -> &'a str
     }
 }
 
-// Lets a prefix stand for a module.
+// Makes a prefix refer to a module.
 fn bind(alloc: Global, scope: &mut Scope, prefix: &str, module_file: &str) -> Result<(), AllocError>
     ensures { OnOk result
         (place_of scope.new

@@ -126,7 +126,7 @@ pub(crate) fn list_of(
     }
 }
 
-// Puts copies of types behind others.
+// Puts copies of types after others.
 fn extend(all: &mut Vec<PlainType>, types: &[PlainType]) -> Result<(), AllocError>
     ensures { OnOk result
         (map plain_of all.new.items ≡ map plain_of all.old.items ++ map plain_of types.now) }

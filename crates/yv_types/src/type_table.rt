@@ -39,6 +39,8 @@ impl Types {
     /// values are its target's. None where there is no type, and for types that lead to
     /// instance-identifier and unions with such a member. Takes time log n.
     pub fn plain(&self, file: u32, offset: u64) -> Option<&[PlainType]>
+        // The plain types of the type statement at an offset of a file, unions opened in order;
+        // none only if it has none.
         ensures tells { (files : Files) (choice : Selected) (truth : Truth)
             → AreTypes files choice truth self.now
             → IfSome result
@@ -58,17 +60,20 @@ impl Types {
 
     /// The same for a type statement of a file, by the place of its keyword.
     pub fn plain_of(&self, file: u32, statement: &Statement<'_>) -> Option<&[PlainType]>
+        // The plain types of the type statement of the file that begins where this one does.
         ensures tells { (files : Files) (choice : Selected) (truth : Truth)
             → AreTypes files choice truth self.now
             → IfSome result
             (λ types. (k : ℕ)
             × (number_at (rows_of files) (codes "type") file statement.now.head.offset ≡ Some k)
             × Space files truth choice k (map plain_of types.now)) }
+        // Without an answer the statement has no plain types.
         ensures none { (files : Files) (choice : Selected) (truth : Truth)
             → AreTypes files choice truth self.now
             → result ≡ None → (k : ℕ)
             → number_at (rows_of files) (codes "type") file statement.now.head.offset ≡ Some k
             → (types : List Plain) → Space files truth choice k types → ⊥ }
+        // The same, as what is recorded at the place.
         ensures same { option_map (λ types. map plain_of types.now) result
             ≡ space_at self.now file statement.now.head.offset }
     {
@@ -77,17 +82,20 @@ impl Types {
 
     /// The same, as the list itself, which its types share.
     pub fn at(&self, file: u32, offset: u64) -> Result<Option<RcSlice<PlainType>>, AllocError>
+        // The plain types of the type statement at this place, as a shared list.
         ensures tells { IfOk result
             (λ found. (files : Files) (choice : Selected) (truth : Truth)
             → AreTypes files choice truth self.now
             → IfSome found
             (λ types. (k : ℕ) × (number_at (rows_of files) (codes "type") file offset ≡ Some k)
             × Space files truth choice k (map plain_of (rc_slice_items types)))) }
+        // Without an answer the statement has no plain types.
         ensures none { IfOk result
             (λ found. (files : Files) (choice : Selected) (truth : Truth)
             → AreTypes files choice truth self.now
             → found ≡ None → (k : ℕ) → number_at (rows_of files) (codes "type") file offset ≡ Some k
             → (types : List Plain) → Space files truth choice k types → ⊥) }
+        // The same, as what is recorded at the place.
         ensures same { IfOk result
             (λ found. option_map (λ types. map plain_of (rc_slice_items types)) found
             ≡ space_at self.now file offset) }
@@ -115,7 +123,10 @@ impl Types {
     /// file, and of the typedef that says its default. Type statements with the same numbers have
     /// the same plain types and the same default. None where there is no list or no default.
     pub fn sharing_at(&self, file: u32, offset: u64) -> Option<(usize, usize)>
+        // What is recorded as the numbers of the plain types and of the default of the type
+        // statement at an offset of a file.
         ensures numbers { result ≡ sharing_at self.now file offset }
+        // Type statements with the same numbers have the same plain types and the same default.
         ensures same { (f o : ℕ) (numbers : ℕ × ℕ) → result ≡ Some numbers → sharing_at self.now f o
             ≡ Some numbers
             → (space_at self.now f o ≡ space_at self.now file offset)

@@ -38,7 +38,8 @@ noted_at s notes n = note_value s n (get_by (nat_cmp n) notes.values)
 -- more notes, with these values of leafs that make entries differ: nothing asks for the notes of
 -- others
 pub record Gains (s : Rows) (old new : Notes) (values : ℕ → Option Val) : Type 0 where
-  pub each : (n : ℕ) → is_named s n ≡ true → noted_at s new n ≡ or_else (values n) (noted_at s old n)
+  pub each : (n : ℕ) → is_named s n ≡ true
+      → noted_at s new n ≡ or_else (values n) (noted_at s old n)
 
 -- the value of a leaf in the entry in which a spot is, of what is met
 abbrev pub own_value : Spot → List Meeting → ℕ → Option Val
@@ -46,7 +47,8 @@ own_value spot ms n = value_in spot.entry n (values_in ms)
 
 -- with the values of what is met in an entry, wherever that is: objects in it have greater numbers
 abbrev pub GainsBy : Rows → Notes → Notes → (Spot → ℕ → List Meeting) → Type 0
-GainsBy s old new met_at = (spot : Spot) (next : ℕ) → spot.entry < next → Gains s old new (own_value spot (met_at spot next))
+GainsBy s old new met_at = (spot : Spot) (next : ℕ) → spot.entry < next
+    → Gains s old new (own_value spot (met_at spot next))
 
 -- a tuple of what was noted at an entry, if it is an object
 abbrev pub tuple_in : Rows → Option Notes → List (Option NodeId) → Option (List Val)
@@ -62,6 +64,8 @@ abbrev pub HasTuple : Kind → Rows → NodeId → Option Notes → Data → Lis
 HasTuple k s n notes d leafs = tuple_in s notes leafs ≡ list_tuple k s n leafs d
 
 -- for those of the list's key and of its `unique` statements
-pub record HasTuples (k : Kind) (s : Rows) (n : NodeId) (notes : Option Notes) (d : Data) : Type 0 where
+pub record HasTuples (k : Kind) (s : Rows) (n : NodeId) (notes : Option Notes)
+    (d : Data) : Type 0 where
   pub keys : HasTuple k s n notes d (keys_at s n)
-  pub uniques : (i : ℕ) → i < length (uniques_at s n) → HasTuple k s n notes d (slice_index_or (uniques_at s n) i [])
+  pub uniques : (i : ℕ) → i < length (uniques_at s n)
+      → HasTuple k s n notes d (slice_index_or (uniques_at s n) i [])

@@ -108,7 +108,8 @@ work_in w ms = work w.kind w.schema.now (object ms)
 
 -- the most steps that a document may take
 abbrev pub most_work : Rows → Data → ℕ
-most_work s d = (size d + 1) * ((measures_of (whole s)).m + (measures_of (whole s)).u + (measures_of (whole s)).w + 1)
+most_work s d = (size d + 1) *
+    ((measures_of (whole s)).m + (measures_of (whole s)).u + (measures_of (whole s)).w + 1)
 
 -- these faults are reported, after the others
 abbrev pub Reports : Flaws → Flaws → List Flaw → Type 0
@@ -133,17 +134,22 @@ next_at p = next_of (progress_view p)
 -- whatever entry it is in
 abbrev pub GrowsAt : Walk → Visit → Progress → Progress → (Spot → ℕ → List Meeting) → Type 0
 GrowsAt w v old new met_at = (outer : List ℕ) (entry : ℕ)
-    → GrowsBy w old new (met_at (spot_at w.schema.now v.path.now v.position outer entry) (next_at old))
+    → GrowsBy w old new (met_at (spot_at w.schema.now v.path.now v.position outer entry)
+    (next_at old))
 
 -- by that, and by faults of the node's own after it
-abbrev pub GrowsWithAt : Walk → Visit → Progress → Progress → (Spot → ℕ → List Meeting) → List Flaw → Type 0
+abbrev pub GrowsWithAt : Walk → Visit → Progress → Progress → (Spot → ℕ → List Meeting) → List Flaw
+    → Type 0
 GrowsWithAt w v old new met_at own = (outer : List ℕ) (entry : ℕ)
-    → GrowsWith w.kind w.schema.now (progress_view old) (progress_view new) (met_at (spot_at w.schema.now v.path.now v.position outer entry) (next_at old)) own
+    → GrowsWith w.kind w.schema.now (progress_view old) (progress_view new)
+    (met_at (spot_at w.schema.now v.path.now v.position outer entry) (next_at old)) own
 
 -- by that, and by the node itself, whose visit is counted already
-abbrev pub ClosesAt : Walk → Visit → Progress → Progress → (Spot → ℕ → List Meeting) → (Spot → Node) → Type 0
+abbrev pub ClosesAt : Walk → Visit → Progress → Progress → (Spot → ℕ → List Meeting) → (Spot → Node)
+    → Type 0
 ClosesAt w v old new met_at node_of = (outer : List ℕ) (entry : ℕ)
-    → Closes w.kind w.schema.now (progress_view old) (progress_view new) (met_at (spot_at w.schema.now v.path.now v.position outer entry) (next_at old))
+    → Closes w.kind w.schema.now (progress_view old) (progress_view new)
+    (met_at (spot_at w.schema.now v.path.now v.position outer entry) (next_at old))
     (node_of (spot_at w.schema.now v.path.now v.position outer entry))
 
 -- what is written for a node, where something is
@@ -151,14 +157,17 @@ abbrev pub data_of : Option (Bor Value) → Option Data
 data_of value = option_map (λ v. view v.now) value
 
 -- the same of a data node for which this is written, whatever members write it
-abbrev pub ClosesData : Walk → Visit → Progress → Progress → Option (Bor Value) → (Option Data → Spot → ℕ → List Meeting) → Type 0
+abbrev pub ClosesData : Walk → Visit → Progress → Progress → Option (Bor Value)
+    → (Option Data → Spot → ℕ → List Meeting) → Type 0
 ClosesData w v old new value met_of = (ms : Members) → Writes w.schema.now v.id (data_of value) ms
     → ClosesAt w v old new (met_of (data_of value)) (node_at w.schema.now v.scope v.id ms)
 
 -- and of the values of leafs that are noted
-abbrev pub GainsData : Walk → Visit → Notes → Notes → Option (Bor Value) → (Option Data → Spot → ℕ → List Meeting) → Type 0
+abbrev pub GainsData : Walk → Visit → Notes → Notes → Option (Bor Value)
+    → (Option Data → Spot → ℕ → List Meeting) → Type 0
 GainsData w v old new value met_of = (ms : Members) → Writes w.schema.now v.id (data_of value) ms
-    → GainsBy w.schema.now old new (with_node (met_of (data_of value)) (node_at w.schema.now v.scope v.id ms))
+    → GainsBy w.schema.now old new
+    (with_node (met_of (data_of value)) (node_at w.schema.now v.scope v.id ms))
 
 -- ---- what is met in an object
 
@@ -172,11 +181,13 @@ met_in_cases w n c = cases_met w.kind w.schema.now n (members_of c)
 
 -- its default case, where none of its cases exists
 abbrev pub fallback_in : Walk → NodeId → Context → Option NodeId
-fallback_in w n c = if any (existence_of (rank n) (below w.schema.now n) (members_of c)) then None else default_case_at w.schema.now.nodes n
+fallback_in w n c = if any (existence_of (rank n) (below w.schema.now n) (members_of c)) then None
+    else default_case_at w.schema.now.nodes n
 
 -- at a node whose surroundings have this scope
 abbrev pub met_at_node : Walk → Visit → Context → Spot → ℕ → List Meeting
-met_at_node w v c = one_met w.kind w.schema.now (scope_at w.kind w.schema.now v.scope v.id) v.id (members_of c)
+met_at_node w v c =
+    one_met w.kind w.schema.now (scope_at w.kind w.schema.now v.scope v.id) v.id (members_of c)
 
 -- at a data node, but for the node itself
 abbrev pub met_at_data : Walk → Visit → Option Data → Spot → ℕ → List Meeting
@@ -188,7 +199,8 @@ met_in_container w v value = container_at w.kind w.schema.now v.scope v.id (data
 
 -- the default of a leaf, where it is in use
 abbrev pub default_in_use : Walk → Visit → Option Val
-default_in_use w v = if uses_defaults v.scope then default_value (row_at w.schema.now v.id).label else None
+default_in_use w v =
+    if uses_defaults v.scope then default_value (row_at w.schema.now v.id).label else None
 
 -- at a list, and at its entries
 abbrev pub met_in_list : Walk → Visit → Option (Bor Value) → Spot → ℕ → List Meeting
@@ -199,11 +211,13 @@ met_in_entries w v ds = entries_at w.kind w.schema.now v.id [] ds
 
 -- at an item after these
 abbrev pub met_at_item : Walk → Visit → List Data → Data → Spot → ℕ → List Meeting
-met_at_item w v before d spot next = at_value (written_at w.schema.now v.id (Some before) d spot) ∷ []
+met_at_item w v before d spot next =
+    at_value (written_at w.schema.now v.id (Some before) d spot) ∷ []
 
 -- in an object of a node, and where it is to be
 abbrev pub met_in_object : Walk → Visit → Option ℕ → List ℕ → ℕ → Progress → Data → List Meeting
-met_in_object w v item outer entry old d = object_at w.kind w.schema.now v.id item v.path.now outer entry (next_at old) d
+met_in_object w v item outer entry old d =
+    object_at w.kind w.schema.now v.id item v.path.now outer entry (next_at old) d
 
 -- the value of what is written for a leaf or an item
 abbrev pub value_at : Walk → Visit → Value → Option Val
@@ -228,7 +242,8 @@ abbrev pub value_found_at : Walk → Visit → Option ℕ → Option Val → Fin
 value_found_at w v item value = value_found w.schema.now v.id v.position item value
 
 abbrev pub all_defaults_found : Walk → Visit → FindingsView
-all_defaults_found w v = defaults_found w.schema.now v.id v.position (defaults_of (row_at w.schema.now v.id).label)
+all_defaults_found w v =
+    defaults_found w.schema.now v.id v.position (defaults_of (row_at w.schema.now v.id).label)
 
 abbrev pub default_found : Walk → Visit → FindingsView
 default_found w v = empty_found w.schema.now v.scope v.id v.position

@@ -18,6 +18,7 @@ use Rattle.yv_leafref_values.specs.Meetings.{all_met, Meeting, stand, at_value, 
 use Rattle.yv_leafref_values.specs.References.{lookups_at}
 use Rattle.yv_validate.specs.Faults.{item_tuple, Leafs, leafs_of, tuple_at}
 
+-- the steps for the members of an object
 abbrev pub object_work : Data → ℕ
 object_work (object ms) = members_len ms
 object_work _ = 0
@@ -36,13 +37,17 @@ item_work l (Some before) d = tuple_work (item_tuple l d)
 abbrev pub value_work : Label → Data → ℕ
 value_work l d = types_tried l.defined.types l.module_name d
 
-abbrev pub uniques_work : (List (Option NodeId) → Data → Option (List Val)) → List (List (Option NodeId)) → Data → ℕ
+-- the steps for the `unique` statements of a list entry
+abbrev pub uniques_work : (List (Option NodeId) → Data → Option (List Val))
+    → List (List (Option NodeId)) → Data → ℕ
 uniques_work tuple [] d = 0
 uniques_work tuple (leafs ∷ rest) d = tuple_work (tuple leafs d) + uniques_work tuple rest d
 
+-- the steps for the key and the `unique` statements of a list entry
 abbrev pub end_work : Leafs → (List (Option NodeId) → Data → Option (List Val)) → Data → ℕ
 end_work leafs tuple d = tuple_work (tuple leafs.keys d) + uniques_work tuple leafs.uniques d
 
+-- the steps for what is met
 abbrev pub work_at : Kind → Rows → Meeting → ℕ
 work_at k s (stand m) = object_work m.found
 work_at k s (at_value m) = value_work m.label m.found + item_work m.label m.before m.found

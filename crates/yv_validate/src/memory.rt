@@ -1,4 +1,4 @@
-//! Items of arrays that stood before.
+//! Items of arrays that came before.
 ghost use Rattle.std.specs.Prelude.{◌≡◌, ◌+◌, ◌∷◌, [], IfOk, OnOk, option_map, if◌then◌else◌};
 ghost use Rattle.yv_values.specs.Count.{count_up};
 ghost use Rattle.yv_validate.specs.{InnerMemory.{Tells}, Work.{tuple_work}};
@@ -6,7 +6,7 @@ ghost use Rattle.yv_validate.specs.{InnerMemory.{Tells}, Work.{tuple_work}};
 use std::alloc::{AllocError, Global};
 use yv_values::{Index, Meter, Tuple, Value};
 
-/// The least place at which a tuple stood before; it is kept, where there is one.
+/// The least place at which a tuple came before; it is kept, where there is one.
 pub(crate) fn stood_before(
     tuple: Option<Tuple>,
     place: u64,

@@ -41,12 +41,21 @@ pub fn validate(
     document: &Value,
     kind: Kind,
 ) -> Result<Report, AllocError>
+    // The document has at most 16,777,216 members and items.
     requires size { size (view document.now) ≤ 16777216 }
+    // It nests at most 127 deep.
     requires nests { nesting (view document.now) ≤ 127 }
+    // The list of faults equals the definition's for this kind of document, element by element: the
+    // errors in the data, followed by each value of a leafref that equals none of those that its
+    // path reaches. A fault of an entry or item that repeats others has the number of the first of
+    // these.
     ensures faults { IfOk result
         (λ r. r.faults.items ≡ all_faults kind schema.now (view document.now)) }
+    // The steps that are counted are those of the definition: one for each check and look-up.
     ensures steps { IfOk result
         (λ r. r.steps ≡ count_up (work kind schema.now (view document.now))) }
+    // They are at most `(n + 1) * (m + u + w + 1)`, where n counts the members and items, and m, u
+    // and w are the measures of the schema.
     ensures bound { IfOk result (λ r. r.steps ≤ (size (view document.now) + 1)
         *
         ((measures_of (whole schema.now)).m + (measures_of (whole schema.now)).u
@@ -255,7 +264,7 @@ impl<'a> Walk<'a> {
     }
 
     // The place of the child that is met next, from this one on. A run is looked for only where the
-    // child before was passed over: then those behind it are often not in the object either.
+    // child before was passed over: then those after it are often not in the object either.
     fn next_place(
         &self,
         runs: &[Run],
@@ -470,7 +479,7 @@ impl<'a> Walk<'a> {
         }
     }
 
-    // State, where configuration alone is asked for: it may not be there, and what is written of it
+    // State, where configuration only is asked for: it may not be there, and what is written of it
     // isn't entered.
     #[cycle(walk)]
     fn state(

@@ -89,7 +89,7 @@ impl Walk<'_> {
     }
 
     // Tells that an entry has the values of an earlier one, of this place, for the `unique`
-    // statement behind so many, where there is one.
+    // statement after so many, where there is one.
     fn tell_unique(
         &self,
         first: Option<u64>,

@@ -16,32 +16,38 @@ pub record Id : Type 0 where
   pub module_file : List ℕ
   pub name : List ℕ
 
+-- the module and the name of an identity
 abbrev pub id_of : Member → Id
 id_of m = record { module_file = rc_str_bytes m.module; name = rc_str_bytes m.name }
 
 -- by module, and then by name
 abbrev pub id_cmp : Id → Id → Ordering
-id_cmp i j = ordering_then (slice_cmp nat_cmp i.module_file j.module_file) (slice_cmp nat_cmp i.name j.name)
+id_cmp i j =
+    ordering_then (slice_cmp nat_cmp i.module_file j.module_file) (slice_cmp nat_cmp i.name j.name)
 
--- each of these identities stands before all behind it, so that none stands twice
+-- each of these identities comes before all after it, so that none is there twice
 abbrev pub RiseById : List Id → Type 0
 RiseById = IsStrictlySortedBy id_cmp
 
+-- an identity has this module and name
 abbrev pub is_identity : List ℕ → List ℕ → Id → Bool
 is_identity module_file called i = bytes_eq i.module_file module_file && bytes_eq i.name called
 
 -- the identity of this module and name, where it is one of these (section 9.10)
 abbrev pub identity_in : List Id → List ℕ → List ℕ → Option Val
-identity_in ids module_file called = if list_any (is_identity module_file called) ids then Some (identity module_file called) else None
+identity_in ids module_file called = if list_any (is_identity module_file called) ids
+    then Some (identity module_file called) else None
 
 -- an identity with a number
 pub record NumberedId : Type 0 where
   pub id : Id
   pub number : ℕ
 
+-- an identity with its number
 abbrev pub numbered_of : NumberedMember → NumberedId
 numbered_of m = record { id = id_of m.member; number = m.number }
 
+-- identities without their numbers
 abbrev pub ids_of : List NumberedId → List Id
 ids_of all = map (λ (e : NumberedId). e.id) all
 

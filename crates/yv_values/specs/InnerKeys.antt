@@ -1,4 +1,4 @@
--- For private clauses alone: the values of a key, and the order of keys.
+-- For private clauses only: the values of a key, and the order of keys.
 use Rattle.std.specs.Prelude.{ℕ, List, [], ◌∷◌, map}
 use Rattle.std.specs.Cmp.{IsTotalOrder, on_total, then_total, nat_cmp_total}
 use Rattle.std.specs.Cmp.Lexicographic.{slice_cmp, lists_total}
@@ -34,10 +34,12 @@ numbers_of atoms = map number_of atoms
 -- the order of values in a row: by their numbers, and where these are the same, by all that they
 -- are
 abbrev pub row_cmp : List Atom → List Atom → Ordering
-row_cmp xs ys = ordering_then (slice_cmp nat_cmp (numbers_of xs) (numbers_of ys)) (slice_cmp cmp-value.it xs ys)
+row_cmp xs ys =
+    ordering_then (slice_cmp nat_cmp (numbers_of xs) (numbers_of ys)) (slice_cmp cmp-value.it xs ys)
 
 abbrev pub key_cmp : Key → Key → Ordering
 key_cmp x y = row_cmp (atoms_of x) (atoms_of y)
 
 pub key_total : IsTotalOrder key_cmp
-key_total = on_total atoms_of (then_total (on_total numbers_of (lists_total nat_cmp_total)) (lists_total total-law))
+key_total = on_total atoms_of
+    (then_total (on_total numbers_of (lists_total nat_cmp_total)) (lists_total total-law))

@@ -1,4 +1,4 @@
--- For private clauses alone: an index as its keys, each with its places.
+-- For private clauses only: an index as its keys, each with its places.
 use Rattle.std.specs.Prelude.{ℕ, ◌<◌, List, [], ◌∷◌, ◌++◌, length, map, ⊤}
 use Rattle.yv_values.specs.InnerKeys.{key_of}
 use Rattle.yv_values.specs.Pairs.{Pair, Keeps}
@@ -21,7 +21,8 @@ abbrev pub pairs_of : List (Key × List ℕ) → List Pair
 pairs_of [] = []
 pairs_of (e ∷ es) = pairs_at (key_of e.0) e.1 ++ pairs_of es
 
--- each key has a place, and none stands twice
+-- each key has a place, and none is there twice
 abbrev pub AreApart : List (Key × List ℕ) → Type 0
 AreApart [] = ⊤
-AreApart (e ∷ es) = (0 < length e.1) × ((p : ℕ) → Keeps (pairs_of es) (key_of e.0) p → ⊥) × AreApart es
+AreApart (e ∷ es) =
+    (0 < length e.1) × ((p : ℕ) → Keeps (pairs_of es) (key_of e.0) p → ⊥) × AreApart es

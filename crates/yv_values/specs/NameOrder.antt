@@ -10,6 +10,6 @@ use Rattle.std.specs.Str.{bytes_eq}
 abbrev pub is_named : List (List ℕ) → List ℕ → Bool
 is_named names s = list_any (λ n. bytes_eq n s) names
 
--- each of these texts stands before all behind it, so that none stands twice
+-- each of these texts comes before all after it, so that none is there twice
 abbrev pub Rises : List (List ℕ) → Type 0
 Rises = IsStrictlySortedBy (slice_cmp nat_cmp)

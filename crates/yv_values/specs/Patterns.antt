@@ -7,5 +7,6 @@ pub record Test : Type 0 where
   pub source : List ℕ
   pub inverted : Bool
 
+-- a pattern that a text has to match, or must not match
 abbrev pub test_of : PatternTest → Test
 test_of t = record { source = t.pattern.value; inverted = t.is_inverted }

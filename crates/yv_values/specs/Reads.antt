@@ -10,9 +10,11 @@ use Rattle.yv_values.specs.Texts.{text_in, name_in, bits_in, binary_in, identity
 use Rattle.yv_values.specs.Types.{Plain, wholes, decimals, strings, booleans, names, flags, octets, identities, empties}
 use Rattle.yv_values.specs.Values.{Val, whole, decimal, boolean, empty}
 
+-- a whole number, if it is in one of the intervals
 abbrev pub whole_in : List Interval → ℤ → Option Val
 whole_in spans z = if are_among spans z then Some (whole z) else None
 
+-- a decimal, if it is in one of the intervals
 abbrev pub decimal_in : ℕ → List Interval → ℤ → Option Val
 decimal_in digits spans z = if are_among spans z then Some (decimal digits z) else None
 
@@ -22,6 +24,7 @@ whole_from true spans (string s) = option_and_then (whole_in spans) (integer_of 
 whole_from false spans (number n) = option_and_then (whole_in spans) (as_integer n)
 whole_from _ spans _ = None
 
+-- the value of a Boolean (RFC 7951, section 6.3)
 abbrev pub boolean_from : Data → Option Val
 boolean_from (truth b) = Some (boolean b)
 boolean_from _ = None
@@ -32,13 +35,15 @@ is_lone_null no_items = false
 is_lone_null (item d no_items) = is_some (as_null d)
 is_lone_null (item d (item e ds)) = false
 
+-- the value of type empty (RFC 7951, section 6.9)
 abbrev pub empty_from : Data → Option Val
 empty_from (array ds) = if is_lone_null ds then Some empty else None
 empty_from _ = None
 
 -- the value of a JSON text by a type that JSON writes as texts
 abbrev pub string_in : Plain → List ℕ → List ℕ → Option Val
-string_in (decimals digits spans) m s = option_and_then (decimal_in digits spans) (scaled_of digits s)
+string_in (decimals digits spans) m s =
+    option_and_then (decimal_in digits spans) (scaled_of digits s)
 string_in (strings lengths tests) m s = text_in lengths tests s
 string_in (names ns) m s = name_in ns s
 string_in (flags ns) m s = bits_in ns s
@@ -46,6 +51,7 @@ string_in (octets lengths) m s = binary_in lengths (decode_of standard s)
 string_in (identities ids) m s = identity_at ids m s (position (λ b. b == 58) s)
 string_in _ m s = None
 
+-- the value that a string writes
 abbrev pub string_from : Plain → List ℕ → Data → Option Val
 string_from p m (string s) = string_in p m s
 string_from p m _ = None
@@ -57,6 +63,7 @@ read_kind booleans m d = boolean_from d
 read_kind empties m d = empty_from d
 read_kind p m d = string_from p m d
 
+-- the first value, or else the second
 abbrev pub or_else : Option Val → Option Val → Option Val
 or_else (Some v) w = Some v
 or_else None w = w

@@ -6,6 +6,7 @@ use Rattle.std.specs.Str.{bytes_eq}
 use mathlib.Core.Bool.{beq}
 use Rattle.yv_values.specs.Values.{Val, whole, decimal, text, boolean, name, bits, binary, identity, empty}
 
+-- two values are the same
 abbrev pub same_value : Val → Val → Bool
 same_value (whole x) (whole y) = int_eq x y
 same_value (decimal d x) (decimal e y) = d == e && int_eq x y

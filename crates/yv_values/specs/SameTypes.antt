@@ -3,6 +3,7 @@ use Rattle.std.specs.Prelude.{Bool, true, false, List, [], ◌∷◌}
 use Rattle.yv_base_numbers.specs.Intervals.{Interval}
 use Rattle.yv_values.specs.Types.{Plain, wholes, strings, booleans, empties}
 
+-- there is one interval
 abbrev pub is_one : List Interval → Bool
 is_one (i ∷ []) = true
 is_one _ = false

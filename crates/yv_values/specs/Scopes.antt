@@ -21,23 +21,29 @@ pub record Place : Type 0 where
   pub module_file : List ℕ
   pub bindings : List PrefixBinding
 
+-- a prefix with the module that it refers to
 abbrev pub binding_of : String Global × String Global → PrefixBinding
 binding_of p = record { prefix = string_bytes p.0; module_file = string_bytes p.1 }
 
+-- a module with the prefixes that are declared there
 abbrev pub place_of : Scope → Place
-place_of s = record { module_file = string_bytes s.module; bindings = map binding_of s.prefixes.items }
+place_of s =
+    record { module_file = string_bytes s.module; bindings = map binding_of s.prefixes.items }
 
 -- the module that a prefix means
 abbrev pub module_of : List PrefixBinding → List ℕ → Option (List ℕ)
 module_of [] prefix = None
-module_of (b ∷ bs) prefix = if bytes_eq b.prefix prefix then Some b.module_file else module_of bs prefix
+module_of (b ∷ bs) prefix =
+    if bytes_eq b.prefix prefix then Some b.module_file else module_of bs prefix
 
 -- an identity without prefix is of the file's module
 abbrev pub identity_in_scope : List Id → Place → List ℕ → Option ℕ → Option Val
 identity_in_scope ids place s None = identity_in ids place.module_file s
 identity_in_scope ids place s (Some i) =
-    option_and_then (λ module_file. identity_in ids module_file (drop (i + 1) s)) (module_of place.bindings (take i s))
+    option_and_then (λ module_file. identity_in ids module_file (drop (i + 1) s))
+    (module_of place.bindings (take i s))
 
+-- the Boolean value that a text writes
 abbrev pub truth_of : List ℕ → Option Val
 truth_of s =
     if bytes_eq s (codes "true") then Some (boolean true)
@@ -46,7 +52,8 @@ truth_of s =
 -- the value of a text by its type (RFC 7950, section 9); no text is a value of empty
 abbrev pub text_value : Plain → List ℕ → Place → Option Val
 text_value (wholes is_text spans) s place = option_and_then (whole_in spans) (based_integer_of s)
-text_value (decimals digits spans) s place = option_and_then (decimal_in digits spans) (scaled_of digits s)
+text_value (decimals digits spans) s place =
+    option_and_then (decimal_in digits spans) (scaled_of digits s)
 text_value (strings lengths tests) s place = text_in lengths tests s
 text_value booleans s place = truth_of s
 text_value (names ns) s place = name_in ns s

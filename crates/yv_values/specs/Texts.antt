@@ -31,13 +31,15 @@ name_in names s = if is_named names s then Some (name s) else None
 
 -- so many octets, in base64 (section 9.8)
 abbrev pub binary_in : List Interval → Result (List ℕ) DecodeError → Option Val
-binary_in lengths (Ok octets) = if is_length lengths (length octets) then Some (binary octets) else None
+binary_in lengths (Ok octets) =
+    if is_length lengths (length octets) then Some (binary octets) else None
 binary_in lengths (Err e) = None
 
 -- what a text is cut into at each blank
 abbrev pub pieces : List ℕ → List (List ℕ)
 pieces s = slice_split (λ c. c == 32) s
 
+-- a text has bytes
 abbrev pub is_word : List ℕ → Bool
 is_word w = nat_lt 0 (length w)
 
@@ -45,7 +47,7 @@ is_word w = nat_lt 0 (length w)
 abbrev pub words : List ℕ → List (List ℕ)
 words s = filter is_word (pieces s)
 
--- no blank stands at an end of the text
+-- no blank is at an end of the text
 abbrev pub is_trimmed : List ℕ → Bool
 is_trimmed s = not (slice_index s 0 == 32) && not (slice_index s (length s - 1) == 32)
 
@@ -68,7 +70,7 @@ bits_in names s =
 abbrev pub HaveSameWords : List ℕ → List ℕ → Type 0
 HaveSameWords s t = (w : List ℕ) → is_named (words s) w ≡ is_named (words t) w
 
--- a plain name is of the given module; else the module's name stands before a colon
+-- a plain name is of the given module; else the module's name comes before a colon
 abbrev pub identity_at : List Id → List ℕ → List ℕ → Option ℕ → Option Val
 identity_at ids m s None = identity_in ids m s
 identity_at ids m s (Some i) = identity_in ids (take i s) (drop (i + 1) s)

@@ -9,8 +9,8 @@ use Rattle.yv_base_numbers.specs.declared.integer.Integer.TheVariants.{Natural, 
 use Rattle.yv_values.specs.declared.value.Atom.{Atom}
 use Rattle.yv_values.specs.declared.value.Atom.TheVariants as atom
 
--- A decimal is its number of digits behind the point and the number scaled by them. A set of bits
--- is its names, in ascending order by bytes. An identity is its module and its name.
+-- A decimal is its number of digits after the point and the number scaled by them. A set of bits is
+-- its names, in ascending order by bytes. An identity is its module and its name.
 pub data Val : Type 0 where
   whole : ℤ → Val
   decimal : ℕ → ℤ → Val

@@ -20,8 +20,8 @@ pub fn bits_in(alloc: Global, names: &NameSet, text: &str) -> Result<Option<Valu
 }
 
 // Whether a text has more words than so many. It looks no further than to the first that is one too
-// many, so that long texts, of which one word must stand twice or be no name, are refused without
-// being cut and sorted.
+// many, so that long texts, of which one word must be there twice or be no name, are refused
+// without being cut and sorted.
 fn has_more_words(text: &str, most: usize) -> bool
     ensures { IsTrue result → most < length (words text.now) }
 {
@@ -56,7 +56,7 @@ fn bits_of(
     }
 }
 
-// Whether no blank stands at an end.
+// Whether no blank is at an end.
 fn is_trimmed(text: &[u8]) -> bool
     ensures { result ≡ is_trimmed text.now }
 {

@@ -45,7 +45,9 @@ impl Defaults {
 
     /// These values. Takes time n log n.
     pub fn of(alloc: Global, values: Vec<Value>) -> Result<Defaults, AllocError>
+        // There are at most 1,024 values.
         requires few { length values.items ≤ Self.MOST }
+        // These values.
         ensures { IfOk result (λ defaults. defaults ≡ values.items) }
     {
         let known = index_few(alloc, values.as_slice())?;
@@ -54,7 +56,9 @@ impl Defaults {
 
     /// The values, in order.
     pub fn values(&self) -> &[Value]
+        // The values, in order, at most 1,024.
         ensures value { result.now ≡ self.now }
+        // There are at most 1,024.
         ensures few { length result.now ≤ 1024 }
     {
         self.values.as_slice()

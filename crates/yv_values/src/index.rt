@@ -45,7 +45,9 @@ impl Index {
     /// Keeps a key and its place. It counts no step: it is part of the visit or check that calls
     /// it. It costs least where the places of a key come in ascending order.
     pub fn keep(&mut self, key: Tuple, place: u64) -> Result<(), AllocError>
+        // The pair is kept.
         ensures keeps { OnOk result (Adds self.old self.new key place) }
+        // Nothing changes if memory was refused.
         ensures same { OnErr result (self.new ≡ self.old) }
     {
         if self.add(&key, place)? {
@@ -62,8 +64,11 @@ impl Index {
         key: Tuple,
         place: u64,
     ) -> Result<Option<u64>, AllocError>
+        // The least place of the key, or else the pair is kept; one step.
         ensures least { IfOk result (λ found. IsLeast self.old key found) }
+        // Where there is none, the pair is kept, and else all stays.
         ensures keeps { AddsIfNone result self.old self.new key place }
+        // One step is counted, unless memory runs out.
         ensures steps { meter.new ≡ (if is_ok result then count_up (meter.old + 1) else meter.old) }
     {
         let found = self.find_or_keep(key, place)?;
@@ -74,7 +79,9 @@ impl Index {
     /// Whether the same key was kept at a place from the first to the last, both included. It is
     /// one step.
     pub fn within(&self, meter: &mut Meter, key: &Tuple, first: u64, last: u64) -> bool
+        // Whether the key was kept at a place from the first to the last.
         ensures finds { IsTrue result ↔ IsWithin self.now key.now first last }
+        // One step.
         ensures steps { meter.new ≡ count_up (meter.old + 1) }
     {
         meter.visit();
@@ -91,9 +98,12 @@ impl Index {
         last: u64,
         others: Option<&Defaults>,
     ) -> bool
+        // Whether the key was kept at a place from the first to the last, or is one of these other
+        // values alone.
         ensures finds { IsTrue result ↔
             (IsWithin self.now key.now first last
             ⊎ IsAlone key.now (unwrap_or (option_map (λ o. o.now) others.entry) [])) }
+        // One step.
         ensures steps { meter.new ≡ count_up (meter.old + 1) }
     {
         meter.visit();

@@ -40,7 +40,9 @@ impl Model for Members {
 impl Members {
     /// Puts the identities of a type into their order, each once.
     pub fn new(members: Vec<Member>) -> Result<Members, AllocError>
+        // The identities, each once and in the order of their modules and names.
         ensures rises { IfOk result (λ sorted. RiseById sorted) }
+        // Each is one exactly if it was one.
         ensures same { IfOk result (λ sorted. (module_file called : List ℕ) →
             identity_in sorted module_file called
             ≡ identity_in (map id_of members.items) module_file called) }
@@ -120,7 +122,9 @@ impl Members {
 
     /// The same identities once more, over the same list.
     pub fn copy(&self) -> Result<Members, AllocError>
+        // They are the same.
         ensures same { IfOk result (λ copy. copy ≡ self.now) }
+        // They are in order.
         ensures rises { IfOk result (λ copy. RiseById copy) }
     {
         Members::of_numbers(self.all.copy()?, self.low, self.high)
@@ -157,7 +161,7 @@ impl Member {
         )
     }
 
-    /// Whether its name stands before another.
+    /// Whether its name comes before another.
     pub(crate) fn is_below(&self, name: &[u8]) -> bool {
         compare(self.name.as_str().as_bytes(), name).is_lt()
     }

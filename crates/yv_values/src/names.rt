@@ -28,7 +28,9 @@ impl Model for NameSet {
 impl NameSet {
     /// Puts the names of a type into their order, each once.
     pub fn new(names: Vec<RcStr>) -> Result<NameSet, AllocError>
+        // The names, each once and in the order of their bytes.
         ensures rises { IfOk result (λ sorted. Rises sorted) }
+        // Each text is a name exactly if it was one.
         ensures same { IfOk result
             (λ sorted. (s : List ℕ) → is_named sorted s ≡ is_named (texts names.items) s) }
     {
@@ -98,7 +100,7 @@ impl NameSet {
     }
 }
 
-// Whether the one text stands before the other.
+// Whether the one text comes before the other.
 fn is_below(one: &[u8], other: &[u8]) -> bool
     ensures { result ≡ is_below one.now other.now }
 {

@@ -40,6 +40,8 @@ impl Model for NumberedMembers {
 impl NumberedMembers {
     /// Puts identities into their order; nothing, if one of them is there twice.
     pub fn new(members: Vec<NumberedMember>) -> Result<Option<NumberedMembers>, AllocError>
+        // Identities with numbers, in the order of their modules and names: each is one with its
+        // number exactly if it was one; nothing, if one is there twice.
         ensures same { IfOk result (λ found. IfSome found (λ all. (p : NumberedId → Bool)
             → list_any p all ≡ list_any p (map numbered_of members.items))) }
     {
@@ -68,7 +70,10 @@ impl NumberedMembers {
 
     /// Those whose numbers are from the low one up to the high one, and not that.
     pub fn between(&self, low: usize, high: usize) -> Result<Members, AllocError>
+        // Those whose numbers are from the low one up to the high one, and not that, over the same
+        // list.
         ensures same { IfOk result (λ members. members ≡ between self.now low high) }
+        // They are in order.
         ensures rises { IfOk result (λ members. RiseById members) }
     {
         Members::of_numbers(self.copy()?, low, high)
@@ -119,7 +124,7 @@ impl NumberedMembers {
         }
     }
 
-    // Whether the module of the identity at a place is this one or stands before it.
+    // Whether the module of the identity at a place is this one or comes before it.
     fn is_up_to(&self, place: usize, module: &[u8]) -> bool {
         match self.members.get(place) {
             Some(entry) => compare(entry.member.module.as_str().as_bytes(), module).is_le(),
@@ -185,7 +190,7 @@ impl NumberedMembers {
     }
 }
 
-// Whether this identity stands after the one before a place, where there is one.
+// Whether this identity is after the one before a place, where there is one.
 fn stands_after(members: &[NumberedMember], place: usize, module: &[u8], name: &[u8]) -> bool
     ensures { IsTrue result → 0 < place
         → (m : NumberedMember) × (slice_get members.now (place - 1) ≡ Some m)
@@ -200,7 +205,7 @@ fn stands_after(members: &[NumberedMember], place: usize, module: &[u8], name: &
     }
 }
 
-// Whether this identity stands before the one at a place, where there is one.
+// Whether this identity comes before the one at a place, where there is one.
 fn stands_before(members: &[NumberedMember], place: usize, module: &[u8], name: &[u8]) -> bool
     ensures { IsTrue result → (m : NumberedMember) → slice_get members.now place ≡ Some m
         → id_cmp (entry_id m) record { module_file = module.now; name = name.now } ≡ Greater }
@@ -220,7 +225,7 @@ pub(crate) fn quick_order(one: &Member, other: &Member) -> Ordering {
     }
 }
 
-// Whether each identity stands before the next.
+// Whether each identity comes before the next.
 fn rise(members: &[NumberedMember]) -> bool
     ensures { IsTrue result → RiseById (map entry_id members.now) }
 {
@@ -232,7 +237,7 @@ fn rise(members: &[NumberedMember]) -> bool
     true
 }
 
-// Whether an identity stands before another.
+// Whether an identity comes before another.
 fn stands_first(one: &Member, other: &Member) -> bool
     ensures { IsTrue result → id_cmp (id_of one.now) (id_of other.now) ≡ Less }
 {

@@ -14,7 +14,7 @@ pub struct PatternTest {
     pub is_inverted: bool,
 }
 
-// Tests in order: those of one type statement, or those of two groups, one behind the other.
+// Tests in order: those of one type statement, or those of two groups, one after the other.
 #[derive(Drop)]
 enum Group {
     Own(Vec<PatternTest>),
@@ -136,7 +136,7 @@ fn has_no_test(group: &Group) -> bool
     }
 }
 
-// Puts a block behind others, joined with each at the end that is as high as what is joined so far.
+// Puts a block after others, joined with each at the end that is as high as what is joined so far.
 fn add(alloc: Global, blocks: &mut Vec<Block>, block: Block) -> Result<(), AllocError>
     ensures { OnOk result
         (tests_in blocks.new.items ≡ tests_in blocks.old.items ++ tests_of block.group.value) }

@@ -51,7 +51,9 @@ impl KeyPlaces {
 
     /// Adds a place; it costs least where the places come in ascending order.
     pub fn add(&mut self, place: u64) -> Result<(), AllocError>
+        // The place is among them.
         ensures adds { OnOk result (AddsPlace self.old self.new place) }
+        // Nothing changes if memory was refused.
         ensures same { OnErr result (self.new ≡ self.old) }
     {
         match &mut self.kept {

@@ -77,8 +77,11 @@ impl PlainType {
     /// Whether both are one type, as far as that is seen at once: types of whole numbers or of
     /// texts with one interval and without patterns, Boolean, and empty. It takes constant time.
     pub fn is_same(&self, other: &PlainType) -> bool
+        // If it is true, both are the same type.
         ensures same { result ≡ true → plain_of self.now ≡ plain_of other.now }
+        // Then it is one of these simple types.
         ensures simple { result ≡ true → IsTrue (is_simple (plain_of self.now)) }
+        // It is true of all equal types among these.
         ensures all { IsTrue (is_simple (plain_of self.now))
             → plain_of self.now ≡ plain_of other.now → result ≡ true }
     {

@@ -13,9 +13,9 @@ use yv_base_numbers::Integer;
 #[derive(PartialEq, Eq, PartialOrd, Ord, Drop)]
 pub(crate) enum Atom {
     Whole(Integer),
-    /// A decimal from zero on: its digits behind the point, and the number.
+    /// A decimal from zero on: its digits after the point, and the number.
     Decimal(u32, u64),
-    /// A decimal below zero: its digits behind the point, and n where the number is -1 - n.
+    /// A decimal below zero: its digits after the point, and n where the number is -1 - n.
     DecimalBelow(u32, u64),
     Text(RcStr),
     Boolean(bool),

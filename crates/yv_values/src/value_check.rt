@@ -33,8 +33,10 @@ pub fn check(
     module: &str,
     json: &Json,
 ) -> Result<Option<Value>, AllocError>
+    // The value of the first type that has one for this JSON value, or none.
     ensures value { IfOk result (λ found.
         found ≡ first_read (map plain_of types.now) module.now (view json.now)) }
+    // Each type that is tried is a step; where memory runs out, none is counted.
     ensures steps { meter.new ≡ (if is_ok result
         then count_up (meter.old + types_tried (map plain_of types.now) module.now (view json.now))
         else meter.old) }
@@ -58,8 +60,10 @@ pub fn check_with<'t>(
     module: &str,
     json: &Json,
 ) -> Result<Option<Value>, AllocError>
+    // The same, with matchers of patterns that are kept from one value to the next.
     ensures value { IfOk result (λ found.
         found ≡ first_read (map plain_of types.now) module.now (view json.now)) }
+    // Each type that is tried is a step; where memory runs out, none is counted.
     ensures steps { meter.new ≡ (if is_ok result
         then count_up (meter.old + types_tried (map plain_of types.now) module.now (view json.now))
         else meter.old) }

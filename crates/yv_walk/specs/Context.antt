@@ -21,7 +21,8 @@ members_len (member key d ms) = 1 + members_len ms
 -- the members that name none of these trees, in their order
 abbrev pub unknown_names : Forest → Members → List (List ℕ)
 unknown_names ts no_members = []
-unknown_names ts (member key d ms) = (if is_known ts key then [] else key ∷ []) ++ unknown_names ts ms
+unknown_names ts (member key d ms) =
+    (if is_known ts key then [] else key ∷ []) ++ unknown_names ts ms
 
 -- the node whose object it is
 abbrev pub parent_of : Context → NodeId
@@ -38,11 +39,11 @@ members_of c = elim c.members [
 abbrev pub unknown_of : Context → List (List ℕ)
 unknown_of c = map (λ k. k.now) c.unknown.items
 
--- what was looked up is what the members of the object write: the value of each data node that
--- stands in it, what exists in each choice and case that stands in it, and the members that name no
--- node
+-- what was looked up is what the members of the object write: the value of each data node that is
+-- in it, what exists in each choice and case that is in it, and the members that name no node
 pub record IsContext (s : Rows) (c : Context) : Type 0 where
-  pub values : (n : NodeId) → stands_in s (parent_of c) n ≡ true → is_data (row_at s n).label.defined.kind ≡ true
+  pub values : (n : NodeId) → stands_in s (parent_of c) n ≡ true
+      → is_data (row_at s n).label.defined.kind ≡ true
       → value_at c.values n.0 ≡ get_member (row_at s n).label.member (members_of c)
   pub marks : AreMarked s (parent_of c) c.marks (members_of c)
   pub unknown : unknown_of c ≡ unknown_names (object_trees s (parent_of c)) (members_of c)

@@ -33,7 +33,7 @@ any_but n Nothing = false
 any_but n (Only m) = not (m.0 == n.0)
 any_but n Several = true
 
--- it is no empty array
+-- it isn't an empty array
 abbrev pub has_items : Data → Bool
 has_items (array no_items) = false
 has_items _ = true
@@ -50,7 +50,7 @@ abbrev pub row_standing : NodeKind → NodeId → Option Data → Existence
 row_standing k n None = Nothing
 row_standing k n (Some d) = if is_there k d then Only n else Nothing
 
--- a choice or case exists by what stands in it
+-- a choice or case exists by what is in it
 abbrev pub kind_standing : NodeKind → NodeId → Option Data → Existence → Existence
 kind_standing k n found inner = if is_passed k then inner else row_standing k n found
 
@@ -59,33 +59,38 @@ kind_standing k n found inner = if is_passed k then inner else row_standing k n 
 abbrev pub existence_of : ℕ → Forest → Members → Existence
 existence_of first no_trees ms = Nothing
 existence_of first (tree (node l kids) ts) ms =
-    both (kind_standing l.defined.kind (record { 0 = first }) (get_member l.member ms) (existence_of (first + 1) kids ms))
+    both (kind_standing l.defined.kind (record { 0 = first }) (get_member l.member ms)
+    (existence_of (first + 1) kids ms))
     (existence_of (first + 1 + count kids) ts ms)
 
 -- those of one tree
 abbrev pub tree_standing : ℕ → Tree → Members → Existence
-tree_standing first (node l kids) ms = kind_standing l.defined.kind (record { 0 = first }) (get_member l.member ms) (existence_of (first + 1) kids ms)
+tree_standing first (node l kids) ms =
+    kind_standing l.defined.kind (record { 0 = first }) (get_member l.member ms)
+    (existence_of (first + 1) kids ms)
 
 -- how many of these trees exist
 abbrev pub count_standing : ℕ → Forest → Members → ℕ
 count_standing first no_trees ms = 0
 count_standing first (tree (node l kids) ts) ms =
-    (if any (kind_standing l.defined.kind (record { 0 = first }) (get_member l.member ms) (existence_of (first + 1) kids ms)) then 1 else 0)
+    (if any (kind_standing l.defined.kind (record { 0 = first }) (get_member l.member ms)
+    (existence_of (first + 1) kids ms)) then 1 else 0)
     + count_standing (first + 1 + count kids) ts ms
 
--- ---- where a node stands
+-- ---- where a node is
 
 -- the node is a choice or a case
 abbrev pub passes : Rows → NodeId → Bool
 passes s p = if is_root p then false else is_passed (row_at s p).label.defined.kind
 
--- the node is one of these trees' own, or stands in their choices and cases
+-- the node is one of these trees' own, or is in their choices and cases
 abbrev pub holds : ℕ → Forest → NodeId → Bool
 holds first no_trees n = false
 holds first (tree (node l kids) ts) n =
-    ((first == n.0) || (is_passed l.defined.kind && holds (first + 1) kids n)) || holds (first + 1 + count kids) ts n
+    ((first == n.0) || (is_passed l.defined.kind && holds (first + 1) kids n))
+    || holds (first + 1 + count kids) ts n
 
--- the node stands in the object of p: a child, or in its choices and cases; a choice or case has no
+-- the node is in the object of p: a child, or in its choices and cases; a choice or case has no
 -- object
 abbrev pub stands_in : Rows → (p n : NodeId) → Bool
 stands_in s p n = is_object s p && holds (rank p) (below s p) n
@@ -93,7 +98,8 @@ stands_in s p n = is_object s p && holds (rank p) (below s p) n
 -- the children of the node n stand in the object of p
 abbrev pub ChildrenStand : Rows → (p n : NodeId) → Type 0
 ChildrenStand s p n =
-    (i : ℕ) (d : NodeId) → i < length (children_of s n) → stands_in s p (slice_index_or (children_of s n) i d) ≡ true
+    (i : ℕ) (d : NodeId) → i < length (children_of s n)
+    → stands_in s p (slice_index_or (children_of s n) i d) ≡ true
 
 -- ---- one after the other
 
@@ -103,4 +109,5 @@ child_at s p place = slice_index_or (children_of s p) place p
 
 -- it exists in an object with these members
 abbrev pub child_exists : Rows → NodeId → Members → (place : ℕ) → Bool
-child_exists s p ms place = any (tree_standing (child_at s p place).0 (tree_of s (child_at s p place)) ms)
+child_exists s p ms place =
+    any (tree_standing (child_at s p place).0 (tree_of s (child_at s p place)) ms)

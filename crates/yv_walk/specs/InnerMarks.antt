@@ -11,7 +11,8 @@ use Rattle.yv_walk.specs.Existence.{holds, passes}
 abbrev pub has_room : Marks → ℕ → Bool
 has_room m n = is_some (get_by (nat_cmp n) m.rows)
 
--- there is one for each choice and case in which the node stands
+-- there is one for each choice and case in which the node is
 abbrev pub HasRoomAround : Rows → Marks → NodeId → Type 0
 HasRoomAround s m id =
-    (a : NodeId) → a.0 < length s.nodes → passes s a ≡ true → holds (rank a) (below s a) id ≡ true → has_room m a.0 ≡ true
+    (a : NodeId) → a.0 < length s.nodes → passes s a ≡ true → holds (rank a) (below s a) id ≡ true
+    → has_room m a.0 ≡ true

@@ -19,4 +19,5 @@ pub record IsUnkept (c : Context) (n : ℕ) : Type 0 where
 
 -- each of the nodes has a greater number than those before it
 abbrev pub Ascend : List NodeId → Type 0
-Ascend ns = (i k : ℕ) (d : NodeId) → i < k → k < length ns → (slice_index_or ns i d).0 < (slice_index_or ns k d).0
+Ascend ns = (i k : ℕ) (d : NodeId) → i < k → k < length ns
+    → (slice_index_or ns i d).0 < (slice_index_or ns k d).0

@@ -23,4 +23,5 @@ with_node false old n = old
 -- each choice and case in the object of p has the mark of what exists in it
 abbrev pub AreMarked : Rows → NodeId → Marks → Members → Type 0
 AreMarked s p m ms =
-    (a : NodeId) → stands_in s p a ≡ true → passes s a ≡ true → mark_at m a.0 ≡ existence_of (rank a) (below s a) ms
+    (a : NodeId) → stands_in s p a ≡ true → passes s a ≡ true
+    → mark_at m a.0 ≡ existence_of (rank a) (below s a) ms

@@ -10,7 +10,8 @@ use Rattle.yv_nodes.specs.Tree.{count, Forest, Label, no_trees, node, tree}
 
 -- the node of this number is called so exactly where it is the node n, which is a data node of kind
 -- k
-pub record IsNamed (key : List ℕ) (n : NodeId) (k : NodeKind) (number : ℕ) (l : Label) : Type 0 where
+pub record IsNamed (key : List ℕ) (n : NodeId) (k : NodeKind) (number : ℕ)
+    (l : Label) : Type 0 where
   pub called : is_data l.defined.kind ≡ true → bytes_eq l.member key ≡ (number == n.0)
   pub met : number ≡ n.0 → is_data l.defined.kind ≡ true
   pub alike : number ≡ n.0 → l.defined.kind ≡ k
@@ -20,15 +21,17 @@ pub record IsNamed (key : List ℕ) (n : NodeId) (k : NodeKind) (number : ℕ) (
 abbrev pub AreNamed : List ℕ → NodeId → NodeKind → ℕ → Forest → Type 0
 AreNamed key n k first no_trees = Unit {0}
 AreNamed key n k first (tree (node l kids) ts) =
-    IsNamed key n k first l × (is_passed l.defined.kind ≡ true → AreNamed key n k (first + 1) kids) × AreNamed key n k (first + 1 + count kids) ts
+    IsNamed key n k first l × (is_passed l.defined.kind ≡ true → AreNamed key n k (first + 1) kids)
+    × AreNamed key n k (first + 1 + count kids) ts
 
 -- none of them is called so
 abbrev pub AreUnnamed : List ℕ → Forest → Type 0
 AreUnnamed key no_trees = Unit {0}
 AreUnnamed key (tree (node l kids) ts) =
-    (is_data l.defined.kind ≡ true → bytes_eq l.member key ≡ false) × (is_passed l.defined.kind ≡ true → AreUnnamed key kids) × AreUnnamed key ts
+    (is_data l.defined.kind ≡ true → bytes_eq l.member key ≡ false)
+    × (is_passed l.defined.kind ≡ true → AreUnnamed key kids) × AreUnnamed key ts
 
--- no name stands twice
+-- no name is there twice
 abbrev pub AreKeys : Members → Type 0
 AreKeys no_members = Unit {0}
 AreKeys (member key d ms) = (get_member key ms ≡ None) × AreKeys ms

@@ -11,6 +11,7 @@ use Rattle.yv_walk.specs.declared.written_values.WrittenValues.{WrittenValues}
 abbrev pub value_at : WrittenValues → ℕ → Option Data
 value_at w n = option_map (λ v. view v.now) (get_by (nat_cmp n) w.values)
 
+-- the first of two values that may be there
 abbrev pub first_of : Option Data → Option Data → Option Data
 first_of None b = b
 first_of (Some a) b = Some a

@@ -37,8 +37,11 @@ impl<'v> Context<'v> {
 
     /// An object that isn't written, of this node: it has no members.
     pub fn empty(alloc: Global, parent: NodeId) -> Context<'v>
+        // The same for an object without members, under every schema.
         ensures context { (s : Rows) → IsContext s result }
+        // It is an object of this node.
         ensures parent { parent_of result ≡ parent }
+        // It has no members.
         ensures members { members_of result ≡ no_members }
     {
         Context {
@@ -59,13 +62,20 @@ impl<'v> Context<'v> {
         parent: NodeId,
         members: &'v Map<String, Value>,
     ) -> Result<Context<'v>, AllocError>
+        // The number is that of a node, or the root.
         requires { rank parent ≤ length schema.now.nodes }
+        // What was looked up is what these members write in an object of this node: values, what
+        // exists in choices and cases, and unknown names.
         ensures context { IfOk result (IsContext schema.now) }
+        // It is an object of this node.
         ensures parent { IfOk result (λ c. parent_of c ≡ parent) }
+        // It has these members.
         ensures members { IfOk result (λ c. members_of c ≡ members_view members.now.entries) }
+        // A step is counted for each member.
         ensures steps { OnOk result
             (count_up meter.new
             ≡ count_up (meter.old + members_len (members_view members.now.entries))) }
+        // After an error the meter is as it was.
         ensures same { OnErr result (meter.new ≡ meter.old) }
     {
         // each reading of a schema tells what holds of it: that its rows are those of its tree, and
@@ -114,7 +124,9 @@ impl<'v> Context<'v> {
     /// Which data nodes exist of a node in the object: the node itself, or what is in it where it
     /// is a choice or case.
     pub fn existence_of(&self, schema: &Schema, id: NodeId) -> Existence
+        // Which data nodes exist of a node in the object.
         requires { id.0 < length schema.now.nodes }
+        // Which data nodes exist of a node in the object.
         ensures { IsContext schema.now self.now → stands_in schema.now (parent_of self.now) id
             ≡ true
             → result ≡ tree_standing id.0 (tree_of schema.now id) (members_of self.now) }
@@ -130,7 +142,9 @@ impl<'v> Context<'v> {
     /// How many children of a choice or case in the object exist: of a choice its cases, of which
     /// one may (RFC 7950, section 7.9).
     pub fn count(&self, schema: &Schema, id: NodeId) -> usize
+        // How many children of a choice or case in the object exist.
         requires { id.0 < length schema.now.nodes }
+        // How many children of a choice or case in the object exist.
         ensures { IsContext schema.now self.now → stands_in schema.now (parent_of self.now) id
             ≡ true
             → passes schema.now id ≡ true → result
@@ -182,14 +196,20 @@ impl<'v> Context<'v> {
     /// this place on. A child of which nothing is written takes no time, and any other that is
     /// passed takes time log n.
     pub fn next_existing(&self, schema: &Schema, id: NodeId, from: usize) -> Option<usize>
+        // The number is that of a node.
         requires { id.0 < length schema.now.nodes }
+        // The place is `from` or after it, it is that of a child of the choice or case, and that
+        // child exists.
         ensures behind { IfSome result (λ place. from ≤ place) }
+        // It is a place among the children.
         ensures within { IfSome result (λ place. place < length (children_of schema.now id)) }
+        // The child there exists.
         ensures exists { IsContext schema.now self.now
             → stands_in schema.now (parent_of self.now) id ≡ true
             → passes schema.now id ≡ true
             → IfSome result
             (λ place. child_exists schema.now id (members_of self.now) place ≡ true) }
+        // No child from this place up to it exists.
         ensures others { IsContext schema.now self.now
             → stands_in schema.now (parent_of self.now) id ≡ true
             → passes schema.now id ≡ true → (place : ℕ) → from ≤ place
@@ -208,13 +228,18 @@ impl<'v> Context<'v> {
     }
 
     /// Passes over children of a node, from this place on, of which nothing is written, where its
-    /// children are in the object: none of them exists. The place behind them, which is this one
+    /// children are in the object: none of them exists. The place after them, which is this one
     /// where there are none. It takes time log n.
     pub fn pass_absent(&self, schema: &Schema, parent: NodeId, from: usize) -> usize
+        // The number is that of a node, or the root.
         requires { rank parent ≤ length schema.now.nodes }
+        // The place is `from` or after it, and not past the end of the children where `from` is
+        // not.
         ensures behind { from ≤ result }
+        // It is not past the end of the children, unless the first place is.
         ensures within { from ≤ length (children_of schema.now parent)
             → result ≤ length (children_of schema.now parent) }
+        // None of the children that are passed exists.
         ensures absent { IsContext schema.now self.now
             → ChildrenStand schema.now (parent_of self.now) parent
             → (place : ℕ) → from ≤ place → place < result
@@ -266,7 +291,7 @@ impl<'v> Context<'v> {
     }
 }
 
-// Whether a node exists that is no choice or case, by what is written for it.
+// Whether a node exists that isn't a choice or case, by what is written for it.
 fn written_standing(kind: NodeKind, id: NodeId, written: Option<&Value>) -> Existence
     ensures { result ≡ row_standing kind id (option_map (λ v. view v.now) written.entry) }
 {

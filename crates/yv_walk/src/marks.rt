@@ -48,11 +48,15 @@ impl Marks {
     /// Marks the choices and cases that contain a node that exists. It fails only if memory runs
     /// out, and then each mark is as before.
     pub fn mark(&mut self, schema: &Schema, id: NodeId) -> Result<(), AllocError>
+        // The number is that of a node.
         requires { id.0 < length schema.now.nodes }
+        // Each choice and case that contains the node has it in addition, and each other one has
+        // what it had.
         ensures marks { OnOk result
             ((a : NodeId) → a.0 < length schema.now.nodes → passes schema.now a ≡ true
             → mark_at self.new a.0
             ≡ with_node (holds (rank a) (below schema.now a) id) (mark_at self.old a.0) id) }
+        // Where memory runs out, each mark is as before.
         ensures same { OnErr result ((n : ℕ) → mark_at self.new n ≡ mark_at self.old n) }
     {
         self.make_room(schema, id)?;

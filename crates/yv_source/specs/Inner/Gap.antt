@@ -1,4 +1,4 @@
--- Blanks and comments between tokens, as the reader passes them; cited by private clauses alone.
+-- Blanks and comments between tokens, as the reader passes them; cited by private clauses only.
 use Rattle.std.specs.Prelude.{◌≡◌, ◌+◌, ◌≤◌, ℕ, IsTrue, List, length, take, drop, ⊤}
 use Rattle.std.specs.List.{list_all}
 use Rattle.yv_source.specs.Pieces.{is_blank, Before, UnquotedWord}
@@ -21,10 +21,12 @@ pub record BeginsComment (text : List ℕ) (f : FoundPiece) : Type 0 where
 -- so many bytes at the front of a text are blanks and comments in a row
 pub data IsGap (text : List ℕ) : ℕ → Type 0 where
   Empty : IsGap text 0
-  Blanks : (n k : ℕ) → IsGap text n → k ≤ length (drop n text) → IsTrue (list_all is_blank (take k (drop n text))) → IsGap text (n + k)
-  Comment : (n : ℕ) (f : FoundPiece) → IsGap text n → BeginsComment (drop n text) f → IsGap text (n + length_of f)
+  Blanks : (n k : ℕ) → IsGap text n → k ≤ length (drop n text)
+      → IsTrue (list_all is_blank (take k (drop n text))) → IsGap text (n + k)
+  Comment : (n : ℕ) (f : FoundPiece) → IsGap text n → BeginsComment (drop n text) f
+      → IsGap text (n + length_of f)
 
--- behind them; but behind an unquoted text the offset stays
+-- after them; but after an unquoted text the offset stays
 abbrev pub IsPastGap : Before → ℕ → List ℕ → ℕ → Type 0
 IsPastGap UnquotedWord at rest end = end ≡ at
 IsPastGap _ at rest end = (n : ℕ) × IsGap rest n × (end ≡ at + n)

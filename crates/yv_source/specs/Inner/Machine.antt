@@ -1,4 +1,4 @@
--- The machine that the reader follows, one token at a time; cited by private clauses alone. What
+-- The machine that the reader follows, one token at a time; cited by private clauses only. What
 -- tokens spell is Grammar's.
 use Rattle.std.specs.Prelude.{ℕ, Bool, ◌==◌, ◌&&◌, ◌||◌, cond, List, [], ◌∷◌, length, nat_lt}
 use Rattle.yv_statement.specs.Tree.{Tree}
@@ -12,13 +12,14 @@ use Rattle.yv_source.specs.Inner.Place.{Place, place_of}
 use Rattle.yv_source.specs.declared.machine.Phase.{Phase}
 use Rattle.yv_source.specs.declared.machine.Phase.TheVariants.{Between, Named, Argued, Said, Joined, Done}
 
--- what stands behind the first colon
+-- what comes after the first colon
 abbrev pub behind_colon : List ℕ → List ℕ
 behind_colon [] = []
 behind_colon (b ∷ rest) = cond (b == colon) rest (behind_colon rest)
 
 abbrev pub is_keyword : List ℕ → Bool
-is_keyword w = is_identifier w || (is_identifier (until (begins colon) w) && is_identifier (behind_colon w))
+is_keyword w =
+    is_identifier w || (is_identifier (until (begins colon) w) && is_identifier (behind_colon w))
 
 -- the open statements, the innermost first, with what was read of that one; or why a token isn't
 -- taken
@@ -27,7 +28,7 @@ pub data Step : Type 0 where
   Wrong : Step
   Deep : Step
 
--- a keyword alone, behind this text
+-- a keyword only, after this text
 abbrev pub leaf : List ℕ → List ℕ → Tree
 leaf front w = bare (line_of front) (length front) w
 
@@ -44,7 +45,8 @@ close (t ∷ below) = finish t below
 -- a statement begins at a place
 abbrev pub start_at : ℕ → List Tree → Place → List ℕ → Step
 start_at limit stack place w =
-    cond (is_keyword w) (cond (nat_lt (length stack) limit) (Next (bare place.line place.at w ∷ stack) Named) Deep) Wrong
+    cond (is_keyword w) (cond (nat_lt (length stack) limit)
+    (Next (bare place.line place.at w ∷ stack) Named) Deep) Wrong
 
 abbrev pub start : ℕ → List Tree → List ℕ → List ℕ → Step
 start limit stack front w = start_at limit stack (place_of front) w
@@ -68,7 +70,7 @@ between_at limit stack place _ = Wrong
 abbrev pub between : ℕ → List Tree → List ℕ → Piece → Step
 between limit stack front p = between_at limit stack (place_of front) p
 
--- a token behind a keyword
+-- a token after a keyword
 abbrev pub after_keyword : ℕ → List Tree → Piece → Step
 after_keyword column stack (Word w) = give_word w stack
 after_keyword column stack (Single w) = give_quoted w stack
@@ -77,20 +79,20 @@ after_keyword column stack Semicolon = close stack
 after_keyword column stack Open = Next stack Between
 after_keyword column stack _ = Wrong
 
--- a token behind an unquoted argument
+-- a token after an unquoted argument
 abbrev pub after_argument : List Tree → Piece → Step
 after_argument stack Semicolon = close stack
 after_argument stack Open = Next stack Between
 after_argument stack _ = Wrong
 
--- a token behind quoted texts
+-- a token after quoted texts
 abbrev pub after_quoted : List Tree → Piece → Step
 after_quoted stack Semicolon = close stack
 after_quoted stack Open = Next stack Between
 after_quoted stack Plus = Next stack Joined
 after_quoted stack _ = Wrong
 
--- a token behind a sign that joins
+-- a token after a sign that joins
 abbrev pub after_plus : ℕ → List Tree → Piece → Step
 after_plus column stack (Single w) = give_quoted w stack
 after_plus column stack (Double w) = give_quoted (quoted_value column w) stack
@@ -105,7 +107,7 @@ step_at limit stack Said place p = after_quoted stack p
 step_at limit stack Joined place p = after_plus place.column stack p
 step_at limit stack Done place p = Wrong
 
--- a token behind the text in front of it
+-- a token after the text before it
 abbrev pub step : ℕ → List Tree → Phase → Token → Step
 step limit stack phase t = step_at limit stack phase (place_of t.front) t.piece
 

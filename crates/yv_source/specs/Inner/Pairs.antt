@@ -1,4 +1,4 @@
--- Bad backslash pairs, as the code looks for them; cited by private clauses alone.
+-- Bad backslash pairs, as the code looks for them; cited by private clauses only.
 use Rattle.std.specs.Prelude.{ℕ, ◌+◌, ◌-◌, Bool, true, false, ◌==◌, ◌&&◌, cond, bytes_eq, List, [], ◌∷◌, take, drop, Option, Some, None}
 use Rattle.std.specs.List.{list_any}
 use Rattle.yv_statement.specs.Tree.{Tree}
@@ -8,14 +8,14 @@ use Rattle.yv_source.specs.Escapes.{is_escape, yang_version, newer}
 use Rattle.yv_source.specs.declared.scan.FoundPiece.{FoundPiece}
 use Rattle.yv_source.specs.declared.scan.FoundPiece.TheVariants as found
 
--- where a text's first bad pair stands, n bytes having been looked at, behind a backslash or not
+-- where a text's first bad pair is, n bytes having been looked at, after a backslash or not
 abbrev pub bad_pair : Bool → ℕ → List ℕ → Option ℕ
 bad_pair false n [] = None
 bad_pair true n [] = Some (n - 1)
 bad_pair false n (b ∷ rest) = bad_pair (b == backslash) (n + 1) rest
 bad_pair true n (b ∷ rest) = cond (is_escape b) (bad_pair false (n + 1) rest) (Some (n - 1))
 
--- its offset in a quoted text that stands at a place
+-- its offset in a quoted text that is at a place
 abbrev pub offset_in_file : ℕ → Option ℕ → Option ℕ
 offset_in_file at None = None
 offset_in_file at (Some n) = Some (at + 1 + n)
@@ -31,7 +31,8 @@ bad_on bad at _ = bad
 
 -- the same, by what the scanner found
 abbrev pub bad_found : Option ℕ → ℕ → FoundPiece → List ℕ → Option ℕ
-bad_found bad at (found.Double n) text = or_else bad (offset_in_file at (bad_pair false 0 (take n (drop (at + 1) text))))
+bad_found bad at (found.Double n) text =
+    or_else bad (offset_in_file at (bad_pair false 0 (take n (drop (at + 1) text))))
 bad_found bad at _ text = bad
 
 -- the test for a file of YANG 1.1

@@ -1,5 +1,5 @@
--- The first piece of a text, as the scanner finds it; cited by private clauses alone. What may
--- stand at a place is Pieces'.
+-- The first piece of a text, as the scanner finds it; cited by private clauses only. What may be at
+-- a place is Pieces'.
 use Rattle.std.specs.Prelude.{ℕ, Bool, true, false, ◌==◌, ◌&&◌, ◌||◌, cond, List, [], ◌∷◌, length, Option, Some, None}
 use Rattle.yv_source.specs.Characters.{line_feed, double_quote, single_quote, asterisk, plus_sign, slash, semicolon, backslash, opening_brace, closing_brace}
 use Rattle.yv_source.specs.Pieces.{Piece, Blank, LineComment, BlockComment, Word, Single, Double, Semicolon, Open, Close, Plus, is_blank, begins, begins_two, until, ends_word, up_to_quote, Before, Apart, UnquotedWord, QuotedText}
@@ -24,7 +24,7 @@ abbrev pub tail : List ℕ → List ℕ
 tail [] = []
 tail (b ∷ rest) = rest
 
--- the first piece, and what is left behind it
+-- the first piece, and what is left after it
 abbrev pub First : Type 0
 First = Option (Piece × List ℕ)
 
@@ -60,13 +60,24 @@ abbrev pub first : Before → List ℕ → First
 first before [] = None
 first before (b ∷ rest) =
     cond (is_blank b) (Some (Blank b, rest))
-    (cond (b == double_quote) (unless_unquoted before (closed_piece (Double (up_to_quote false rest)) (from_quote false rest)))
-    (cond (b == single_quote) (unless_unquoted before (closed_piece (Single (until (begins single_quote) rest)) (from (begins single_quote) rest)))
+    (cond (b == double_quote)
+    (unless_unquoted before
+    (closed_piece (Double (up_to_quote false rest)) (from_quote false rest)))
+    (cond (b == single_quote)
+    (unless_unquoted before
+    (closed_piece (Single (until (begins single_quote) rest))
+    (from (begins single_quote) rest)))
     (cond (b == semicolon) (Some (Semicolon, rest))
     (cond (b == opening_brace) (Some (Open, rest))
     (cond (b == closing_brace) (Some (Close, rest))
-    (cond (b == slash && begins slash rest) (Some (LineComment (until (begins line_feed) (tail rest)), from (begins line_feed) (tail rest)))
-    (cond (b == slash && begins asterisk rest) (closed_by_two (BlockComment (until (begins_two asterisk slash) (tail rest))) (from (begins_two asterisk slash) (tail rest)))
+    (cond (b == slash && begins slash rest)
+    (Some (
+      LineComment (until (begins line_feed) (tail rest)),
+      from (begins line_feed) (tail rest),
+    ))
+    (cond (b == slash && begins asterisk rest)
+    (closed_by_two (BlockComment (until (begins_two asterisk slash) (tail rest)))
+    (from (begins_two asterisk slash) (tail rest)))
     (cond (b == asterisk && begins slash rest) None
     (word_or_plus before (b ∷ rest))))))))))
 
@@ -89,7 +100,7 @@ abbrev pub ahead_in : Before → List ℕ → Ahead
 ahead_in before [] = ahead.End
 ahead_in before (b ∷ rest) = ahead_of (first before (b ∷ rest))
 
--- what stands in front of a place, as the code keeps it
+-- what comes before a place, as the code keeps it
 abbrev pub before_of : Left → Before
 before_of left.Apart = Apart
 before_of left.Unquoted = UnquotedWord

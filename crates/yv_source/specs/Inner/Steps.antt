@@ -1,4 +1,4 @@
--- What the machine's code answers; cited by private clauses alone.
+-- What the machine's code answers; cited by private clauses only.
 use Rattle.std.specs.Prelude.{◌≡◌, List, Result, Ok, Err}
 use Rattle.yv_statement.specs.Tree.{Tree}
 use Rattle.yv_source.specs.Pieces as pieces
@@ -19,7 +19,7 @@ piece_of token.Open = pieces.Open
 piece_of token.Close = pieces.Close
 piece_of token.Plus = pieces.Plus
 
--- the open statements behind a step, the innermost first, and what was answered are those of the
+-- the open statements after a step, the innermost first, and what was answered are those of the
 -- machine
 abbrev pub Gives : Result Phase Halt → List Tree → Step → Type 0
 Gives (Ok phase) stack s = s ≡ Next stack phase

@@ -1,4 +1,4 @@
--- One turn of the reader, by what the scanner found; cited by private clauses alone.
+-- One turn of the reader, by what the scanner found; cited by private clauses only.
 use Rattle.std.specs.Prelude.{ℕ, ◌+◌, List, take, drop, Option, Some, None}
 use Rattle.yv_statement.specs.Tree.{Tree}
 use Rattle.yv_source.specs.Pieces.{Piece, Word, Single, Double, Semicolon, Open, Close, Plus, Before, Apart, UnquotedWord, QuotedText, past_gap}
@@ -35,7 +35,7 @@ length_of found.Open = 1
 length_of found.Close = 1
 length_of found.Plus = 1
 
--- what stands in front behind a piece
+-- what comes before the next place, after a piece
 abbrev pub past_found : Before → FoundPiece → Before
 past_found before found.Blank = past_gap before
 past_found before (found.LineComment n) = past_gap before
@@ -62,4 +62,5 @@ maybe_step (Some p) stack phase place = step_at most_deep stack phase place p
 
 -- what the machine makes of a piece at a place of a text
 abbrev pub turn : List ℕ → FoundPiece → List Tree → Phase → Place → Step
-turn text f stack phase place = maybe_step (token_at f (take (inner f) (drop (place.at + opener f) text))) stack phase place
+turn text f stack phase place =
+    maybe_step (token_at f (take (inner f) (drop (place.at + opener f) text))) stack phase place

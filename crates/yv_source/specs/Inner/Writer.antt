@@ -1,5 +1,5 @@
--- The states of the writer of a double-quoted text; cited by private clauses alone. What such a
--- text says is Quoted's.
+-- The states of the writer of a double-quoted text; cited by private clauses only. What such a text
+-- says is Quoted's.
 use Rattle.std.specs.Prelude.{◌≡◌, ◌≤◌, nat_lt, slice_index, ℕ, ◌-◌, zero, suc, Bool, true, false, not, ◌==◌, ◌&&◌, ◌||◌, cond, IsTrue, List, [], ◌∷◌, ◌++◌, length, ◌⊎◌}
 use Rattle.std.specs.List.{list_all}
 use Rattle.std.specs.Char.{encode_utf8}
@@ -7,8 +7,8 @@ use Rattle.yv_source.specs.Characters.{tab, line_feed, carriage_return, space, d
 use Rattle.yv_source.specs.Escapes.{is_escape}
 use Rattle.yv_source.specs.Quotes.{is_gap}
 
--- the bytes so far, those of spaces and tabs that may stand before a line break, whether a CR may,
--- whether a backslash stands before, and how many columns of the line are still stripped
+-- the bytes so far, those of spaces and tabs that may come before a line break, whether a CR may,
+-- whether a backslash comes before, and how many columns of the line are still stripped
 pub record WriterState : Type 0 where
   pub out : List ℕ
   pub gap : List ℕ
@@ -21,7 +21,8 @@ abbrev pub escape_bytes : ℕ → List ℕ
 escape_bytes c =
     cond (c == letter_n) (encode_utf8 line_feed)
     (cond (c == letter_t) (encode_utf8 tab)
-    (cond (c == double_quote || c == backslash) (encode_utf8 c) (encode_utf8 backslash ++ encode_utf8 c)))
+    (cond (c == double_quote || c == backslash) (encode_utf8 c)
+    (encode_utf8 backslash ++ encode_utf8 c)))
 
 -- a character that stays, or the next one of a backslash pair
 abbrev pub put_character : ℕ → WriterState → WriterState
@@ -30,7 +31,7 @@ put_character c w = record w {
   escaped = cond w.escaped false (c == backslash);
 }
 
--- spaces and tabs that stay, behind a backslash or not
+-- spaces and tabs that stay, after a backslash or not
 abbrev pub gap_bytes : Bool → List ℕ → List ℕ
 gap_bytes escaped [] = []
 gap_bytes true (b ∷ gap) = encode_utf8 backslash ++ b ∷ gap
@@ -42,7 +43,11 @@ is_behind escaped (b ∷ gap) = false
 
 -- the spaces and tabs before this place stay
 abbrev pub flush : WriterState → WriterState
-flush w = record w { out = w.out ++ gap_bytes w.escaped w.gap; gap = []; escaped = is_behind w.escaped w.gap }
+flush w = record w {
+  out = w.out ++ gap_bytes w.escaped w.gap;
+  gap = [];
+  escaped = is_behind w.escaped w.gap;
+}
 
 abbrev pub with_cr : Bool → WriterState → WriterState
 with_cr cr w = record w { cr = cr }
@@ -56,14 +61,14 @@ with_gap c w = record w { gap = w.gap ++ encode_utf8 c }
 abbrev pub with_left : ℕ → WriterState → WriterState
 with_left n w = record w { left = n }
 
--- a character where no CR stands before
+-- a character where no CR comes before
 abbrev pub keep_plain : ℕ → WriterState → WriterState
 keep_plain c w =
     cond (is_gap c) (with_gap c w)
     (cond (c == carriage_return) (with_cr true w)
     (cond (c == line_feed) (put_character line_feed (without_gap w)) (put_character c (flush w))))
 
--- a CR that is no part of a line break
+-- a CR that isn't a part of a line break
 abbrev pub settle : WriterState → WriterState
 settle w = put_character carriage_return (flush (with_cr false w))
 
@@ -71,7 +76,9 @@ settle w = put_character carriage_return (flush (with_cr false w))
 abbrev pub keep : ℕ → WriterState → WriterState
 keep c w =
     cond w.cr
-    (cond (c == line_feed) (put_character line_feed (put_character carriage_return (with_cr false (without_gap w)))) (keep_plain c (settle w)))
+    (cond (c == line_feed)
+    (put_character line_feed (put_character carriage_return (with_cr false (without_gap w))))
+    (keep_plain c (settle w)))
     (keep_plain c w)
 
 abbrev pub keep_spaces : ℕ → WriterState → WriterState
@@ -119,7 +126,8 @@ with_run run w = record w { out = w.out ++ run }
 abbrev pub Runs : WriterState → List ℕ → WriterState → Type 0
 Runs w run x =
     ((run ≡ []) × (x ≡ w))
-    ⊎ (IsTrue (is_at_rest w) × IsTrue (list_all is_in_run run) × IsTrue (ends_well run) × (x ≡ with_run run w))
+    ⊎ (IsTrue (is_at_rest w) × IsTrue (list_all is_in_run run) × IsTrue (ends_well run)
+    × (x ≡ with_run run w))
 
 -- characters in order
 abbrev pub take_each : ℕ → List ℕ → WriterState → WriterState

@@ -15,7 +15,7 @@ loop-number-preserved c =
     (elim c.match-entry.branch [
       | in-Some+in_ok-add_meanings w ↦
           ap (λ v. v.items) w.features-is
-          ∙ w.in_ok-add_meanings.ensures
+          ∙ w.in_ok-add_meanings.ensures.adds
           ∙ ap (λ t. old ++ meant_among means w.in-Some.entry.now.file (tokens t)) w.name_of-text.ensures
           ∙ ap (λ o. old ++ meant_in means o) w.in-Some.ensures
       | in_default w ↦ ap (λ v. v.items) w.features-is ∙ sym (append-nil old) ∙ ap (λ o. old ++ meant_in means o) w.in_default.ensures
