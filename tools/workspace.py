@@ -4,6 +4,7 @@
 is a folder of its own with links to the libraries below, so nothing is copied and nothing waits.
 """
 import os
+import re
 import shutil
 
 TOP = os.path.dirname(os.path.dirname(os.path.abspath(__file__)))
@@ -21,6 +22,19 @@ def uses(top=TOP):
     """Each crate with the crates of the repository that it names."""
     lines = listed(top)
     return {name: [it for it in line.partition(":")[2].split() if it in lines] for name, line in lines.items()}
+
+
+def layers(top=TOP):
+    """The layers of crates.txt, lowest first: each with what it is about and its crates."""
+    found = []
+    with open(os.path.join(top, "crates.txt"), encoding="utf-8") as file:
+        for line in file:
+            heading = re.match(r"# (\w+): (.*)", line)
+            if heading:
+                found.append((heading[1], heading[2], []))
+            elif found and not line.startswith("#") and ":" in line:
+                found[-1][2].append(line.partition(":")[0].split()[0])
+    return found
 
 
 def below(named, name):

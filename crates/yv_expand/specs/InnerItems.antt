@@ -14,8 +14,8 @@ use Rattle.yv_expand.specs.Units.{units_of}
 use Rattle.yv_expand.specs.Tree.{Tree, Item, none, item}
 use Rattle.yv_expand.specs.Expands.{blocks_of}
 use Rattle.yv_expand.specs.declared.blocks.Blocks.{Blocks}
-use Rattle.yv_expand.specs.declared.lists.WantedFiles.{WantedFiles}
-use Rattle.yv_expand.specs.declared.lists.WantedFiles.TheVariants.{Items, Inputs, Outputs, Augments, Counted}
+use Rattle.yv_expand.specs.declared.lists.WantedStatements.{WantedStatements}
+use Rattle.yv_expand.specs.declared.lists.WantedStatements.TheVariants.{Items, Inputs, Outputs, Augments, Counted}
 
 abbrev pub Lists : Type 0
 Lists = List (Vec ℕ Global)
@@ -25,7 +25,7 @@ abbrev pub counts : Row → Bool
 counts r = is_some (units_of r.head.keyword)
 
 -- whether a statement is one of those that are wanted
-abbrev pub is_wanted : WantedFiles → Row → Bool
+abbrev pub is_wanted : WantedStatements → Row → Bool
 is_wanted Items r = is_node_or_uses r
 is_wanted Inputs r = is_input r
 is_wanted Outputs r = is_output r

@@ -5,7 +5,7 @@ ghost use Rattle.yv_link_definitions.specs.Meanings.{AreNames};
 ghost use Rattle.yv_expand.specs.{declared.origin.Origin.{Origin}, declared.origin.Origin.TheVariants.{Statement, Input, Output}, StatementBlocks.{is_at, is_operation, part}, InnerItems.{AreBlocks, StandBelow, items_below, numbers_at, origins}};
 
 use crate::item::Item;
-use crate::lists::{WantedFiles, numbers_at, of_blocks};
+use crate::lists::{WantedStatements, numbers_at, of_blocks};
 use crate::origin::Origin;
 use crate::own::is_operation;
 use crate::stack::put;
@@ -78,13 +78,13 @@ impl Blocks {
     pub(crate) fn read(alloc: Global, rows: &Rows<'_, '_>) -> Result<Blocks, AllocError>
         ensures { IfOk result (AreBlocks (rows_in rows.now)) }
     {
-        let own = of_blocks(alloc, rows, WantedFiles::Items)?;
-        let augments = of_blocks(alloc, rows, WantedFiles::Augments)?;
+        let own = of_blocks(alloc, rows, WantedStatements::Items)?;
+        let augments = of_blocks(alloc, rows, WantedStatements::Augments)?;
         let given = all_given(alloc, &own, &augments)?;
         Ok(Blocks {
             own,
-            inputs: of_blocks(alloc, rows, WantedFiles::Inputs)?,
-            outputs: of_blocks(alloc, rows, WantedFiles::Outputs)?,
+            inputs: of_blocks(alloc, rows, WantedStatements::Inputs)?,
+            outputs: of_blocks(alloc, rows, WantedStatements::Outputs)?,
             given,
         })
     }

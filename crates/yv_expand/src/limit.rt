@@ -5,7 +5,7 @@ ghost use Rattle.yv_link_scopes.specs.Views.{lent_in, files_in, rows_in};
 ghost use Rattle.yv_link_definitions.specs.Meanings.{AreNames};
 ghost use Rattle.yv_expand.specs.{Limit.{Fits, TooMany}, InnerLists.{ArePlaced, top_place, top_sum}, InnerSteps.{AreSettled}};
 
-use crate::lists::{WantedFiles, of_files};
+use crate::lists::{WantedStatements, of_files};
 use crate::values::sum;
 use crate::weights::weigh_statements;
 use std::alloc::{AllocError, Global};
@@ -85,6 +85,6 @@ pub fn too_many(
         → IfOk result (λ found. IfNone found (Fits (lent_in rows.now) given.now limit)) }
 {
     let values = weigh_statements(alloc, rows, names)?;
-    let tops = of_files(alloc, rows, WantedFiles::Counted)?;
+    let tops = of_files(alloc, rows, WantedStatements::Counted)?;
     Ok(first_past(rows, &values, &tops, given, limit))
 }

@@ -22,7 +22,7 @@ fn no_lists(alloc: Global, count: usize) -> Result<Vec<Vec<usize>>, AllocError>
 
 /// Which statements are listed.
 #[derive(Clone, Copy)]
-pub(crate) enum WantedFiles {
+pub(crate) enum WantedStatements {
     /// Those that are items.
     Items,
     Inputs,
@@ -34,21 +34,21 @@ pub(crate) enum WantedFiles {
 
 // Whether a statement is one of those that are wanted.
 #[inline(always)]
-fn is_wanted(wanted: WantedFiles, entry: &Entry<'_, '_>) -> bool
+fn is_wanted(wanted: WantedStatements, entry: &Entry<'_, '_>) -> bool
     ensures { result ≡ is_wanted wanted (row entry.now) }
 {
     match wanted {
-        WantedFiles::Items => is_node_or_uses(entry),
-        WantedFiles::Inputs => entry.is(Keyword::Input),
-        WantedFiles::Outputs => entry.is(Keyword::Output),
-        WantedFiles::Augments => entry.is(Keyword::Augment),
-        WantedFiles::Counted => own_units(entry).is_some(),
+        WantedStatements::Items => is_node_or_uses(entry),
+        WantedStatements::Inputs => entry.is(Keyword::Input),
+        WantedStatements::Outputs => entry.is(Keyword::Output),
+        WantedStatements::Augments => entry.is(Keyword::Augment),
+        WantedStatements::Counted => own_units(entry).is_some(),
     }
 }
 
 // The block in which a wanted statement is.
 #[inline(always)]
-fn block_place(wanted: WantedFiles, number: usize, entry: &Entry<'_, '_>) -> Option<usize>
+fn block_place(wanted: WantedStatements, number: usize, entry: &Entry<'_, '_>) -> Option<usize>
     ensures { result ≡ block_place (is_wanted wanted) number (row entry.now) }
 {
     if is_wanted(wanted, entry) && entry.scope != number {
@@ -62,7 +62,7 @@ fn block_place(wanted: WantedFiles, number: usize, entry: &Entry<'_, '_>) -> Opt
 #[inline(always)]
 fn top_place(
     rows: &Rows<'_, '_>,
-    wanted: WantedFiles,
+    wanted: WantedStatements,
     number: usize,
     entry: &Entry<'_, '_>,
 ) -> Option<usize>
@@ -81,7 +81,7 @@ fn top_place(
 pub(crate) fn of_blocks(
     alloc: Global,
     rows: &Rows<'_, '_>,
-    wanted: WantedFiles,
+    wanted: WantedStatements,
 ) -> Result<Vec<Vec<usize>>, AllocError>
     ensures { IfOk result
         (λ lists. ArePlaced (block_place (is_wanted wanted)) (rows_in rows.now)
@@ -102,7 +102,7 @@ pub(crate) fn of_blocks(
 pub(crate) fn of_files(
     alloc: Global,
     rows: &Rows<'_, '_>,
-    wanted: WantedFiles,
+    wanted: WantedStatements,
 ) -> Result<Vec<Vec<usize>>, AllocError>
     ensures { IfOk result
         (λ lists. ArePlaced (top_place (is_wanted wanted) (files_in rows.now)) (rows_in rows.now)

@@ -5,7 +5,7 @@ ghost use Rattle.yv_base_graph.specs.Graph.{IsGraph, IsOrder, HasNoCycle};
 ghost use Rattle.yv_link_definitions.specs.Meanings.{AreNames};
 ghost use Rattle.yv_expand.specs.InnerSteps.{IsUsed, AreSteps};
 
-use crate::lists::{WantedFiles, of_blocks};
+use crate::lists::{WantedStatements, of_blocks};
 use crate::unit_keywords::own_units;
 use std::alloc::{AllocError, Global};
 use yv_base_graph::{Ranking, rank};
@@ -44,7 +44,7 @@ pub(crate) fn steps(
     ensures steps { AreNames (lent_in rows.now) names.now
         → IfOk result (λ steps. AreSteps (files_in rows.now) (rows_in rows.now) steps.items) }
 {
-    let mut steps = of_blocks(alloc, rows, WantedFiles::Counted)?;
+    let mut steps = of_blocks(alloc, rows, WantedStatements::Counted)?;
     for (number, entry) in rows.entries().iter().enumerate() {
         if let Some(meant) = grouping_of(rows, names, number, entry) {
             steps[number].push(meant)?;

@@ -63,7 +63,7 @@ fn labels(alloc: Global, spots: &[Spot]) -> Result<Vec<Label>, AllocError>
 
 // Items that have entered, the least refusal of each that is a uses, and what refines mean.
 #[derive(Drop)]
-struct Placer {
+struct PlacedItems {
     grafting: Augmentation,
     missing: BTreeMap<usize, Refusal>,
     refined: Refinements,
@@ -71,7 +71,7 @@ struct Placer {
 
 // A stretch of augments that had its turns: its least refusal, and the number of the next copy.
 #[derive(Drop)]
-struct FollowedPath {
+struct StretchResult {
     grafting: Augmentation,
     missing: Option<Refusal>,
     number: usize,
@@ -166,7 +166,7 @@ fn follow(
     end: usize,
     number: usize,
     stretch: &Stretch,
-) -> Result<FollowedPath, AllocError>
+) -> Result<StretchResult, AllocError>
     requires few { number < 2 ^ 63 }
     ensures number { (from to : ℕ)
         → IsStretch (whole_in plan.now) spot.now.statement spot.now.module_file from to
@@ -194,13 +194,13 @@ fn follow(
     match &stretch.giving {
         Some(it) => {
             let own = give(plan, grafting, spot, number, it)?;
-            Ok(FollowedPath {
+            Ok(StretchResult {
                 grafting: own.grafting,
                 missing: lesser(missing, own.missing),
                 number: number + 1,
             })
         }
-        None => Ok(FollowedPath {
+        None => Ok(StretchResult {
             grafting,
             missing,
             number,
@@ -271,7 +271,7 @@ fn place(
     plan: &Plan<'_, '_, '_>,
     layout: &Layout,
     ends: &[usize],
-) -> Result<Placer, AllocError>
+) -> Result<PlacedItems, AllocError>
     requires plan { IsPlan plan.now }
     requires lays { AreLaid (whole_in plan.now) (laid_in layout.now) }
     requires few { layout.now.copies < 2 ^ 63 }
@@ -304,7 +304,7 @@ fn place(
         grafting = turned.grafting;
         grafting.enter(left, spot.group)?;
     }
-    Ok(Placer {
+    Ok(PlacedItems {
         grafting,
         missing,
         refined: aims.refinements,
@@ -396,7 +396,7 @@ pub fn apply_augments(
     let plan = Plan::read(alloc, rows, augments, items)?;
     let layout = plan.lay(alloc, items)?;
     let ends = item_ends(alloc, items)?;
-    let Placer {
+    let PlacedItems {
         grafting,
         missing,
         refined,

@@ -9,7 +9,7 @@ use Rattle.yv_expand_rounds.specs.declared.label.Label.{Label}
 use Rattle.yv_expand_rounds.specs.declared.end.End.{End}
 use Rattle.yv_expand_rounds.specs.declared.end.End.TheVariants as end
 use Rattle.yv_expand_rounds.specs.declared.trail.Trail.{Trail}
-use Rattle.yv_expand_rounds.specs.declared.rounds.WaitingAugment.{WaitingAugment}
+use Rattle.yv_expand_rounds.specs.declared.rounds.PathProgress.{PathProgress}
 use Rattle.yv_expand_rounds.specs.declared.augmentation.Augmentation.{Augmentation}
 use Rattle.yv_expand_rounds.specs.Groups.{Groups, group_of_augment, members_of, move_items}
 use Rattle.yv_expand_rounds.specs.Turns.{State, give, is_applied, resolve, settle, target}
@@ -108,11 +108,11 @@ still_lead labels k e st before after gone closed keeps updates =
     record { closed = now; lead = λ names ends are. trail_kept labels own old new before after names ends displaces updates.grow are }
 
 -- the first of the augments had their turns, and so far the paths were followed
-pub record Resumes (labels : List Label) (first : ℕ) (paths : List (List ℕ)) (st : State) (i : ℕ) (any : Bool) (waiting : WaitingAugment) (grafting : Augmentation) : Type 0 where
+pub record Resumes (labels : List Label) (first : ℕ) (paths : List (List ℕ)) (st : State) (i : ℕ) (any : Bool) (waiting : PathProgress) (grafting : Augmentation) : Type 0 where
   pub going : Going labels first paths st i any grafting
   pub wait : AreWaiting labels going.now.groups paths waiting
 
-pub resumes_none : (labels : List Label) (first : ℕ) (paths : List (List ℕ)) (st : State) (waiting : WaitingAugment) (grafting : Augmentation) → IsAugmentation labels st grafting
+pub resumes_none : (labels : List Label) (first : ℕ) (paths : List (List ℕ)) (st : State) (waiting : PathProgress) (grafting : Augmentation) → IsAugmentation labels st grafting
     → AreWaiting labels st.groups paths waiting → Resumes labels first paths st 0 false waiting grafting
 resumes_none labels first paths st waiting grafting is are = record { going = going_none labels first paths st grafting is; wait = are }
 
@@ -122,7 +122,7 @@ or_if true false = refl
 or_if false true = refl
 or_if false false = refl
 
-pub resumes_more : (labels : List Label) (first : ℕ) (paths : List (List ℕ)) (st : State) (i : ℕ) (any applied : Bool) (before after : WaitingAugment) (t : Trail)
+pub resumes_more : (labels : List Label) (first : ℕ) (paths : List (List ℕ)) (st : State) (i : ℕ) (any applied : Bool) (before after : PathProgress) (t : Trail)
     (old new : Augmentation) (names : List ℕ) → (r : Resumes labels first paths st i any before old) → slice_get paths i ≡ Some names
     → IsAugmentation labels (turned labels (first + i) names r.going.now) new → applied ≡ takes labels (first + i) names r.going.now
     → after.trails.items ≡ set before.trails.items i t
@@ -147,7 +147,7 @@ resumes_more labels first paths st i any applied before after t old new names r 
     })
 
 -- no path was followed yet, and nothing is hidden
-pub are_new : (labels : List Label) (groups : Groups) (paths : List (List ℕ)) (waiting : WaitingAugment)
+pub are_new : (labels : List Label) (groups : Groups) (paths : List (List ℕ)) (waiting : PathProgress)
     → ((j : ℕ) (t : Trail) → slice_get waiting.trails.items j ≡ Some t → t.ends.items ≡ []) → waiting.hidden.marks.items ≡ replicate (length labels) false
     → AreWaiting labels groups paths waiting
 are_new labels groups paths waiting none shown = record {
@@ -165,12 +165,12 @@ fewer_or false true new old whole e l = omega (arith, e, l)
 fewer_or false false new old whole e l = omega (arith, e, l)
 
 -- all had their turns
-pub resumes_all : (labels : List Label) (first : ℕ) (paths : List (List ℕ)) (st : State) (i : ℕ) (any : Bool) (waiting : WaitingAugment) (grafting : Augmentation)
+pub resumes_all : (labels : List Label) (first : ℕ) (paths : List (List ℕ)) (st : State) (i : ℕ) (any : Bool) (waiting : PathProgress) (grafting : Augmentation)
     → length paths ≤ i → Resumes labels first paths st i any waiting grafting
     → IsAugmentation labels (round labels first paths st) grafting × (any ≡ is_any labels first paths st)
 resumes_all labels first paths st i any waiting grafting past r = going_all labels first paths st i any grafting past r.going
 
-pub resumes_waiting : (labels : List Label) (first : ℕ) (paths : List (List ℕ)) (st : State) (i : ℕ) (any : Bool) (waiting : WaitingAugment) (grafting : Augmentation)
+pub resumes_waiting : (labels : List Label) (first : ℕ) (paths : List (List ℕ)) (st : State) (i : ℕ) (any : Bool) (waiting : PathProgress) (grafting : Augmentation)
     → length paths ≤ i → Resumes labels first paths st i any waiting grafting → AreWaiting labels (round labels first paths st).groups paths waiting
 resumes_waiting labels first paths st i any waiting grafting past r =
     let done : drop i paths ≡ [] = drop_all i paths past in
@@ -178,16 +178,16 @@ resumes_waiting labels first paths st i any waiting grafting past r =
     subst (λ (s : State). AreWaiting labels s.groups paths waiting) same r.wait
 
 -- so many rounds were made, and so far the paths were followed
-pub record Runs (labels : List Label) (first : ℕ) (paths : List (List ℕ)) (st : State) (waiting : WaitingAugment) (grafting : Augmentation) : Type 0 where
+pub record Runs (labels : List Label) (first : ℕ) (paths : List (List ℕ)) (st : State) (waiting : PathProgress) (grafting : Augmentation) : Type 0 where
   pub count : ℕ
   pub is : IsAugmentation labels (rounds labels first paths count st) grafting
   pub wait : AreWaiting labels (rounds labels first paths count st).groups paths waiting
 
-pub runs_none : (labels : List Label) (first : ℕ) (paths : List (List ℕ)) (st : State) (waiting : WaitingAugment) (grafting : Augmentation) → IsAugmentation labels st grafting
+pub runs_none : (labels : List Label) (first : ℕ) (paths : List (List ℕ)) (st : State) (waiting : PathProgress) (grafting : Augmentation) → IsAugmentation labels st grafting
     → AreWaiting labels st.groups paths waiting → Runs labels first paths st waiting grafting
 runs_none labels first paths st waiting grafting is are = record { count = 0; is = is; wait = are }
 
-pub runs_more : (labels : List Label) (first : ℕ) (paths : List (List ℕ)) (st : State) (before after : WaitingAugment) (old new : Augmentation)
+pub runs_more : (labels : List Label) (first : ℕ) (paths : List (List ℕ)) (st : State) (before after : PathProgress) (old new : Augmentation)
     → (r : Runs labels first paths st before old) → IsAugmentation labels (round labels first paths (rounds labels first paths r.count st)) new
     → AreWaiting labels (round labels first paths (rounds labels first paths r.count st)).groups paths after → Runs labels first paths st after new
 runs_more labels first paths st before after old new r is wait =
@@ -198,7 +198,7 @@ runs_more labels first paths st before after old new r is wait =
       wait = subst (λ (s : State). AreWaiting labels s.groups paths after) next wait;
     }
 
-pub runs_done : (labels : List Label) (first : ℕ) (paths : List (List ℕ)) (st : State) (waiting : WaitingAugment) (old new : Augmentation)
+pub runs_done : (labels : List Label) (first : ℕ) (paths : List (List ℕ)) (st : State) (waiting : PathProgress) (old new : Augmentation)
     (r : Runs labels first paths st waiting old) → IsAugmentation labels (round labels first paths (rounds labels first paths r.count st)) new
     → false ≡ is_any labels first paths (rounds labels first paths r.count st) → (s : State) × AreApplied labels first paths st s × IsAugmentation labels s new
 runs_done labels first paths st waiting old new r is idle =

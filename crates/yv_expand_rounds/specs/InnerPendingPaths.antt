@@ -5,7 +5,7 @@ use Rattle.yv_expand_rounds.specs.declared.label.Label.{Label}
 use Rattle.yv_expand_rounds.specs.declared.end.End.{End}
 use Rattle.yv_expand_rounds.specs.declared.end.End.TheVariants as end
 use Rattle.yv_expand_rounds.specs.declared.trail.Trail.{Trail}
-use Rattle.yv_expand_rounds.specs.declared.rounds.WaitingAugment.{WaitingAugment}
+use Rattle.yv_expand_rounds.specs.declared.rounds.PathProgress.{PathProgress}
 use Rattle.yv_expand_rounds.specs.Groups.{Groups, members_of}
 use Rattle.yv_expand_rounds.specs.Paths.{first_named, path_end}
 use Rattle.yv_expand_rounds.specs.InnerGroups.{IsOneOf}
@@ -47,7 +47,7 @@ pub record StillLead (labels : List Label) (old new : Groups)
 
 -- so far the paths were followed
 pub record AreWaiting (labels : List Label) (groups : Groups) (paths : List (List ℕ))
-    (waiting : WaitingAugment) : Type 0 where
+    (waiting : PathProgress) : Type 0 where
   pub closed : IsClosed labels groups waiting.hidden.marks.items
   pub trails : (j : ℕ) (names : List ℕ) (t : Trail) → slice_get paths j ≡ Some names
       → slice_get waiting.trails.items j ≡ Some t

@@ -13,14 +13,14 @@ use std::alloc::{AllocError, Global};
 /// What is known of the paths of augments that wait: how far each was followed, and which nodes no
 /// path meets any more.
 #[derive(Drop)]
-pub(crate) struct WaitingAugment {
+pub(crate) struct PathProgress {
     pub trails: Vec<Trail>,
     pub hidden: HiddenNodes,
 }
 
-impl WaitingAugment {
+impl PathProgress {
     // So many paths, of which none was followed yet among so many items.
-    fn new(alloc: Global, paths: usize, items: usize) -> Result<WaitingAugment, AllocError>
+    fn new(alloc: Global, paths: usize, items: usize) -> Result<PathProgress, AllocError>
         ensures trails { IfOk result (λ waiting. length waiting.trails.items ≡ paths) }
         ensures new { IfOk result
             (λ waiting. (j : ℕ) (t : Trail) → slice_get waiting.trails.items j ≡ Some t
@@ -33,7 +33,7 @@ impl WaitingAugment {
             trails.push(Trail::new(alloc))?;
         }
         let hidden = HiddenNodes::new(alloc, items)?;
-        Ok(WaitingAugment { trails, hidden })
+        Ok(PathProgress { trails, hidden })
     }
 }
 
@@ -106,7 +106,7 @@ impl Augmentation {
         &mut self,
         first: usize,
         paths: &[Vec<usize>],
-        waiting: &mut WaitingAugment,
+        waiting: &mut PathProgress,
     ) -> Result<bool, AllocError>
         requires augments { first + length paths.now ≤ length self.old.ends.items }
         requires trails { length waiting.old.trails.items ≡ length paths.now }
@@ -147,7 +147,7 @@ impl Augmentation {
             ((new : State) × AreApplied labels first (map (λ p. p.items) paths.now) st new
             × IsAugmentation labels new self.new) }
     {
-        let mut waiting = WaitingAugment::new(
+        let mut waiting = PathProgress::new(
             self.places.alloc,
             paths.len(),
             self.places.labels.len(),

@@ -20,7 +20,7 @@ pub(crate) fn marks(
 {
     let mut marks = Vec::new(alloc);
     for file in rows.files() {
-        marks.push(selection.is_implemented(file.module_file))?;
+        marks.push(selection.is_implemented(file.module_name))?;
     }
     Ok(marks)
 }

@@ -12,10 +12,10 @@ pub record Place : Type 0 where
 
 -- what a member of this name is called in a path: after the name of its module, where it is written
 -- with it, and a choice, which no member writes, in parentheses
-abbrev pub member_text : (is_choice : Bool) → (module_file : Option (List ℕ)) → (name : List ℕ)
+abbrev pub member_text : (is_choice : Bool) → (module_name : Option (List ℕ)) → (name : List ℕ)
     → List ℕ
-member_text is_choice module_file name =
-    if is_choice then codes "(" ++ behind module_file name ++ codes ")" else behind module_file name
+member_text is_choice module_name name =
+    if is_choice then codes "(" ++ behind module_name name ++ codes ")" else behind module_name name
 
 -- what a node is called in a path: a choice, which no member writes, by its name in parentheses
 abbrev pub step_name : Label → List ℕ

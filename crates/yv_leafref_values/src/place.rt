@@ -114,14 +114,14 @@ fn text_of(shared: &Option<RcStr>) -> Option<&str>
 
 fn qualified_name(
     alloc: Global,
-    module_file: &Option<RcStr>,
+    module_name: &Option<RcStr>,
     name: &str,
 ) -> Result<String, AllocError>
     ensures { IfOk result
-        (λ text. string_bytes text ≡ behind (option_map rc_str_bytes module_file.now) name.now) }
+        (λ text. string_bytes text ≡ behind (option_map rc_str_bytes module_name.now) name.now) }
 {
     let mut text = String::new(alloc);
-    if let Some(module) = module_file {
+    if let Some(module) = module_name {
         text.push_str(module.as_str())?;
         text.push(':')?;
     }

@@ -11,7 +11,7 @@ use Rattle.yv_link_features.specs.Value.{Assignment, HasValue}
 -- the name of the module to which a file belongs
 abbrev pub module_name_in : Option Brief → List ℕ
 module_name_in None = []
-module_name_in (Some f) = f.module_file
+module_name_in (Some f) = f.module_name
 
 -- the feature of a statement is one of those of its file's module that are supported
 abbrev pub has_support : Briefs → Selected → Row → Bool

@@ -32,7 +32,7 @@ impl<'a, 'b> FeatureNames<'_, 'a, 'b> {
             ≡ module_name_in (slice_get (files_in self.now.rows.now) (row entry.now).file) }
     {
         match self.rows.files().get(entry.file as usize) {
-            Some(file) => file.module_file,
+            Some(file) => file.module_name,
             None => "",
         }
     }

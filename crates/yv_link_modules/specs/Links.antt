@@ -21,14 +21,14 @@ is_missing files r = is_link r.head && is_none (file_named files (name_in r))
 -- module
 abbrev pub is_wrong : Head → List ℕ → Brief → Bool
 is_wrong h own f =
-    if has_word (codes "include") h then (f.is_module || not (bytes_eq f.module_file own))
+    if has_word (codes "include") h then (f.is_module || not (bytes_eq f.module_name own))
     else (is_link h && not f.is_module)
 
 -- an `include` names a file that doesn't belong to the module
 abbrev pub wrong_at : Head → Option Brief → Option Brief → Bool
 wrong_at h None target = false
 wrong_at h (Some own) None = false
-wrong_at h (Some own) (Some f) = is_wrong h own.module_file f
+wrong_at h (Some own) (Some f) = is_wrong h own.module_name f
 
 -- an import, an include or a belongs-to names a file of the wrong kind
 abbrev pub is_wrong_link : Briefs → Row → Bool
@@ -53,7 +53,7 @@ is_out files includes name (Some m) = is_module_at files m && is_none (includes 
 -- the module of a submodule is given, and has no include of the submodule
 abbrev pub is_not_included : Briefs → Table → Brief → Bool
 is_not_included files includes f =
-    not f.is_module && is_out files includes f.name (file_named files f.module_file)
+    not f.is_module && is_out files includes f.name (file_named files f.module_name)
 
 -- k is the place
 abbrev pub is_at : ℕ → Option ℕ → Bool

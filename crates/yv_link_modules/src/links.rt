@@ -25,7 +25,7 @@ fn is_wrong(entry: &Entry<'_, '_>, own: &str, file: &File<'_, '_>) -> bool
     ensures { result ≡ is_wrong (row entry.now).head own.now (brief file.now) }
 {
     if entry.is(Keyword::Include) {
-        file.is_module || file.module_file != own
+        file.is_module || file.module_name != own
     } else {
         is_link(entry) && !file.is_module
     }
@@ -43,7 +43,7 @@ pub(crate) fn is_wrong_link<'a>(rows: &Rows<'a, '_>, entry: &Entry<'a, '_>) -> b
     };
     let files = rows.files();
     match (files.get(entry.file as usize), files.get(number)) {
-        (Some(own), Some(file)) => is_wrong(entry, own.module_file, file),
+        (Some(own), Some(file)) => is_wrong(entry, own.module_name, file),
         _ => false,
     }
 }
@@ -70,7 +70,7 @@ pub(crate) fn is_not_included<'a>(
     if file.is_module {
         return false;
     }
-    match rows.file_named(file.module_file) {
+    match rows.file_named(file.module_name) {
         Some(module_file) => is_module_at(rows, module_file)
             && includes.get(module_file, file.name).is_none(),
         None => false,

@@ -99,15 +99,15 @@ nested_roots n [] = tt
 nested_roots n (t ∷ ts) = (omega arith, nested_roots (n + 1) ts)
 
 module_file_within : (files : Briefs) (n : ℕ) (b : Brief) → n < length files → module_file_in files n (Some b) < length files
-module_file_within files n b h = at b.is_module (file_named files b.module_file) refl
+module_file_within files n b h = at b.is_module (file_named files b.module_name) refl
   where
-    other : (o : Option ℕ) → file_named files b.module_file ≡ o → unwrap_or o n < length files
+    other : (o : Option ℕ) → file_named files b.module_name ≡ o → unwrap_or o n < length files
     other None e = h
-    other (Some m) e = named_within files b.module_file m e
+    other (Some m) e = named_within files b.module_name m e
 
-    at : (m : Bool) (o : Option ℕ) → file_named files b.module_file ≡ o → cond m n (unwrap_or (file_named files b.module_file) n) < length files
+    at : (m : Bool) (o : Option ℕ) → file_named files b.module_name ≡ o → cond m n (unwrap_or (file_named files b.module_name) n) < length files
     at true o e = h
-    at false o e = other (file_named files b.module_file) refl
+    at false o e = other (file_named files b.module_name) refl
 
 pub module_file_at_within : (files : Briefs) (n : ℕ) → n < length files → module_file_at files n < length files
 module_file_at_within files n h = at (slice_get files n)

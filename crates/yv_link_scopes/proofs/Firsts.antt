@@ -75,8 +75,8 @@ get_map f xs n i x e h is = slice_get-map f xs i ∙ ap (option_map f) (slice_ge
 pub take_next : {A : Type 0} (xs : List A) (i : ℕ) (x : A) → slice_get xs i ≡ Some x → take (i + 1) xs ≡ take i xs ++ x ∷ []
 take_next xs i x at = take_more xs i x (slice_get_within xs i x at) ∙ ap (λ y. take i xs ++ y ∷ []) (get_or_from_slice_get xs i x x at)
 
-pub brief_made : (name module_file : List ℕ) (m : Bool) (t : Tree) → name ≡ tree_name t → module_file ≡ module_name t → m ≡ is_module t → (let b : Brief = record { name = name; module_file = module_file; is_module = m; head = t.head } in b ≡ brief_of t)
-brief_made name module_file m t e h k = λ i. record { name = e i; module_file = h i; is_module = k i; head = t.head }
+pub brief_made : (name named : List ℕ) (m : Bool) (t : Tree) → name ≡ tree_name t → named ≡ module_name t → m ≡ is_module t → (let b : Brief = record { name = name; module_name = named; is_module = m; head = t.head } in b ≡ brief_of t)
+brief_made name named m t e h k = λ i. record { name = e i; module_name = h i; is_module = k i; head = t.head }
 
 pub briefs_more : (old new : List File) (f : File) (b : Brief) (files : Briefs) (i : ℕ) → new ≡ old ++ f ∷ [] → brief f ≡ b → slice_get files i ≡ Some b → map brief old ≡ take i files → map brief new ≡ take (i + 1) files
 briefs_more old new f b files i n e at h = ap (map brief) n ∙ map-append brief old (f ∷ []) ∙ ap (λ xs. xs ++ brief f ∷ []) h ∙ ap (λ x. take i files ++ x ∷ []) e ∙ sym (take_next files i b at)

@@ -15,7 +15,7 @@ Files = List Tree
 -- root
 pub record Brief : Type 0 where
   pub name : List ℕ
-  pub module_file : List ℕ
+  pub module_name : List ℕ
   pub is_module : Bool
   pub head : Head
 
@@ -27,7 +27,7 @@ Briefs = List Brief
 abbrev pub brief : File → Brief
 brief f = record {
   name = f.name.now;
-  module_file = f.module_file.now;
+  module_name = f.module_name.now;
   is_module = f.is_module;
   head = f.root.now.head;
 }
@@ -59,7 +59,7 @@ module_name t =
 abbrev pub brief_of : Tree → Brief
 brief_of t = record {
   name = tree_name t;
-  module_file = module_name t;
+  module_name = module_name t;
   is_module = is_module t;
   head = t.head;
 }
@@ -73,7 +73,7 @@ file_named files name = first_where (λ (f : Brief). bytes_eq f.name name) files
 abbrev pub module_file_in : Briefs → ℕ → Option Brief → ℕ
 module_file_in files n None = n
 module_file_in files n (Some f) =
-    if f.is_module then n else unwrap_or (file_named files f.module_file) n
+    if f.is_module then n else unwrap_or (file_named files f.module_name) n
 
 -- the file of the module to which a file belongs; the file itself where that isn't there
 abbrev pub module_file_at : Briefs → ℕ → ℕ

@@ -12,7 +12,7 @@ use yv_statement::{Keyword, Statement};
 pub struct File<'a, 'b> {
     pub name: &'a str,
     /// A module's own name; of a submodule the name in its belongs-to.
-    pub module_file: &'a str,
+    pub module_name: &'a str,
     pub is_module: bool,
     pub root: &'a Statement<'b>,
 }
@@ -50,7 +50,7 @@ pub(crate) fn read_files<'a, 'b>(
     for root in roots {
         files.push(File {
             name: name_of(root),
-            module_file: module_name(root),
+            module_name: module_name(root),
             is_module: is_module(root),
             root,
         })?;
@@ -90,7 +90,7 @@ pub(crate) fn module_file<'a>(
     if file.is_module {
         return number;
     }
-    names.get(0, file.module_file).unwrap_or(number)
+    names.get(0, file.module_name).unwrap_or(number)
 }
 
 /// For each file the file of its module. A name is looked up once for a file, and not for each of

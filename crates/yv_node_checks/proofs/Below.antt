@@ -7,7 +7,7 @@ use Rattle.yv_nodes.specs.Tree.{Label, Tree, node, Forest, no_trees, tree, count
 use Rattle.yv_nodes.specs.Places.{Place, places}
 use Rattle.yv_nodes.specs.Rows.{Row}
 use Rattle.yv_nodes.specs.Numbers.{numbers_from}
-use Rattle.yv_node_definition.specs.Definition.{TextInFile}
+use Rattle.yv_statement.specs.TextInFile.{TextInFile}
 use Rattle.yv_node_definition.specs.Kinds.{is_case}
 use Rattle.yv_node_checks.specs.InnerSpots.{AreRows, node_id, Sits, Spot, spots, row_of}
 use Rattle.std.proofs.lemmas.Bool.{cases_eq}

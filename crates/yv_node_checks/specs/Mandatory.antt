@@ -8,7 +8,8 @@ use Rattle.yv_statement.specs.Order.{Among, Stands}
 use Rattle.yv_node_definition.specs.declared.kind.NodeKind.{NodeKind}
 use Rattle.yv_node_definition.specs.declared.kind.NodeKind.TheVariants as kind
 use Rattle.yv_values.specs.Same.{has_same}
-use Rattle.yv_node_definition.specs.Definition.{Definition, TextInFile, defaults_said, own_default}
+use Rattle.yv_node_definition.specs.Definition.{Definition, defaults_said, own_default}
+use Rattle.yv_statement.specs.TextInFile.{TextInFile}
 use Rattle.yv_node_definition.specs.Kinds.{is_case, is_choice}
 use Rattle.yv_nodes.specs.Tree.{Label, Tree, node, Forest, no_trees, tree}
 use Rattle.yv_nodes.specs.Defaults.{defaults_of}

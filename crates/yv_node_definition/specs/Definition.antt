@@ -1,8 +1,8 @@
 -- What a statement says of the schema node that it defines (RFC 7950, section 7).
 use Rattle.std.specs.Prelude.{ℕ, ◌==◌, Bool, List, [], Option, None, true, false, ◌∷◌, map, option_to_list, slice_get, if◌then◌else◌}
-use Rattle.std.specs.Rc.{rc_str_bytes}
 use Rattle.std.specs.declared.vec.Vec.{Vec}
 use Rattle.std.specs.declared.alloc.Global.{Global}
+use Rattle.yv_statement.specs.TextInFile.{TextInFile, or_list}
 use Rattle.yv_values.specs.Types.{Plain}
 use Rattle.yv_values.specs.Values.{Val}
 use Rattle.yv_node_definition.specs.Steps.{Piece, Step}
@@ -10,16 +10,6 @@ use Rattle.yv_node_definition.specs.declared.kind.NodeKind.{NodeKind}
 use Rattle.yv_node_definition.specs.declared.kind.NodeKind.TheVariants.{Leaf}
 use Rattle.yv_node_definition.specs.declared.kind.NodeStatus.{NodeStatus}
 use Rattle.yv_node_definition.specs.declared.kind.NodeStatus.TheVariants.{Current}
-use Rattle.yv_node_definition.specs.declared.definition.WrittenText.{WrittenText}
-
--- a text, and the number of the file in which it is written: prefixes in it are those of this file
-pub record TextInFile : Type 0 where
-  pub text : List ℕ
-  pub file : ℕ
-
--- the text in a file that a value of the code is
-abbrev pub written_of : WrittenText → TextInFile
-written_of w = record { text = rc_str_bytes w.text; file = w.file }
 
 -- what a statement says of the schema node that it defines: `file`, `offset` and `line` say where
 -- its keyword is. `keys` has the names of its `key` statement, each the one step of a path, and
@@ -51,11 +41,6 @@ pub record Definition : Type 0 where
 -- its own default, where it can have one alone, as a leaf and a choice can
 abbrev pub own_default : Definition → Option TextInFile
 own_default d = slice_get d.own_defaults 0
-
--- the second list, where the first is empty
-abbrev pub or_list : {A : Type 0} → List A → List A → List A
-or_list [] ys = ys
-or_list (x ∷ xs) ys = x ∷ xs
 
 -- the defaults that are said of a node: its own, or else that of its type, but not where entries
 -- are asked for (sections 7.3.4, 7.6.1 and 7.7.2)

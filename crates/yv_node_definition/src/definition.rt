@@ -1,7 +1,8 @@
 //! What a statement says of the schema node that it defines.
 ghost use Rattle.std.specs.{Prelude.{◌≡◌, ◌≤◌, length, not, map, IfOk}, Option.{option_map}, Rc.{rc_slice_items, rc_str_bytes}};
 ghost use Rattle.yv_values.specs.{Types.{plain_of}, Same.{has_same}};
-ghost use Rattle.yv_node_definition.specs.{Definition.{defaults_said, is_empty, own_default, paths_in, with_types, written_of}, Steps.{has_step}};
+ghost use Rattle.yv_node_definition.specs.{Definition.{defaults_said, is_empty, own_default, paths_in, with_types}, Steps.{has_step}};
+ghost use Rattle.yv_statement.specs.TextInFile.{written_of};
 
 use crate::keys::Keys;
 use crate::kind::{NodeKind, NodeStatus};
@@ -10,16 +11,8 @@ use crate::step::PathStep;
 use std::alloc::{AllocError, Global};
 use std::marker::Model;
 use std::rc::{Rc, RcSlice, RcStr};
+use yv_statement::WrittenText;
 use yv_values::{Defaults, PlainType, Value};
-
-/// A text, and the file in which it is written, whose prefixes it uses.
-#[derive(Drop)]
-pub struct WrittenText {
-    /// The text.
-    pub text: RcStr,
-    /// The number of the file.
-    pub file: u32,
-}
 
 /// What a statement says of the schema node that it defines, while it is put together: each part
 /// may still be changed. Contracts see it as a `Defined`.
@@ -71,7 +64,8 @@ pub struct DefinitionDraft {
 impl Model for DefinitionDraft {
     ghost use Rattle.std.specs.{Prelude.{map}, Option.{option_map}, Rc.{rc_slice_items, rc_str_bytes}};
     ghost use Rattle.yv_values.specs.Types.{plain_of};
-    ghost use Rattle.yv_node_definition.specs.Definition.{Definition, paths_in, written_of};
+    ghost use Rattle.yv_node_definition.specs.Definition.{Definition, paths_in};
+    ghost use Rattle.yv_statement.specs.TextInFile.{written_of};
 
     ghost Value = { Definition };
 

@@ -7,7 +7,7 @@ mod kind;
 mod piece;
 mod step;
 
-pub use definition::{Definition, DefinitionDraft, WrittenText};
+pub use definition::{Definition, DefinitionDraft};
 pub use keys::Keys;
 pub use kind::{NodeKind, NodeStatus};
 pub use piece::PathPiece;

@@ -13,14 +13,15 @@ use Rattle.yv_nodes.specs.Places.{Place, places}
 use Rattle.yv_nodes.specs.Rows.{Row, root}
 use Rattle.yv_nodes.specs.Numbers.{numbers_from, rows_from}
 use Rattle.yv_node_definition.specs.Steps.{Step}
-use Rattle.yv_node_definition.specs.Definition.{TextInFile, own_default}
+use Rattle.yv_node_definition.specs.Definition.{own_default}
+use Rattle.yv_statement.specs.TextInFile.{TextInFile}
 use Rattle.yv_node_keys.specs.Targets.{Waypoint, at_node, at_shorthand_case, arrive, default_case, module_file_of, is_called, key_leaf, leaf_among, leaf_at_end, leaf_in, leaf_at, follow_step, child_named, child_of_text, step_to, unique_leaf}
 use Rattle.yv_node_keys.specs.Numbers.{arrived_at, case_of, child_at, children_of, default_of, default_case_at, is_called_at, is_some_called, is_kind_at, is_some_kind, key_leaf_at, leaf_at_end_of, leaf_below, leaf_of, led_at, led_by_at, module_file_at, module_file_of_row, stepped_at, tree_at, tree_in, unique_leaf_at}
 use Rattle.yv_node_keys.specs.Refusals.{is_bad_key, is_bad_statement, is_config_leaf, is_state_leaf}
 use Rattle.yv_node_keys.specs.InnerMixedConfig.{is_bad_statement_at, is_some_config, is_config_of}
 use Rattle.yv_node_keys.specs.InnerSpots.{Sits, Spot, node_id, place_of, row_of, spots}
 use Rattle.yv_node_keys.specs.declared.place.Way.{Way}
-use Rattle.yv_node_keys.specs.declared.place.Way.TheVariants.{AtNode, AtLeftOutCase}
+use Rattle.yv_node_keys.specs.declared.place.Way.TheVariants.{AtNode, AtShorthandCase}
 use Rattle.yv_node_keys.proofs.Listing.{any_same}
 use Rattle.yv_node_keys.proofs.Spots.{IsSpot, all_sit, length_spots, map_get, others_sit, own, places_spots, rows_spots, slice_within, spot_first, spot_in}
 
@@ -154,15 +155,15 @@ module _ (all : Forest) where
 
   way_at : Way → Option Waypoint
   way_at (AtNode n) = option_map at_node (tree_at all n)
-  way_at (AtLeftOutCase n) = option_map at_shorthand_case (tree_at all n)
+  way_at (AtShorthandCase n) = option_map at_shorthand_case (tree_at all n)
 
-  way_by : (left_out : Bool) (n : NodeId) (t : Tree) → tree_at all n ≡ Some t → way_at (cond left_out (AtLeftOutCase n) (AtNode n)) ≡ Some (cond left_out (at_shorthand_case t) (at_node t))
+  way_by : (left_out : Bool) (n : NodeId) (t : Tree) → tree_at all n ≡ Some t → way_at (cond left_out (AtShorthandCase n) (AtNode n)) ≡ Some (cond left_out (at_shorthand_case t) (at_node t))
   unfolding way_at
   way_by true n t e = ap (option_map at_shorthand_case) e
   way_by false n t e = ap (option_map at_node) e
 
   arrived_by : (list left_out : Bool) (n : NodeId) (t : Tree) → tree_at all n ≡ Some t
-      → option_map way_at (cond list None (Some (cond left_out (AtLeftOutCase n) (AtNode n)))) ≡ option_map (λ (v : Waypoint). Some v) (cond list None (Some (cond left_out (at_shorthand_case t) (at_node t))))
+      → option_map way_at (cond list None (Some (cond left_out (AtShorthandCase n) (AtNode n)))) ≡ option_map (λ (v : Waypoint). Some v) (cond list None (Some (cond left_out (at_shorthand_case t) (at_node t))))
   arrived_by true left_out n t e = refl
   arrived_by false left_out n t e = ap Some (way_by left_out n t e)
 
@@ -173,9 +174,9 @@ module _ (all : Forest) where
       let list_is = kind_is is_list n m inner here in
       let choice_is = kind_is is_choice above l kids is in
       let case_is = kind_is is_case n m inner here in
-      ap (λ (b : Bool). option_map way_at (cond b None (Some (cond (is_kind_at rows is_choice above && not (is_kind_at rows is_case n)) (AtLeftOutCase n) (AtNode n))))) list_is
-      ∙ ap (λ (b : Bool). option_map way_at (cond (is_list m.defined.kind) None (Some (cond (b && not (is_kind_at rows is_case n)) (AtLeftOutCase n) (AtNode n))))) choice_is
-      ∙ ap (λ (b : Bool). option_map way_at (cond (is_list m.defined.kind) None (Some (cond (is_choice l.defined.kind && not b) (AtLeftOutCase n) (AtNode n))))) case_is
+      ap (λ (b : Bool). option_map way_at (cond b None (Some (cond (is_kind_at rows is_choice above && not (is_kind_at rows is_case n)) (AtShorthandCase n) (AtNode n))))) list_is
+      ∙ ap (λ (b : Bool). option_map way_at (cond (is_list m.defined.kind) None (Some (cond (b && not (is_kind_at rows is_case n)) (AtShorthandCase n) (AtNode n))))) choice_is
+      ∙ ap (λ (b : Bool). option_map way_at (cond (is_list m.defined.kind) None (Some (cond (is_choice l.defined.kind && not b) (AtShorthandCase n) (AtNode n))))) case_is
       ∙ arrived_by (is_list m.defined.kind) (is_choice l.defined.kind && not (is_case m.defined.kind)) n (node m inner) e
 
   called_at : (module_file : ℕ) (name : List ℕ) (n : NodeId) (l : Label) (kids : Forest) → IsAt all n l kids → is_called_at rows module_file name n ≡ is_called module_file name l
@@ -195,7 +196,7 @@ module _ (all : Forest) where
         let is : IsAt all n l kids = known n l kids e in
         onward (tree_at all) way_at (arrived_at rows n) (arrive l) (arrived_is n l kids is) (child_at rows module_file name n) (child_named module_file name kids) (child_is module_file name n l kids is)
 
-    from_case : (n : NodeId) (t : Tree) → tree_at all n ≡ Some t → Alike (AtLeftOutCase n) (at_shorthand_case t)
+    from_case : (n : NodeId) (t : Tree) → tree_at all n ≡ Some t → Alike (AtShorthandCase n) (at_shorthand_case t)
     from_case n (node l kids) e =
         ap (λ (b : Bool). option_map way_at (cond b (Some (AtNode n)) None)) (called_at module_file name n l kids (known n l kids e))
         ∙ entered (is_called module_file name l) n (node l kids) e
@@ -207,14 +208,14 @@ module _ (all : Forest) where
     by_node n v None e is = absurd (none_some v is)
     by_node n v (Some t) e is = subst (Alike (AtNode n)) (same_Some (at_node t) v is) (from_node n t e)
 
-    by_case : (n : NodeId) (v : Waypoint) (o : Option Tree) → tree_at all n ≡ o → option_map at_shorthand_case o ≡ Some v → Alike (AtLeftOutCase n) v
+    by_case : (n : NodeId) (v : Waypoint) (o : Option Tree) → tree_at all n ≡ o → option_map at_shorthand_case o ≡ Some v → Alike (AtShorthandCase n) v
     by_case n v None e is = absurd (none_some v is)
-    by_case n v (Some t) e is = subst (Alike (AtLeftOutCase n)) (same_Some (at_shorthand_case t) v is) (from_case n t e)
+    by_case n v (Some t) e is = subst (Alike (AtShorthandCase n)) (same_Some (at_shorthand_case t) v is) (from_case n t e)
 
     stepped_is : (w : Way) (v : Waypoint) → way_at w ≡ Some v → Alike w v
     unfolding way_at
     stepped_is (AtNode n) v e = by_node n v (tree_at all n) refl e
-    stepped_is (AtLeftOutCase n) v e = by_case n v (tree_at all n) refl e
+    stepped_is (AtShorthandCase n) v e = by_case n v (tree_at all n) refl e
 
   led_by_is : (module_file : ℕ) (s : Option Step) (w : Way) (v : Waypoint) → way_at w ≡ Some v → option_map way_at (led_by_at rows module_file s w) ≡ option_map (λ (u : Waypoint). Some u) (follow_step module_file s v)
   led_by_is module_file None w v e = refl
@@ -227,14 +228,14 @@ module _ (all : Forest) where
   end_node n v None e is = absurd (none_some 0 [] v is)
   end_node n v (Some t) e is = subst (Ends (AtNode n)) (same_Some (at_node t) v is) (leaf_is n t e)
 
-  end_case : (n : NodeId) (v : Waypoint) (o : Option Tree) → option_map at_shorthand_case o ≡ Some v → Ends (AtLeftOutCase n) v
+  end_case : (n : NodeId) (v : Waypoint) (o : Option Tree) → option_map at_shorthand_case o ≡ Some v → Ends (AtShorthandCase n) v
   end_case n v None is = absurd (none_some 0 [] v is)
-  end_case n v (Some t) is = subst (Ends (AtLeftOutCase n)) (same_Some (at_shorthand_case t) v is) refl
+  end_case n v (Some t) is = subst (Ends (AtShorthandCase n)) (same_Some (at_shorthand_case t) v is) refl
 
   end_is : (w : Way) (v : Waypoint) → way_at w ≡ Some v → Ends w v
   unfolding way_at
   end_is (AtNode n) v e = end_node n v (tree_at all n) refl e
-  end_is (AtLeftOutCase n) v e = end_case n v (tree_at all n) e
+  end_is (AtShorthandCase n) v e = end_case n v (tree_at all n) e
 
   led_is : (module_file : ℕ) (ss : List (Option Step)) (w : Way) (v : Waypoint) → way_at w ≡ Some v → option_map (tree_at all) (led_at rows module_file ss w) ≡ option_map (λ (u : Tree). Some u) (leaf_at module_file ss v)
   led_is module_file [] w v e = end_is w v e

@@ -14,7 +14,7 @@ use Rattle.yv_node_keys.specs.Numbers.{arrived_at, child_at, children_at, is_cal
 use Rattle.yv_node_keys.specs.InnerMixedConfig.{is_bad_statement_at, is_mixed_at}
 use Rattle.yv_node_keys.specs.InnerShifts.{AreInside, AreMoved, AreUnmixed, IsInside, moved}
 use Rattle.yv_node_keys.specs.declared.place.Way.{Way}
-use Rattle.yv_node_keys.specs.declared.place.Way.TheVariants.{AtNode, AtLeftOutCase}
+use Rattle.yv_node_keys.specs.declared.place.Way.TheVariants.{AtNode, AtShorthandCase}
 use Rattle.yv_node_keys.specs.declared.shift.Shift.{Shift}
 use Rattle.yv_node_keys.proofs.Mixing.{bad_is}
 
@@ -51,11 +51,11 @@ found_inside s p (m ∷ ns) n inside e = by (found_inside s p ns n inside.1) (p 
 -- the place so far from one
 abbrev moved_way : ℕ → Way → Way
 moved_way by (AtNode n) = AtNode (moved by n)
-moved_way by (AtLeftOutCase n) = AtLeftOutCase (moved by n)
+moved_way by (AtShorthandCase n) = AtShorthandCase (moved by n)
 
 abbrev IsAt : Shift → Way → Type 0
 IsAt s (AtNode n) = IsInside s n
-IsAt s (AtLeftOutCase n) = IsInside s n
+IsAt s (AtShorthandCase n) = IsInside s n
 
 module _ (rows : List Row) (s : Shift) (are : AreMoved rows s) where
   child_moved : (file : ℕ) (name : List ℕ) (n : NodeId) → IsInside s n → child_at rows file name (moved s.by n) ≡ option_map (moved s.by) (child_at rows file name n)
@@ -68,11 +68,11 @@ module _ (rows : List Row) (s : Shift) (are : AreMoved rows s) where
       let above = are a at in
       let below = are b to in
       let arrived : Bool → Bool → Bool → Option Way =
-      λ l c d. cond l None (Some (cond (c && not d) (AtLeftOutCase (moved s.by b)) (AtNode (moved s.by b)))) in
+      λ l c d. cond l None (Some (cond (c && not d) (AtShorthandCase (moved s.by b)) (AtNode (moved s.by b)))) in
       sym (λ i. arrived (below.kinds is_list i) (above.kinds is_choice i) (below.kinds is_case i)) ∙ shape (is_kind_at rows is_list b) (is_kind_at rows is_choice a) (is_kind_at rows is_case b)
     where
-      shape : (l c d : Bool) → cond l None (Some (cond (c && not d) (AtLeftOutCase (moved s.by b)) (AtNode (moved s.by b))))
-          ≡ option_map (moved_way s.by) (cond l None (Some (cond (c && not d) (AtLeftOutCase b) (AtNode b))))
+      shape : (l c d : Bool) → cond l None (Some (cond (c && not d) (AtShorthandCase (moved s.by b)) (AtNode (moved s.by b))))
+          ≡ option_map (moved_way s.by) (cond l None (Some (cond (c && not d) (AtShorthandCase b) (AtNode b))))
       shape true c d = refl
       shape false true true = refl
       shape false true false = refl
@@ -87,7 +87,7 @@ module _ (rows : List Row) (s : Shift) (are : AreMoved rows s) where
           → option_and_then (arrived_at rows (moved s.by n)) (option_map (moved s.by) o) ≡ option_map (moved_way s.by) (option_and_then (arrived_at rows n) o)
       onto None e = refl
       onto (Some c) e = arrived_moved n c at (found_inside s (is_called_at rows (module_file_of own st) st.name) (children_at rows n) c (are n at).inside e)
-  step_moved own (Some st) (AtLeftOutCase n) at =
+  step_moved own (Some st) (AtShorthandCase n) at =
       ap (λ (b : Bool). cond b (Some (AtNode (moved s.by n))) None) (sym ((are n at).called (module_file_of own st) st.name)) ∙ shape (is_called_at rows (module_file_of own st) st.name n)
     where
       shape : (b : Bool) → cond b (Some (AtNode (moved s.by n))) None ≡ option_map (moved_way s.by) (cond b (Some (AtNode n)) None)
@@ -98,9 +98,9 @@ module _ (rows : List Row) (s : Shift) (are : AreMoved rows s) where
   step_inside own None w v at e = absurd (let bad : None ≡ Some v = e in cc)
   step_inside own (Some st) (AtNode n) v at e = by (child_at rows (module_file_of own st) st.name n) refl e
     where
-      arrives : (c : NodeId) → IsInside s c → (l k : Bool) → cond l None (Some (cond k (AtLeftOutCase c) (AtNode c))) ≡ Some v → IsAt s v
+      arrives : (c : NodeId) → IsInside s c → (l k : Bool) → cond l None (Some (cond k (AtShorthandCase c) (AtNode c))) ≡ Some v → IsAt s v
       arrives c in_it true k e = absurd (let bad : None ≡ Some v = e in cc)
-      arrives c in_it false true e = subst (IsAt s) (same_Some (AtLeftOutCase c) v e) in_it
+      arrives c in_it false true e = subst (IsAt s) (same_Some (AtShorthandCase c) v e) in_it
       arrives c in_it false false e = subst (IsAt s) (same_Some (AtNode c) v e) in_it
 
       by : (o : Option NodeId) → child_at rows (module_file_of own st) st.name n ≡ o → option_and_then (arrived_at rows n) o ≡ Some v → IsAt s v
@@ -108,7 +108,7 @@ module _ (rows : List Row) (s : Shift) (are : AreMoved rows s) where
       by (Some c) is e =
           arrives c (found_inside s (is_called_at rows (module_file_of own st) st.name) (children_at rows n) c (are n at).inside is)
           (is_kind_at rows is_list c) (is_kind_at rows is_choice n && not (is_kind_at rows is_case c)) e
-  step_inside own (Some st) (AtLeftOutCase n) v at e = by (is_called_at rows (module_file_of own st) st.name n) e
+  step_inside own (Some st) (AtShorthandCase n) v at e = by (is_called_at rows (module_file_of own st) st.name n) e
     where
       by : (b : Bool) → cond b (Some (AtNode n)) None ≡ Some v → IsAt s v
       by true e = subst (IsAt s) (same_Some (AtNode n) v e) at
@@ -123,7 +123,7 @@ module _ (rows : List Row) (s : Shift) (are : AreMoved rows s) where
 
   led_moved : (own : ℕ) (path : List (Option Step)) (w : Way) → IsAt s w → led_at rows own path (moved_way s.by w) ≡ option_map (moved s.by) (led_at rows own path w)
   led_moved own [] (AtNode n) at = leaf_moved n at
-  led_moved own [] (AtLeftOutCase n) at = refl
+  led_moved own [] (AtShorthandCase n) at = refl
   led_moved own (st ∷ path) w at =
       ap (option_and_then (led_at rows own path)) (step_moved own st w at) ∙ onward (led_moved own path) (led_by_at rows own st w) refl
     where

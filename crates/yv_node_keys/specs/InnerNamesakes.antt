@@ -4,7 +4,7 @@ use Rattle.yv_node_definition.specs.Steps.{Step}
 use Rattle.yv_nodes.specs.declared.node.NodeId.{NodeId}
 use Rattle.yv_nodes.specs.Alike.{untyped_at}
 use Rattle.yv_nodes.specs.Rows.{Row}
-use Rattle.yv_node_definition.specs.Definition.{TextInFile}
+use Rattle.yv_statement.specs.TextInFile.{TextInFile}
 use Rattle.yv_node_keys.specs.Numbers.{default_of}
 
 -- the node of this number has this name

@@ -4,7 +4,8 @@ use Rattle.std.specs.List.{find}
 use Rattle.std.specs.Option.{option_and_then, option_map}
 use Rattle.yv_node_definition.specs.declared.kind.NodeKind.{NodeKind}
 use Rattle.yv_node_definition.specs.Kinds.{is_case, is_choice, is_leaf, is_list}
-use Rattle.yv_node_definition.specs.Definition.{TextInFile, own_default}
+use Rattle.yv_node_definition.specs.Definition.{own_default}
+use Rattle.yv_statement.specs.TextInFile.{TextInFile}
 use Rattle.yv_nodes.specs.declared.node.NodeId.{NodeId}
 use Rattle.yv_nodes.specs.Tree.{Tree, node, Forest}
 use Rattle.yv_nodes.specs.Places.{Place, places}
@@ -12,7 +13,7 @@ use Rattle.yv_nodes.specs.Rows.{Row}
 use Rattle.yv_node_definition.specs.Steps.{Step}
 use Rattle.yv_node_keys.specs.Targets.{module_file_of, is_called}
 use Rattle.yv_node_keys.specs.declared.place.Way.{Way}
-use Rattle.yv_node_keys.specs.declared.place.Way.TheVariants.{AtNode, AtLeftOutCase}
+use Rattle.yv_node_keys.specs.declared.place.Way.TheVariants.{AtNode, AtShorthandCase}
 
 -- a node with what is below it
 abbrev pub tree_in : Place → Tree
@@ -85,19 +86,19 @@ is_shorthand_case_at rows above below =
 abbrev pub arrived_at : List Row → (above below : NodeId) → Option Way
 arrived_at rows above below =
     if is_kind_at rows is_list below then None
-    else Some (if is_shorthand_case_at rows above below then AtLeftOutCase below else AtNode below)
+    else Some (if is_shorthand_case_at rows above below then AtShorthandCase below else AtNode below)
 
 -- where a step of this module and name leads
 abbrev pub stepped_at : List Row → (module_file : ℕ) → (name : List ℕ) → Way → Option Way
 stepped_at rows module_file name (AtNode n) =
     option_and_then (arrived_at rows n) (child_at rows module_file name n)
-stepped_at rows module_file name (AtLeftOutCase n) =
+stepped_at rows module_file name (AtShorthandCase n) =
     if is_called_at rows module_file name n then Some (AtNode n) else None
 
 -- the leaf at which a path ends
 abbrev pub leaf_at_end_of : List Row → Way → Option NodeId
 leaf_at_end_of rows (AtNode n) = leaf_of rows n
-leaf_at_end_of rows (AtLeftOutCase n) = None
+leaf_at_end_of rows (AtShorthandCase n) = None
 
 -- where one step of a path leads
 abbrev pub led_by_at : List Row → (own : ℕ) → Option Step → Way → Option Way

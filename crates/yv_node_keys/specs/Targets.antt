@@ -3,7 +3,8 @@ use Rattle.std.specs.Prelude.{ℕ, ◌==◌, Bool, not, ◌&&◌, List, [], ◌�
 use Rattle.std.specs.Option.{option_and_then, unwrap_or}
 use Rattle.std.specs.Str.{bytes_eq}
 use Rattle.yv_node_definition.specs.Kinds.{is_case, is_choice, is_leaf, is_list}
-use Rattle.yv_node_definition.specs.Definition.{TextInFile, own_default}
+use Rattle.yv_node_definition.specs.Definition.{own_default}
+use Rattle.yv_statement.specs.TextInFile.{TextInFile}
 use Rattle.yv_nodes.specs.Tree.{Label, Tree, node, Forest, no_trees, tree}
 use Rattle.yv_node_definition.specs.Steps.{Step}
 

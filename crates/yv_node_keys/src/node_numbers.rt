@@ -103,7 +103,7 @@ pub(crate) fn arrived_at(nodes: &[Node], above: NodeId, below: NodeId) -> Option
     if is_list(nodes, below) {
         None
     } else if is_choice(nodes, above) && !is_case(nodes, below) {
-        Some(Way::AtLeftOutCase(below))
+        Some(Way::AtShorthandCase(below))
     } else {
         Some(Way::AtNode(below))
     }

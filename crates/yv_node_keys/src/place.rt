@@ -6,5 +6,5 @@ use yv_nodes::NodeId;
 #[derive(Clone, Copy)]
 pub(crate) enum Way {
     AtNode(NodeId),
-    AtLeftOutCase(NodeId),
+    AtShorthandCase(NodeId),
 }

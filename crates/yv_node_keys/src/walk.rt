@@ -48,7 +48,7 @@ fn step_to<'n>(
             let child = index.child(alloc, above, module_file, name)?;
             Ok(arrived_from(index.nodes(), above, child))
         }
-        Way::AtLeftOutCase(node) => Ok(enter_case(index.nodes(), node, module_file, name)),
+        Way::AtShorthandCase(node) => Ok(enter_case(index.nodes(), node, module_file, name)),
     }
 }
 
@@ -78,7 +78,7 @@ fn leaf_at_end(nodes: &[Node], place: Way) -> Option<NodeId>
 {
     match place {
         Way::AtNode(node) => leaf_of(nodes, node),
-        Way::AtLeftOutCase(_) => None,
+        Way::AtShorthandCase(_) => None,
     }
 }
 

@@ -10,7 +10,7 @@ use Rattle.yv_link_scopes.specs.Files.{Files}
 use Rattle.yv_expand.specs.declared.origin.Origin.{Origin}
 use Rattle.yv_expand.specs.declared.origin.Origin.TheVariants as origin
 use Rattle.yv_base_numbers.specs.Numbers.{integer_of}
-use Rattle.yv_node_definition.specs.Definition.{TextInFile, or_list}
+use Rattle.yv_statement.specs.TextInFile.{TextInFile, or_list}
 use Rattle.yv_node_properties.specs.Statements.{file_at, first_of, is_of, statement_at}
 
 -- what is said by a substatement of each keyword, if it is

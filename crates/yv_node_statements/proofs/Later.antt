@@ -11,7 +11,8 @@ use Rattle.yv_link_scopes.specs.Files.{Files}
 use Rattle.yv_expand.specs.declared.origin.Origin.{Origin}
 use Rattle.yv_expand.specs.declared.origin.Origin.TheVariants.{Statement, Input, Output}
 use Rattle.yv_values.specs.Values.{Val}
-use Rattle.yv_node_definition.specs.Definition.{Definition, TextInFile, or_list}
+use Rattle.yv_node_definition.specs.Definition.{Definition}
+use Rattle.yv_statement.specs.TextInFile.{TextInFile, or_list}
 use Rattle.yv_node_definition.specs.declared.kind.NodeKind.TheVariants as kind
 use Rattle.yv_node_statements.specs.Kinds.{TypeMeanings}
 use Rattle.yv_node_statements.specs.Features.{all_expressions, expressions, with_expressions}

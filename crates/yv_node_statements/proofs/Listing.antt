@@ -7,7 +7,7 @@ use Rattle.yv_text_grammar.specs.Words.{words}
 use Rattle.yv_link_scopes.specs.Files.{Files}
 use Rattle.yv_node_definition.specs.Steps.{Step}
 use Rattle.yv_node_properties.specs.Statements.{is_of}
-use Rattle.yv_node_definition.specs.Definition.{TextInFile}
+use Rattle.yv_statement.specs.TextInFile.{TextInFile}
 use Rattle.yv_node_statements.specs.Definitions.{uniques_in}
 use Rattle.yv_node_statements.specs.InnerChanges.{defaults_among}
 

@@ -9,7 +9,7 @@ use Rattle.yv_values.specs.Types.{Plain}
 use Rattle.yv_types.specs.Spaces.{Space}
 use Rattle.yv_types.specs.Types.{IsTold}
 use Rattle.yv_type_enums.specs.Types.{Truth}
-use Rattle.yv_node_definition.specs.Definition.{TextInFile}
+use Rattle.yv_statement.specs.TextInFile.{TextInFile}
 use Rattle.yv_types.specs.Defaults.{HasDefault}
 use Rattle.yv_types.specs.Types.{IsDefault}
 use Rattle.yv_types.specs.Types.{IsReferring}

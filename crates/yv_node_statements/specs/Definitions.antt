@@ -15,7 +15,8 @@ use Rattle.yv_node_paths.specs.Steps.{names_of, paths_of}
 use Rattle.yv_node_paths.specs.Referral.{pieces_of}
 use Rattle.yv_types.specs.declared.leafref_path.TypeLeafref.{TypeLeafref}
 use Rattle.yv_node_definition.specs.Steps.{Piece, Step}
-use Rattle.yv_node_definition.specs.Definition.{Definition, TextInFile, blank}
+use Rattle.yv_node_definition.specs.Definition.{Definition, blank}
+use Rattle.yv_statement.specs.TextInFile.{TextInFile}
 use Rattle.yv_node_definition.specs.declared.kind.NodeKind.{NodeKind}
 use Rattle.yv_node_definition.specs.declared.kind.NodeKind.TheVariants as kind
 use Rattle.yv_node_definition.specs.declared.kind.NodeStatus.{NodeStatus}

@@ -3,7 +3,8 @@ use Rattle.std.specs.Prelude.{ℕ, ◌==◌, Bool, true, false, not, ◌&&◌, �
 use Rattle.std.specs.List.{list_any}
 use Rattle.yv_statement.specs.declared.keyword.Keyword.TheVariants as word
 use Rattle.yv_link_scopes.specs.Files.{Files}
-use Rattle.yv_node_definition.specs.Definition.{Definition, TextInFile}
+use Rattle.yv_node_definition.specs.Definition.{Definition}
+use Rattle.yv_statement.specs.TextInFile.{TextInFile}
 use Rattle.yv_node_properties.specs.Properties.{said_at}
 
 -- a numbered statement gives a default

@@ -8,7 +8,8 @@ use Rattle.std.specs.declared.rc.Rc.{Rc}
 use Rattle.yv_link_scopes.specs.Files.{Files}
 use Rattle.yv_values.specs.Types.{Plain}
 use Rattle.yv_values.specs.Values.{Val}
-use Rattle.yv_node_definition.specs.Definition.{Definition, TextInFile}
+use Rattle.yv_node_definition.specs.Definition.{Definition}
+use Rattle.yv_statement.specs.TextInFile.{TextInFile}
 use Rattle.yv_types.specs.Types.{default_at, sharing_at}
 use Rattle.yv_types.specs.declared.type_table.Types.{Types}
 use Rattle.yv_types.specs.Scopes.{AreScopes}

@@ -11,7 +11,7 @@ use Rattle.yv_values.specs.Types.{Plain}
 use Rattle.yv_types.specs.Types.{IsDefault, IsReferring, default_at, referring_at, space_at}
 use Rattle.yv_types.specs.Spaces.{Space}
 use Rattle.yv_types.specs.declared.type_table.Types.{Types}
-use Rattle.yv_node_definition.specs.Definition.{TextInFile}
+use Rattle.yv_statement.specs.TextInFile.{TextInFile}
 use Rattle.yv_types.specs.declared.leafref_path.TypeLeafref.{TypeLeafref}
 
 -- the plain types of the `type` statement at an offset of a file

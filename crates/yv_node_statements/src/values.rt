@@ -2,14 +2,16 @@
 ghost use Rattle.std.specs.{Prelude.{◌≡◌, ◌+◌, ◌≤◌, ◌++◌, map, length, IfOk, IfSome, OnOk}, Option.{option_copied}};
 ghost use Rattle.yv_link_scopes.specs.Files.{Files};
 ghost use Rattle.yv_values.specs.Types.{plain_of};
-ghost use Rattle.yv_node_definition.specs.Definition.{defaults_said, written_of};
+ghost use Rattle.yv_node_definition.specs.Definition.{defaults_said};
+ghost use Rattle.yv_statement.specs.TextInFile.{written_of};
 ghost use Rattle.yv_types.specs.Scopes.{AreScopes};
 ghost use Rattle.yv_node_statements.specs.{Values.{alone, defaults_of, has_defaults, value_of, values_of}, InnerSharedValues.{IsByType, has_type_default}};
 
 use crate::nothing::Nothing;
 use std::alloc::{AllocError, Global};
 use std::rc::Rc;
-use yv_node_definition::{DefinitionDraft, NodeKind, WrittenText};
+use yv_node_definition::{DefinitionDraft, NodeKind};
+use yv_statement::WrittenText;
 use yv_types::default_value;
 use yv_values::{Defaults, Matchers, PlainType, Scope, Value};
 

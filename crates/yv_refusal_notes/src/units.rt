@@ -18,7 +18,7 @@ fn marks(
 ) -> Result<Vec<bool>, AllocError> {
     let mut marks = Vec::new(alloc);
     for file in rows.files() {
-        marks.push(selection.is_implemented(file.module_file))?;
+        marks.push(selection.is_implemented(file.module_name))?;
     }
     Ok(marks)
 }

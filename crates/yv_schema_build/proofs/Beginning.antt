@@ -18,7 +18,7 @@ use Rattle.yv_link_scopes.specs.Files.{Files, has_word}
 use Rattle.yv_link_scopes.specs.Rows.{Row}
 use Rattle.yv_link_scopes.specs.RowList.{rows_of, statements_of}
 use Rattle.yv_type_chains.specs.Types.{is_leafref}
-use Rattle.yv_node_definition.specs.Definition.{TextInFile}
+use Rattle.yv_statement.specs.TextInFile.{TextInFile}
 use Rattle.yv_expand.specs.declared.origin.Origin.{Origin}
 use Rattle.yv_expand.specs.declared.origin.Origin.TheVariants as origin
 use Rattle.yv_node_paths.specs.Referral.{climbs_of}

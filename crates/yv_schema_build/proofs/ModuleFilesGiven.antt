@@ -202,11 +202,11 @@ module _ (choice : Selected) (files : Files) (fine : (n : ℕ) (t : Tree) (f : R
       false_from_ne_true _ (λ e. linked (refusal_at code.Submodule r.file r.head) (inl (inr (j, slice_get_within (rows_of files) j r at, r, at, inr (inr (inr (inr (e, refl)))))))) in
       let there : slice_get (map brief_of files) r.file ≡ Some f = ap (slice_get (map brief_of files)) here ∙ own_at in
       let target : option_and_then (λ k. slice_get (map brief_of files) k) (file_named (map brief_of files) (name_in r)) ≡ Some g = ap (option_and_then (λ k. slice_get (map brief_of files) k)) name_at ∙ at' in
-      let told : is_wrong r.head f.module_file g ≡ false = sym (ap (λ o. wrong_at r.head o (Some g)) there) ∙ sym (ap (wrong_at r.head (slice_get (map brief_of files) r.file)) target) ∙ right in
+      let told : is_wrong r.head f.module_name g ≡ false = sym (ap (λ o. wrong_at r.head o (Some g)) there) ∙ sym (ap (wrong_at r.head (slice_get (map brief_of files) r.file)) target) ∙ right in
       let plain : (is_link r.head && not g.is_module) ≡ false = by (has_word (codes "include") r.head) (no_include r.head belongs) told in
       both (is_link r.head) g.is_module (is_linked r.head belongs) plain
     where
-      by : (b : Bool) → b ≡ false → (if b then (g.is_module || not (bytes_eq g.module_file f.module_file)) else (is_link r.head && not g.is_module)) ≡ false
+      by : (b : Bool) → b ≡ false → (if b then (g.is_module || not (bytes_eq g.module_name f.module_name)) else (is_link r.head && not g.is_module)) ≡ false
           → (is_link r.head && not g.is_module) ≡ false
       by true e h = absurd (false≢true (sym e))
       by false e h = h
@@ -226,7 +226,7 @@ module _ (choice : Selected) (files : Files) (fine : (n : ℕ) (t : Tree) (f : R
   own_module_file : (n : ℕ) (t : Tree) → slice_get files n ≡ Some t → is_module t ≡ true → is_implemented choice (module_name t) ≡ true
       → (module_file : Tree) × (slice_get files (module_file_at (map brief_of files) n) ≡ Some module_file) × (is_given choice module_file ≡ true)
   own_module_file n t at is on =
-      let here : module_file_at (map brief_of files) n ≡ n = ap (module_file_in (map brief_of files) n) (brief_at n t at) ∙ ap (λ b. if b then n else unwrap_or (file_named (map brief_of files) (brief_of t).module_file) n) is in
+      let here : module_file_at (map brief_of files) n ≡ n = ap (module_file_in (map brief_of files) n) (brief_at n t at) ∙ ap (λ b. if b then n else unwrap_or (file_named (map brief_of files) (brief_of t).module_name) n) is in
       let name : module_name t ≡ tree_name t = ap (λ b. if b then tree_name t else first_name (find (λ c. has_word (codes "belongs-to") c.head) (trees t.children))) is in
       (t, ap (slice_get files) here ∙ at, both (is_module t) (is_implemented choice (tree_name t)) is (ap (is_implemented choice) (sym name) ∙ on))
     where
@@ -258,7 +258,7 @@ module _ (choice : Selected) (files : Files) (fine : (n : ℕ) (t : Tree) (f : R
       ∙ ap first_name found.2 ∙ ap name_of (sym row.3) in
       let here : module_file_at (map brief_of files) n ≡ target.0 =
       ap (module_file_in (map brief_of files) n) (brief_at n t at)
-      ∙ ap (λ b. if b then n else unwrap_or (file_named (map brief_of files) (brief_of t).module_file) n) part
+      ∙ ap (λ b. if b then n else unwrap_or (file_named (map brief_of files) (brief_of t).module_name) n) part
       ∙ ap (λ w. unwrap_or (file_named (map brief_of files) w) n) name
       ∙ ap (λ o. unwrap_or o n) target.1 in
       let named_so : tree_name u ≡ module_name t = ap (λ (b : Brief). b.name) module_file.2 ∙ (bytes_eq-Decides g.name (name_in r)).0 place.4 ∙ sym name in (

@@ -9,3 +9,4 @@ pub mod Keywords
 pub mod InnerKeywords
 pub mod Words
 pub mod Selection
+pub mod TextInFile

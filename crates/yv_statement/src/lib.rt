@@ -10,6 +10,7 @@ mod refusal;
 mod selection;
 mod statement;
 mod words;
+mod written_text;
 
 pub use document_kind::Kind;
 pub use keyword::Keyword;
@@ -18,3 +19,4 @@ pub use refusal::{Code, Refusal, Stop, lesser, refusal_if};
 pub use selection::Selection;
 pub use statement::Statement;
 pub use words::is_among;
+pub use written_text::WrittenText;

@@ -13,7 +13,7 @@ module _ (cs : List Candidate) where
 
   -- its identity
   abbrev pub id_in : ℕ → Id
-  id_in number = unwrap_or (option_map (λ (c : Candidate). id_of c.member) (slice_get cs number)) (record { module_file = []; name = [] })
+  id_in number = unwrap_or (option_map (λ (c : Candidate). id_of c.member) (slice_get cs number)) (record { module_name = []; name = [] })
 
   pub one_is : (i number : ℕ) (c : Candidate) → slice_get cs number ≡ Some c → is_one i number ≡ true
   one_is i number c at = ap (λ o. unwrap_or (option_map (λ (d : Candidate). true) o) false) at
@@ -22,7 +22,7 @@ module _ (cs : List Candidate) where
   none_is i number at = ap (λ o. unwrap_or (option_map (λ (d : Candidate). true) o) false) at
 
   pub id_is : (number : ℕ) (c : Candidate) → slice_get cs number ≡ Some c → id_in number ≡ id_of c.member
-  id_is number c at = ap (λ o. unwrap_or (option_map (λ (d : Candidate). id_of d.member) o) (record { module_file = []; name = [] })) at
+  id_is number c at = ap (λ o. unwrap_or (option_map (λ (d : Candidate). id_of d.member) o) (record { module_name = []; name = [] })) at
 
   -- the identities of the numbered candidates are those of the chosen ones
   pub by_number : (numbers : List ℕ) (test : Candidate → Bool) (id : Id)

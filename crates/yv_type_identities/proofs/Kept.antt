@@ -49,10 +49,10 @@ again_found linked fs own f k key other copy same within at is one copied all =
 -- a list that is made for a key
 pub new_found : (linked : Linked) (ids : IdentityLists) → AreIdentities linked ids → (left : Option References) (key own : List (ℕ × ℕ)) (members : List Id) → own ≡ key
     → ((files : Files) (choice : Selected) → AreLinked files choice linked → (place : IdentityRef) → IsTrue (is_left left place) ↔ IsBelowKey (map brief_of files) (rows_of files) own place)
-    → ((module_file called : List ℕ) → IsTrue (list_any (is_identity module_file called) members)
-    ↔ ((k : ℕ) × (c : Candidate) × (slice_get ids.candidates.list.items k ≡ Some c) × (is_left left c.identity ≡ true) × (id_of c.member ≡ record { module_file = module_file; name = called })))
+    → ((module_name called : List ℕ) → IsTrue (list_any (is_identity module_name called) members)
+    ↔ ((k : ℕ) × (c : Candidate) × (slice_get ids.candidates.list.items k ≡ Some c) × (is_left left c.identity ≡ true) × (id_of c.member ≡ record { module_name = module_name; name = called })))
     → IsFound linked key members
-new_found linked ids are left key own members f below same files choice t module_file called =
-    through (same module_file called)
-    (key_values (truth_in linked) choice files ids.candidates.list.items key left module_file called (are.candidates files choice t)
+new_found linked ids are left key own members f below same files choice t module_name called =
+    through (same module_name called)
+    (key_values (truth_in linked) choice files ids.candidates.list.items key left module_name called (are.candidates files choice t)
     (subst (λ (ks : List (ℕ × ℕ)). (place : IdentityRef) → IsTrue (is_left left place) ↔ IsBelowKey (map brief_of files) (rows_of files) ks place) f (below files choice t)))

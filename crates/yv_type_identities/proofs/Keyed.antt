@@ -17,11 +17,11 @@ use Rattle.yv_type_identities.specs.declared.sets.References.{References}
 
 module _ (truth : Truth) (choice : Selected) (files : Files) where
   -- the candidates that are left are the values of the key
-  pub key_values : (cs : List Candidate) (key : List (ℕ × ℕ)) (left : Option References) (module_file called : List ℕ) → AreCandidates truth choice files cs
+  pub key_values : (cs : List Candidate) (key : List (ℕ × ℕ)) (left : Option References) (module_name called : List ℕ) → AreCandidates truth choice files cs
       → ((place : IdentityRef) → IsTrue (is_left left place) ↔ IsBelowKey (map brief_of files) (rows_of files) key place)
-      → ((k : ℕ) × (c : Candidate) × (slice_get cs k ≡ Some c) × (is_left left c.identity ≡ true) × (id_of c.member ≡ record { module_file = module_file; name = called }))
-      ↔ HasKeyValue truth choice files key module_file called
-  key_values cs key left module_file called all below = (
+      → ((k : ℕ) × (c : Candidate) × (slice_get cs k ≡ Some c) × (is_left left c.identity ≡ true) × (id_of c.member ≡ record { module_name = module_name; name = called }))
+      ↔ HasKeyValue truth choice files key module_name called
+  key_values cs key left module_name called all below = (
     λ h.
         let s = all.sound h.0 h.1 h.2 in
         (s.0, s.1, s.2, s.3, subst (IsBelowKey (map brief_of files) (rows_of files) key) s.4.place ((below h.1.identity).0 h.3), sym s.4.name ∙ h.4),
@@ -31,11 +31,11 @@ module _ (truth : Truth) (choice : Selected) (files : Files) where
   )
 
   -- the values of a type are those of the key of its bases
-  pub type_values : (kind : ℕ) (bases : List IdentityRef) (key : List (ℕ × ℕ)) (module_file called : List ℕ)
+  pub type_values : (kind : ℕ) (bases : List IdentityRef) (key : List (ℕ × ℕ)) (module_name called : List ℕ)
       → ((base : IdentityRef) → IsTrue (list_any (is_at base) bases) ↔ NamesBase (map brief_of files) (rows_of files) kind base)
       → ((place : IdentityRef) → list_any (is_key place) key ≡ list_any (is_at place) bases)
-      → HasKeyValue truth choice files key module_file called ↔ HasValue truth choice files kind module_file called
-  type_values kind bases key module_file called named same = (
+      → HasKeyValue truth choice files key module_name called ↔ HasValue truth choice files kind module_name called
+  type_values kind bases key module_name called named same = (
     λ h. (
       h.0,
       h.1,

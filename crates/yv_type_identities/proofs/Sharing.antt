@@ -86,20 +86,20 @@ module _ (files : Briefs) (rows : List Row) (places : IdentityPlaces) (are : Are
 
 -- ### the values of a type, as a part
 
-any_between : (module_file called : List ℕ) (q : NumberedId → Bool) (all : List NumberedId) → list_any (is_identity module_file called) (ids_of (filter q all)) ≡ list_any (λ (e : NumberedId). q e && is_identity module_file called e.id) all
-any_between module_file called q [] = refl
-any_between module_file called q (x ∷ xs) = by (q x) (any_between module_file called q xs)
+any_between : (module_name called : List ℕ) (q : NumberedId → Bool) (all : List NumberedId) → list_any (is_identity module_name called) (ids_of (filter q all)) ≡ list_any (λ (e : NumberedId). q e && is_identity module_name called e.id) all
+any_between module_name called q [] = refl
+any_between module_name called q (x ∷ xs) = by (q x) (any_between module_name called q xs)
   where
-    by : (b : Bool) → list_any (is_identity module_file called) (ids_of (filter q xs)) ≡ list_any (λ (e : NumberedId). q e && is_identity module_file called e.id) xs
-        → list_any (is_identity module_file called) (ids_of (cond b (x ∷ filter q xs) (filter q xs))) ≡ ((b && is_identity module_file called x.id) || list_any (λ (e : NumberedId). q e && is_identity module_file called e.id) xs)
-    by true h = ap (λ t. is_identity module_file called x.id || t) h
+    by : (b : Bool) → list_any (is_identity module_name called) (ids_of (filter q xs)) ≡ list_any (λ (e : NumberedId). q e && is_identity module_name called e.id) xs
+        → list_any (is_identity module_name called) (ids_of (cond b (x ∷ filter q xs) (filter q xs))) ≡ ((b && is_identity module_name called x.id) || list_any (λ (e : NumberedId). q e && is_identity module_name called e.id) xs)
+    by true h = ap (λ t. is_identity module_name called x.id || t) h
     by false h = h
 
-id_is : (module_file called : List ℕ) (i : Id) → is_identity module_file called i ≡ true → i ≡ record { module_file = module_file; name = called }
-id_is module_file called i h =
-    let p = both (bytes_eq i.module_file module_file) (bytes_eq i.name called) h in
-    let make : List ℕ → List ℕ → Id = λ m n. record { module_file = m; name = n } in
-    ap (λ m. make m i.name) ((bytes_eq-Decides i.module_file module_file).0 p.0) ∙ ap (make module_file) ((bytes_eq-Decides i.name called).0 p.1)
+id_is : (module_name called : List ℕ) (i : Id) → is_identity module_name called i ≡ true → i ≡ record { module_name = module_name; name = called }
+id_is module_name called i h =
+    let p = both (bytes_eq i.module_name module_name) (bytes_eq i.name called) h in
+    let make : List ℕ → List ℕ → Id = λ m n. record { module_name = m; name = n } in
+    ap (λ m. make m i.name) ((bytes_eq-Decides i.module_name module_name).0 p.0) ∙ ap (make module_name) ((bytes_eq-Decides i.name called).0 p.1)
 
 some_run : (o : Option Run) (run : Run) (n : ℕ) → o ≡ Some run → in_run o n ≡ is_in run n
 some_run o run n e = ap (λ x. in_run x n) e
@@ -128,23 +128,23 @@ module _ (linked : Linked) (cs : List Candidate) (shared : SharedMembers) (are :
         )
 
     pub part_found : (members : List Id) → members ≡ between shared.all run.low run.high → IsFound linked key members
-    part_found members is files choice t module_file called =
-        let p : NumberedId → Bool = λ e. is_in run e.number && is_identity module_file called e.id in
-        let same : list_any (is_identity module_file called) members ≡ list_any p (map entry cs) =
-        ap (list_any (is_identity module_file called)) is ∙ any_between module_file called (λ e. is_in run e.number) shared.all ∙ are.listed p in
+    part_found members is files choice t module_name called =
+        let p : NumberedId → Bool = λ e. is_in run e.number && is_identity module_name called e.id in
+        let same : list_any (is_identity module_name called) members ≡ list_any p (map entry cs) =
+        ap (list_any (is_identity module_name called)) is ∙ any_between module_name called (λ e. is_in run e.number) shared.all ∙ are.listed p in
         let candidates = all files choice t in (
           λ h.
               let f = found p (map entry cs) (sym same ∙ h) in
               let c = mapped entry (slice_get cs f.0) f.1 (sym (slice_get-map entry cs f.0) ∙ f.2) in
-              let q = both (is_in run f.1.number) (is_identity module_file called f.1.id) f.3 in
+              let q = both (is_in run f.1.number) (is_identity module_name called f.1.id) f.3 in
               let s = candidates.sound f.0 c.0 c.1 in
               let number : (entry c.0).number ≡ f.1.number = ap (λ (e : NumberedId). e.number) c.2 in
               let id : id_of c.0.member ≡ f.1.id = ap (λ (e : NumberedId). e.id) c.2 in
-              (s.0, s.1, s.2, s.3, (in_part files choice t s.0 s.1 c.0 s.2 s.3.identity s.4.place).0 (ap (is_in run) number ∙ q.0), sym s.4.name ∙ id ∙ id_is module_file called f.1.id q.1),
+              (s.0, s.1, s.2, s.3, (in_part files choice t s.0 s.1 c.0 s.2 s.3.identity s.4.place).0 (ap (is_in run) number ∙ q.0), sym s.4.name ∙ id ∙ id_is module_name called f.1.id q.1),
           λ h.
               let f = candidates.full h.0 h.1 h.2 h.3 in
               let e : NumberedId = entry f.1 in
               let in' : is_in run e.number ≡ true = (in_part files choice t h.0 h.1 f.1 h.2 h.3.identity f.3.place).1 h.4 in
-              let it : is_identity module_file called e.id ≡ true = is_itself module_file called e.id (f.3.name ∙ h.5) in
-              same ∙ finds p (map entry cs) f.0 e (slice_get-map entry cs f.0 ∙ ap (option_map entry) f.2) (both_true (is_in run e.number) (is_identity module_file called e.id) in' it),
+              let it : is_identity module_name called e.id ≡ true = is_itself module_name called e.id (f.3.name ∙ h.5) in
+              same ∙ finds p (map entry cs) f.0 e (slice_get-map entry cs f.0 ∙ ap (option_map entry) f.2) (both_true (is_in run e.number) (is_identity module_name called e.id) in' it),
         )

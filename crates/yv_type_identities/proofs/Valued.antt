@@ -51,13 +51,13 @@ module _ (truth : Truth) (choice : Selected) (files : Files) (off : BTreeSet ℕ
   pub candidate_passes : (number : ℕ) (r : Row) → IsCandidate truth choice files number r → passes choice (map brief_of files) off number r ≡ true
   candidate_passes number r v =
       both_true (is_identity r) _ v.identity
-      (both_true (names_implemented choice (map brief_of files) (id_at (map brief_of files) r).module_file) _ v.implemented
+      (both_true (names_implemented choice (map brief_of files) (id_at (map brief_of files) r).module_name) _ v.implemented
       (false_not (contains nat_cmp off number) (are number ∙ false_on truth (rows_of files) number v.on)))
 
   pub passes_candidate : (number : ℕ) (r : Row) → passes choice (map brief_of files) off number r ≡ true → IsCandidate truth choice files number r
   passes_candidate number r h =
       let a = both (is_identity r) _ h in
-      let c = both (names_implemented choice (map brief_of files) (id_at (map brief_of files) r).module_file) _ a.1 in
+      let c = both (names_implemented choice (map brief_of files) (id_at (map brief_of files) r).module_name) _ a.1 in
       record {
         identity = a.0;
         implemented = c.0;

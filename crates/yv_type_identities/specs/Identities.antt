@@ -20,8 +20,8 @@ use Rattle.yv_type_identities.specs.declared.identities.IdentityLists.{IdentityL
 -- these are the identities that are values of a type with these bases
 abbrev pub IsFound : Linked → List (ℕ × ℕ) → List Id → Type 0
 IsFound linked key members = (files : Files) (choice : Selected) → AreLinked files choice linked
-    → (module_file called : List ℕ) → IsTrue (list_any (is_identity module_file called) members)
-    ↔ HasKeyValue (truth_in linked) choice files key module_file called
+    → (module_name called : List ℕ) → IsTrue (list_any (is_identity module_name called) members)
+    ↔ HasKeyValue (truth_in linked) choice files key module_name called
 
 -- this was read of these linked files; how, only the readers ask
 pub record AreIdentities (linked : Linked) (identities : IdentityLists) : Type 0 where

@@ -30,7 +30,7 @@ AreModuleNames files module_files = (k : ℕ) (h : RcStr Global) → slice_get m
 -- all that is asked of a numbered statement
 abbrev pub passes : Selected → Briefs → BTreeSet ℕ → ℕ → Row → Bool
 passes choice files off number r =
-    is_identity r && (names_implemented choice files (id_at files r).module_file
+    is_identity r && (names_implemented choice files (id_at files r).module_name
     && not (contains nat_cmp off number))
 
 -- the numbered statement r is an identity of an implemented module, and on
@@ -38,7 +38,7 @@ pub record IsCandidate (truth : Truth) (choice : Selected) (files : Files) (numb
     (r : Row) : Type 0 where
   pub identity : is_identity r ≡ true
   pub implemented : names_implemented choice (map brief_of files)
-      (id_at (map brief_of files) r).module_file ≡ true
+      (id_at (map brief_of files) r).module_name ≡ true
   pub on : IsOn truth (rows_of files) number
 
 -- a candidate is the statement
@@ -58,8 +58,8 @@ pub record AreCandidates (truth : Truth) (choice : Selected) (files : Files)
 
 -- this module has an identity of this name that is a value of a type with these bases
 abbrev pub HasKeyValue : Truth → Selected → Files → List (ℕ × ℕ) → List ℕ → List ℕ → Type 0
-HasKeyValue truth choice files key module_file called =
+HasKeyValue truth choice files key module_name called =
     (number : ℕ) × (r : Row) × (slice_get (rows_of files) number ≡ Some r)
     × IsCandidate truth choice files number r
     × IsBelowKey (map brief_of files) (rows_of files) key (ref_of r)
-    × (id_at (map brief_of files) r ≡ record { module_file = module_file; name = called })
+    × (id_at (map brief_of files) r ≡ record { module_name = module_name; name = called })

@@ -28,7 +28,7 @@ names_implemented choice files name =
 
 -- an identity by its name and that of the module to which its file belongs (section 5.1)
 abbrev pub id_at : Briefs → Row → Id
-id_at files r = record { module_file = module_name_in (slice_get files r.file); name = name_in r }
+id_at files r = record { module_name = module_name_in (slice_get files r.file); name = name_in r }
 
 -- the numbered statement r is an identity that is derived from every base of the type, of an
 -- implemented module, and none of its conditions is false (section 9.10.2)
@@ -37,12 +37,12 @@ pub record IsValue (truth : Truth) (choice : Selected) (files : Files) (kind num
   pub identity : is_identity r ≡ true
   pub derived : IsBelowAll (map brief_of files) (rows_of files) kind (ref_of r)
   pub implemented : names_implemented choice (map brief_of files)
-      (id_at (map brief_of files) r).module_file ≡ true
+      (id_at (map brief_of files) r).module_name ≡ true
   pub on : IsOn truth (rows_of files) number
 
 -- this module has an identity of this name that is a value
 abbrev pub HasValue : Truth → Selected → Files → ℕ → List ℕ → List ℕ → Type 0
-HasValue truth choice files kind module_file called =
+HasValue truth choice files kind module_name called =
     (number : ℕ) × (r : Row) × (slice_get (rows_of files) number ≡ Some r)
     × IsValue truth choice files kind number r
-    × (id_at (map brief_of files) r ≡ record { module_file = module_file; name = called })
+    × (id_at (map brief_of files) r ≡ record { module_name = module_name; name = called })

@@ -55,7 +55,7 @@ fn module_name_of<'a>(linked: &Linked<'a, '_>, file: u32) -> &'a str
         → result.now ≡ module_name_in (slice_get (map brief_of files) file) }
 {
     match linked.rows().files().get(file as usize) {
-        Some(file) => file.module_file,
+        Some(file) => file.module_name,
         None => "",
     }
 }
@@ -103,13 +103,13 @@ impl<'a, 'b> Draft<'_, 'a, 'b> {
     // The name of the module to which a file belongs, shared by all that ask.
     fn module_name(&self, alloc: Global, file: u32) -> Result<RcStr, AllocError>
         ensures { IfOk result
-            (λ module_file. (files : Files) (choice : Selected)
+            (λ module_name. (files : Files) (choice : Selected)
             → AreLinked files choice self.now.linked.now
             → AreModuleNames (map brief_of files) self.now.module_files.items
-            → rc_str_bytes module_file ≡ module_name_in (slice_get (map brief_of files) file)) }
+            → rc_str_bytes module_name ≡ module_name_in (slice_get (map brief_of files) file)) }
     {
         match self.module_files.get(file as usize) {
-            Some(module_file) => module_file.clone(),
+            Some(module_name) => module_name.clone(),
             None => RcStr::from_str(alloc, module_name_of(self.linked, file)),
         }
     }

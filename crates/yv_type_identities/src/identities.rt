@@ -87,9 +87,9 @@ impl IdentityLists {
         // module, and with conditions that hold.
         ensures same { AreIdentities linked.now self.old
             → IfOk result (λ members. (files : Files) (choice : Selected)
-            → AreLinked files choice linked.now → (module_file called : List ℕ)
-            → IsTrue (list_any (is_identity module_file called) members)
-            ↔ HasValue (truth_in linked.now) choice files number module_file called) }
+            → AreLinked files choice linked.now → (module_name called : List ℕ)
+            → IsTrue (list_any (is_identity module_name called) members)
+            ↔ HasValue (truth_in linked.now) choice files number module_name called) }
         // Each once.
         ensures rises { IfOk result (λ members. RiseById members) }
         // The lists are still those of these files.

@@ -12,9 +12,9 @@ pub fn a_type_has_its_values()
     ensures { (files : Files) (choice : Selected) (t u : Truth) → IsLeast (BadFeatures files) None
         → ((file : ℕ) (text : List ℕ) → Holds files choice file text (t file text))
         → ((file : ℕ) (text : List ℕ) → Holds files choice file text (u file text))
-        → (number : ℕ) (module_file called : List ℕ)
-        → HasValue t choice files number module_file called
-        → HasValue u choice files number module_file called }
+        → (number : ℕ) (module_name called : List ℕ)
+        → HasValue t choice files number module_name called
+        → HasValue u choice files number module_name called }
 {
     yv_link_features::laws::an_expression_has_one_truth();
 }

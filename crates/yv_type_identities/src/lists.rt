@@ -72,11 +72,11 @@ pub(crate) fn members_of(
     left: &Option<References>,
 ) -> Result<Members, AllocError>
     ensures same { IfOk result
-        (λ members. (module_file called : List ℕ)
-        → IsTrue (list_any (is_identity module_file called) members)
+        (λ members. (module_name called : List ℕ)
+        → IsTrue (list_any (is_identity module_name called) members)
         ↔ ((k : ℕ) × (c : Candidate) × (slice_get candidates.now.list.items k ≡ Some c)
         × (is_left left.now c.identity ≡ true)
-        × (id_of c.member ≡ record { module_file = module_file; name = called }))) }
+        × (id_of c.member ≡ record { module_name = module_name; name = called }))) }
     ensures rises { IfOk result (λ members. RiseById members) }
 {
     let numbers = candidates.choose(alloc, left)?;

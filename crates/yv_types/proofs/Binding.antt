@@ -36,22 +36,22 @@ module _ (rows : List Row) (file : ℕ) (prefix : List ℕ) where
   abbrev test : Row → Bool
   test r = is_of Prefix r && is_same file prefix (place_of_kind Prefix r) (name_in r)
 
-  abbrev module_file : Row → List ℕ
-  module_file r = name_or_none (slice_get rows r.scope)
+  abbrev module_name : Row → List ℕ
+  module_name r = name_or_none (slice_get rows r.scope)
 
   abbrev bound_by : List Row → Option (List ℕ)
   bound_by rs = module_of (map (binding_at rows) (filter (is_prefix_in file) rs)) prefix
 
-  chosen : (c : Bool) (r : Row) (rest : Option (List ℕ)) (found : Option Row) → rest ≡ option_map module_file found → cond c (Some (module_file r)) rest ≡ option_map module_file (cond c (Some r) found)
+  chosen : (c : Bool) (r : Row) (rest : Option (List ℕ)) (found : Option Row) → rest ≡ option_map module_name found → cond c (Some (module_name r)) rest ≡ option_map module_name (cond c (Some r) found)
   chosen true r rest found e = refl
   chosen false r rest found e = e
 
-  one_more : (a b : Bool) (r : Row) (rs : List Row) → bound_by rs ≡ option_map module_file (find test rs) → module_of (map (binding_at rows) (cond (a && b) (r ∷ filter (is_prefix_in file) rs) (filter (is_prefix_in file) rs))) prefix ≡ option_map module_file (cond (a && (b && bytes_eq (name_in r) prefix)) (Some r) (find test rs))
+  one_more : (a b : Bool) (r : Row) (rs : List Row) → bound_by rs ≡ option_map module_name (find test rs) → module_of (map (binding_at rows) (cond (a && b) (r ∷ filter (is_prefix_in file) rs) (filter (is_prefix_in file) rs))) prefix ≡ option_map module_name (cond (a && (b && bytes_eq (name_in r) prefix)) (Some r) (find test rs))
   one_more true true r rs e = chosen (bytes_eq (name_in r) prefix) r (bound_by rs) (find test rs) e
   one_more true false r rs e = e
   one_more false b r rs e = e
 
-  bound_first : (rs : List Row) → bound_by rs ≡ option_map module_file (find test rs)
+  bound_first : (rs : List Row) → bound_by rs ≡ option_map module_name (find test rs)
   bound_first [] = refl
   bound_first (r ∷ rs) = one_more (is_of Prefix r) (eqb r.file file) r rs (bound_first rs)
 
@@ -65,7 +65,7 @@ module _ (files : Briefs) (m : ℕ) (f : Brief) (at : slice_get files m ≡ Some
   by_scope None e = absurd (none_some m e)
   by_scope (Some s) e = name_at (name_in s) e
 
-  by_row : (rows : List Row) (o : Option Row) → option_and_then (λ (p : Row). option_and_then (λ (s : Row). file_named files (name_in s)) (slice_get rows p.scope)) o ≡ Some m → option_map (module_file rows 0 []) o ≡ Some f.name
+  by_row : (rows : List Row) (o : Option Row) → option_and_then (λ (p : Row). option_and_then (λ (s : Row). file_named files (name_in s)) (slice_get rows p.scope)) o ≡ Some m → option_map (module_name rows 0 []) o ≡ Some f.name
   by_row rows None e = absurd (none_some m e)
   by_row rows (Some p) e = ap Some (by_scope (slice_get rows p.scope) e)
 
@@ -75,7 +75,7 @@ module _ (files : Briefs) (m : ℕ) (f : Brief) (at : slice_get files m ≡ Some
       let found = finds (test rows file prefix) 0 rows k first in
       let here : found.0 ≡ k = omega (arith, found.1) in
       bound_first rows file prefix rows
-      ∙ ap (option_map (module_file rows file prefix)) (found.2 ∙ ap (slice_get rows) here)
+      ∙ ap (option_map (module_name rows file prefix)) (found.2 ∙ ap (slice_get rows) here)
       ∙ by_row rows (slice_get rows k) e
 
 pub stands_for : (files : Files) (file m : ℕ) (prefix : List ℕ) (f : Brief) → file_of (map brief_of files) (rows_of files) file prefix ≡ Some m → slice_get (map brief_of files) m ≡ Some f → module_of (bindings_in files file) prefix ≡ Some f.name

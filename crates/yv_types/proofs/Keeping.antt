@@ -5,8 +5,8 @@ use Rattle.std.specs.Option.{option_and_then, option_map}
 use Rattle.yv_type_chains.specs.InnerTables as numbers
 use Rattle.yv_base_tables.specs.Sparse.{at, item_at}
 use Rattle.yv_base_tables.specs.declared.sparse.Sparse.{Sparse}
-use Rattle.yv_node_definition.specs.Definition.{written_of}
-use Rattle.yv_node_definition.specs.declared.definition.WrittenText.{WrittenText}
+use Rattle.yv_statement.specs.TextInFile.{written_of}
+use Rattle.yv_statement.specs.declared.written_text.WrittenText.{WrittenText}
 use Rattle.yv_types.specs.InnerDefaultTables.{text_at, text_from}
 use Rattle.yv_types.specs.TypeDefaults.{text_in}
 

@@ -14,8 +14,8 @@ use Rattle.yv_link_scopes.specs.Tables.{is_same, place_of_kind}
 use Rattle.yv_link_scopes.specs.declared.kind.NameKind.TheVariants.{Typedef}
 use Rattle.yv_link_definitions.specs.Duplicates.{is_of}
 use Rattle.yv_type_chains.proofs.Words.{both_true}
-use Rattle.yv_node_definition.specs.Definition.{TextInFile, written_of}
-use Rattle.yv_node_definition.specs.declared.definition.WrittenText.{WrittenText}
+use Rattle.yv_statement.specs.TextInFile.{TextInFile, written_of}
+use Rattle.yv_statement.specs.declared.written_text.WrittenText.{WrittenText}
 use Rattle.yv_types.specs.Defaults.{Means, default_at, default_in}
 use Rattle.yv_types.specs.InnerDefaultTables.{AreSaid, said_at, default_of_typedef, text_at}
 

@@ -20,7 +20,7 @@ scopes_bare files rows scopes e n = sym (slice_get-map place_of scopes n) ∙ ap
 module _ (rows : List Row) (n : ℕ) (r : Row) where
   -- a place with more prefixes
   abbrev with : Place → List PrefixBinding → Place
-  with place bs = record { module_file = place.module_file; bindings = place.bindings ++ bs }
+  with place bs = record { module_name = place.module_name; bindings = place.bindings ++ bs }
 
   alone : (b : Bool) → is_prefix_in n r ≡ b → map (binding_at rows) (filter (is_prefix_in n) (r ∷ [])) ≡ cond b (binding_at rows r ∷ []) []
   alone true e = ap (λ c. map (binding_at rows) (cond c (r ∷ []) [])) e
@@ -28,7 +28,7 @@ module _ (rows : List Row) (n : ℕ) (r : Row) where
 
   declares : (b : Bool) (place : Place) → cond b (bind (binding_at rows r) place) place ≡ with place (cond b (binding_at rows r ∷ []) [])
   declares true place = refl
-  declares false place = ap (λ (bs : List PrefixBinding). let p : Place = record { module_file = place.module_file; bindings = bs } in p) (sym (append-nil place.bindings))
+  declares false place = ap (λ (bs : List PrefixBinding). let p : Place = record { module_name = place.module_name; bindings = bs } in p) (sym (append-nil place.bindings))
 
   -- a place with what one statement more declares
   place_more : (rs : List Row) (f : Brief) → declare rows n r (place_with rows rs n f) ≡ place_with rows (rs ++ r ∷ []) n f
@@ -38,7 +38,7 @@ module _ (rows : List Row) (n : ℕ) (r : Row) where
       ap (map (binding_at rows)) (filter-append (is_prefix_in n) rs (r ∷ [])) ∙ map-append (binding_at rows) (filter (is_prefix_in n) rs) (filter (is_prefix_in n) (r ∷ [])) in
       declares (is_prefix_in n r) place
       ∙ ap (with place) (sym (alone (is_prefix_in n r) refl))
-      ∙ ap (λ (bs : List PrefixBinding). let p : Place = record { module_file = f.module_file; bindings = bs } in p) (sym more)
+      ∙ ap (λ (bs : List PrefixBinding). let p : Place = record { module_name = f.module_name; bindings = bs } in p) (sym more)
 
   places_more : (rs : List Row) (o : Option Brief) → option_map (declare rows n r) (option_map (place_with rows rs n) o) ≡ option_map (place_with rows (rs ++ r ∷ []) n) o
   places_more rs None = refl

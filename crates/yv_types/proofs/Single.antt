@@ -26,7 +26,7 @@ TextsAreOne = (xs ys : List (List ℕ)) → Rises xs → Rises ys → ((s : List
 abbrev pub IdsAreOne : Type 0
 IdsAreOne =
     (xs ys : List Id) → RiseById xs → RiseById ys
-    → ((module_file called : List ℕ) → list_any (is_identity module_file called) xs ≡ list_any (is_identity module_file called) ys) → xs ≡ ys
+    → ((module_name called : List ℕ) → list_any (is_identity module_name called) xs ≡ list_any (is_identity module_name called) ys) → xs ≡ ys
 
 module _ (texts_one : TextsAreOne) (ids_one : IdsAreOne) (heads : HaveRows) (files : Files) (truth : Truth) (choice : Selected) (once : (k i j : ℕ) → Follows (map brief_of files) (rows_of files) k i → Follows (map brief_of files) (rows_of files) k j → i ≡ j) (plain_one : (k : ℕ) (p q : Plain) → HasPlainType files k p → HasPlainType files k q → p ≡ q) where
   of_faceted : (k : ℕ) (p : Plain) → HasPlainType files k p → (qs : List Plain) → Space files truth choice k qs → p ∷ [] ≡ qs
@@ -57,10 +57,10 @@ module _ (texts_one : TextsAreOne) (ids_one : IdsAreOne) (heads : HaveRows) (fil
     row_is : (word : List ℕ) (s : Row) → slice_get (rows_of files) k ≡ Some s → is_kind word s ≡ true → is_kind word r ≡ true
     row_is word s there is = subst (λ (x : Row). is_kind word x ≡ true) (same_Some s r (sym there ∙ at)) is
 
-    of_identityref : is_kind (codes "identityref") r ≡ true → (ids : List Id) → RiseById ids → ((module_file called : List ℕ) → IsTrue (list_any (is_identity module_file called) ids) ↔ HasValue truth choice files k module_file called) → (qs : List Plain) → Space files truth choice k qs → identities ids ∷ [] ≡ qs
+    of_identityref : is_kind (codes "identityref") r ≡ true → (ids : List Id) → RiseById ids → ((module_name called : List ℕ) → IsTrue (list_any (is_identity module_name called) ids) ↔ HasValue truth choice files k module_name called) → (qs : List Plain) → Space files truth choice k qs → identities ids ∷ [] ≡ qs
     of_identityref is ids up has qs (plain_type g) = absurd (plain_no_kind files truth once heads r (codes "identityref") g at is identityref_built (λ digits. refl))
     of_identityref is ids up has qs (names_type told ns g rise agree) = absurd (named_no_kind files truth k told r (codes "identityref") g at is identityref_built refl refl)
-    of_identityref is ids up has qs (identityref {ids = js} there too rise held) = ap (λ x. identities x ∷ []) (ids_one ids js up rise (λ module_file called. one_answer (list_any (is_identity module_file called) ids) (list_any (is_identity module_file called) js) (has module_file called) (held module_file called)))
+    of_identityref is ids up has qs (identityref {ids = js} there too rise held) = ap (λ x. identities x ∷ []) (ids_one ids js up rise (λ module_name called. one_answer (list_any (is_identity module_name called) ids) (list_any (is_identity module_name called) js) (has module_name called) (held module_name called)))
     of_identityref is ids up has qs (leafref {r = s} there other) = absurd (two_kinds (codes "identityref") (codes "leafref") r refl is (row_is (codes "leafref") s there other))
     of_identityref is ids up has qs (union {r = s} there other all) = absurd (two_kinds (codes "identityref") (codes "union") r refl is (row_is (codes "union") s there other))
     of_identityref is ids up has qs (through_typedef {j = j} f np nn s) = absurd (apart files k j r (codes "identityref") identityref_built at is f)

@@ -9,7 +9,7 @@ use Rattle.yv_link_scopes.specs.RowList.{rows_of, statements_of}
 use Rattle.yv_link_scopes.specs.declared.kind.NameKind.TheVariants.{Typedef}
 use Rattle.yv_link_definitions.specs.Refers.{Refers}
 use Rattle.yv_type_chains.specs.Types.{type_of}
-use Rattle.yv_node_definition.specs.Definition.{TextInFile}
+use Rattle.yv_statement.specs.TextInFile.{TextInFile}
 
 -- a statement is a `default`
 abbrev pub is_default : Tree → Bool

@@ -9,8 +9,8 @@ use Rattle.yv_link_scopes.specs.declared.kind.NameKind.TheVariants.{Typedef}
 use Rattle.yv_link_definitions.specs.Duplicates.{is_of}
 use Rattle.yv_type_chains.specs.InnerTables.{at}
 use Rattle.yv_type_chains.specs.Types.{Follows}
-use Rattle.yv_node_definition.specs.Definition.{TextInFile, written_of}
-use Rattle.yv_node_definition.specs.declared.definition.WrittenText.{WrittenText}
+use Rattle.yv_statement.specs.TextInFile.{TextInFile, written_of}
+use Rattle.yv_statement.specs.declared.written_text.WrittenText.{WrittenText}
 use Rattle.yv_types.specs.Defaults.{HasDefault, Means, default_at, default_in}
 
 -- what a typedef says; nothing where the statement is none

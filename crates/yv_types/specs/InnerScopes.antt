@@ -9,7 +9,7 @@ use Rattle.yv_types.specs.Scopes.{binding_at, is_prefix_in, place_in}
 
 -- a place with one prefix more
 abbrev pub bind : PrefixBinding → Place → Place
-bind b place = record { module_file = place.module_file; bindings = place.bindings ++ b ∷ [] }
+bind b place = record { module_name = place.module_name; bindings = place.bindings ++ b ∷ [] }
 
 -- file n, where a prefix is added in a file
 abbrev pub add_prefix : ℕ → ℕ → PrefixBinding → Place → Place
@@ -21,13 +21,13 @@ declare rows n r place = if is_prefix_in n r then bind (binding_at rows r) place
 
 -- as yet without prefixes
 abbrev pub bare : Brief → Place
-bare f = record { module_file = f.module_file; bindings = [] }
+bare f = record { module_name = f.module_name; bindings = [] }
 
 -- with the prefixes that these statements declare
 abbrev pub place_with : List Row → List Row → ℕ → Brief → Place
 place_with rows rs n f =
     record {
-      module_file = f.module_file;
+      module_name = f.module_name;
       bindings = map (binding_at rows) (filter (is_prefix_in n) rs);
     }
 

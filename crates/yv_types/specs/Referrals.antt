@@ -9,7 +9,7 @@ use Rattle.yv_link_scopes.specs.Files.{Files, brief_of, has_word}
 use Rattle.yv_link_scopes.specs.Rows.{Row}
 use Rattle.yv_link_scopes.specs.RowList.{rows_of, statements_of}
 use Rattle.yv_type_chains.specs.Types.{Follows, is_leafref}
-use Rattle.yv_node_definition.specs.Definition.{TextInFile}
+use Rattle.yv_statement.specs.TextInFile.{TextInFile}
 use Rattle.yv_types.specs.declared.path.PathText.{PathText}
 use Rattle.yv_types.specs.declared.leafref_path.TypeLeafref.{TypeLeafref}
 

@@ -22,7 +22,7 @@ name_or_none (Some r) = name_in r
 -- a belongs-to or the module itself
 abbrev pub binding_at : List Row → Row → PrefixBinding
 binding_at rows r =
-    record { prefix = name_in r; module_file = name_or_none (slice_get rows r.scope) }
+    record { prefix = name_in r; module_name = name_or_none (slice_get rows r.scope) }
 
 -- the prefixes of a file, in order
 abbrev pub bindings_in : Files → ℕ → List PrefixBinding
@@ -31,7 +31,7 @@ bindings_in files file =
 
 -- by which the texts of a file are read: the module to which it belongs, and its prefixes
 abbrev pub place_at : Files → ℕ → Brief → Place
-place_at files file f = record { module_file = f.module_file; bindings = bindings_in files file }
+place_at files file f = record { module_name = f.module_name; bindings = bindings_in files file }
 
 -- the place of a numbered scope
 abbrev pub place_in : List Scope → ℕ → Option Place

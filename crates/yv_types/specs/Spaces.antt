@@ -34,9 +34,9 @@ mutual
         → Space files truth choice k (of_kind told.kind ns ∷ [])
     identityref : {k : ℕ} {r : Row} {ids : List Id} → slice_get (rows_of files) k ≡ Some r
         → is_kind (codes "identityref") r ≡ true
-        → RiseById ids → ((module_file called : List ℕ)
-        → IsTrue (list_any (is_identity module_file called) ids)
-        ↔ HasValue truth choice files k module_file called)
+        → RiseById ids → ((module_name called : List ℕ)
+        → IsTrue (list_any (is_identity module_name called) ids)
+        ↔ HasValue truth choice files k module_name called)
         → Space files truth choice k (identities ids ∷ [])
     leafref : {k : ℕ} {r : Row} → slice_get (rows_of files) k ≡ Some r → is_leafref r ≡ true
         → Space files truth choice k []

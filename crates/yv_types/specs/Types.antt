@@ -9,7 +9,7 @@ use Rattle.yv_type_chains.specs.Bases.{AreBases}
 use Rattle.yv_type_restrictions.specs.PlainTypes.{AreFaceted}
 use Rattle.yv_type_enums.specs.Types.{Truth}
 use Rattle.yv_type_enums.specs.Lists.{AreLists}
-use Rattle.yv_node_definition.specs.Definition.{TextInFile}
+use Rattle.yv_statement.specs.TextInFile.{TextInFile}
 use Rattle.yv_types.specs.Defaults.{HasDefault}
 use Rattle.yv_types.specs.TypeDefaults.{AreDefaults, found_in, typedef_in}
 use Rattle.yv_types.specs.LeafrefTypes.{AreLeafrefTypes}

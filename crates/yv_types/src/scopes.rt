@@ -29,15 +29,15 @@ fn name_at<'a>(rows: &Rows<'a, '_>, number: usize) -> &'a str
 }
 
 // Makes a prefix refer to a module.
-fn bind(alloc: Global, scope: &mut Scope, prefix: &str, module_file: &str) -> Result<(), AllocError>
+fn bind(alloc: Global, scope: &mut Scope, prefix: &str, module_name: &str) -> Result<(), AllocError>
     ensures { OnOk result
         (place_of scope.new
-        ≡ bind (record { prefix = prefix.now; module_file = module_file.now })
+        ≡ bind (record { prefix = prefix.now; module_name = module_name.now })
         (place_of scope.old)) }
 {
     let prefix = String::from_str(alloc, prefix)?;
-    let module_file = String::from_str(alloc, module_file)?;
-    scope.prefixes.push((prefix, module_file))?;
+    let module_name = String::from_str(alloc, module_name)?;
+    scope.prefixes.push((prefix, module_name))?;
     Ok(())
 }
 
@@ -47,16 +47,16 @@ fn add(
     scopes: &mut Vec<Scope>,
     file: u32,
     prefix: &str,
-    module_file: &str,
+    module_name: &str,
 ) -> Result<(), AllocError>
     ensures { OnOk result ((n : ℕ) → place_in scopes.new.items n
         ≡ option_map
-        (add_prefix n file (record { prefix = prefix.now; module_file = module_file.now }))
+        (add_prefix n file (record { prefix = prefix.now; module_name = module_name.now }))
         (place_in scopes.old.items n)) }
 {
     let place = file as usize;
     if place < scopes.len() {
-        bind(alloc, &mut scopes[place], prefix, module_file)?;
+        bind(alloc, &mut scopes[place], prefix, module_name)?;
     }
     Ok(())
 }
@@ -72,13 +72,13 @@ fn declare(
         ≡ option_map (declare (rows_in rows.now) n (row entry.now)) (place_in scopes.old.items n)) }
 {
     if is_prefix(entry) {
-        let module_file = name_at(rows, entry.scope);
+        let module_name = name_at(rows, entry.scope);
         add(
             alloc,
             scopes,
             entry.file,
             name_of(entry.statement),
-            module_file,
+            module_name,
         )?;
     }
     Ok(())
@@ -89,7 +89,7 @@ fn bare(alloc: Global, file: &File<'_, '_>) -> Result<Scope, AllocError>
     ensures { IfOk result (λ scope. place_of scope ≡ bare (brief file.now)) }
 {
     Ok(Scope {
-        module: String::from_str(alloc, file.module_file)?,
+        module: String::from_str(alloc, file.module_name)?,
         prefixes: Vec::new(alloc),
     })
 }

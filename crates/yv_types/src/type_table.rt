@@ -6,7 +6,7 @@ ghost use Rattle.yv_link_definitions.specs.References.{number_at};
 ghost use Rattle.yv_type_enums.specs.Types.{Truth};
 ghost use Rattle.yv_values.specs.Types.{Plain, plain_of};
 ghost use Rattle.yv_types.specs.{Spaces.{Space}, InnerTables.{AreNumbered}};
-ghost use Rattle.yv_node_definition.specs.Definition.{written_of};
+ghost use Rattle.yv_statement.specs.TextInFile.{written_of};
 
 use crate::defaults::TypedefDefaults;
 use crate::leafref_path::TypeLeafref;
@@ -16,8 +16,7 @@ use std::alloc::AllocError;
 use std::rc::RcSlice;
 use yv_base_tables::Table;
 use yv_link_definitions::PlaceList;
-use yv_node_definition::WrittenText;
-use yv_statement::Statement;
+use yv_statement::{Statement, WrittenText};
 use yv_values::PlainType;
 
 /// The plain types and the defaults of the types of files in which nothing is wrong with types, and

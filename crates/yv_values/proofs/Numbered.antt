@@ -25,84 +25,84 @@ contains_mapped f (y ∷ ys) zero x b e = (zero, omega arith, ap f (sym e))
 contains_mapped f (y ∷ ys) (suc i) x b e = let c = contains_mapped f ys i x (omega (arith, b)) e in (suc c.0, omega (arith, c.1), c.2)
 
 -- one that stands before another isn't the same
-before_apart : (module_file called : List ℕ) (i j : Id) → id_cmp i j ≡ Less → is_identity module_file called i ≡ true → is_identity module_file called j ≡ false
-before_apart module_file called i j less is = by (is_identity module_file called j) refl
+before_apart : (module_name called : List ℕ) (i j : Id) → id_cmp i j ≡ Less → is_identity module_name called i ≡ true → is_identity module_name called j ≡ false
+before_apart module_name called i j less is = by (is_identity module_name called j) refl
   where
     equal : (o : Ordering) → is_eq o ≡ true → o ≡ Equal
     equal Less h = absurd (cc)
     equal Equal h = refl
     equal Greater h = absurd (cc)
 
-    same : (k : Id) → is_identity module_file called k ≡ true → k ≡ record { module_file = module_file; name = called }
-    same k h = same_id module_file called k (equal (id_cmp k record { module_file = module_file; name = called }) (sym (compared module_file called k) ∙ h))
+    same : (k : Id) → is_identity module_name called k ≡ true → k ≡ record { module_name = module_name; name = called }
+    same k h = same_id module_name called k (equal (id_cmp k record { module_name = module_name; name = called }) (sym (compared module_name called k) ∙ h))
 
     never : (o : Ordering) → o ≡ ordering_reverse o → o ≡ Less → ⊥
     never Less e h = cc
     never Equal e h = cc
     never Greater e h = cc
 
-    by : (b : Bool) → is_identity module_file called j ≡ b → b ≡ false
+    by : (b : Bool) → is_identity module_name called j ≡ b → b ≡ false
     by false h = refl
     by true h =
         let one : i ≡ j = same i is ∙ sym (same j h) in
         absurd (never (id_cmp i i) (ids_total.antisymm i i) (subst (λ (k : Id). id_cmp i k ≡ Less) (sym one) less))
 
-module _ (module_file called : List ℕ) (q : NumberedId → Bool) where
+module _ (module_name called : List ℕ) (q : NumberedId → Bool) where
   -- an identity that is none of a list is none of a part of it
-  pub none_left : (all : List NumberedId) → list_any (is_identity module_file called) (ids_of all) ≡ false → list_any (is_identity module_file called) (ids_of (filter q all)) ≡ false
+  pub none_left : (all : List NumberedId) → list_any (is_identity module_name called) (ids_of all) ≡ false → list_any (is_identity module_name called) (ids_of (filter q all)) ≡ false
   none_left [] h = refl
-  none_left (x ∷ xs) h = by (is_identity module_file called x.id) (q x) refl h (none_left xs)
+  none_left (x ∷ xs) h = by (is_identity module_name called x.id) (q x) refl h (none_left xs)
     where
-      by : (a b : Bool) → is_identity module_file called x.id ≡ a → (a || list_any (is_identity module_file called) (ids_of xs)) ≡ false
-          → (list_any (is_identity module_file called) (ids_of xs) ≡ false → list_any (is_identity module_file called) (ids_of (filter q xs)) ≡ false)
-          → list_any (is_identity module_file called) (ids_of (cond b (x ∷ filter q xs) (filter q xs))) ≡ false
+      by : (a b : Bool) → is_identity module_name called x.id ≡ a → (a || list_any (is_identity module_name called) (ids_of xs)) ≡ false
+          → (list_any (is_identity module_name called) (ids_of xs) ≡ false → list_any (is_identity module_name called) (ids_of (filter q xs)) ≡ false)
+          → list_any (is_identity module_name called) (ids_of (cond b (x ∷ filter q xs) (filter q xs))) ≡ false
       by true b e h later = absurd (cc)
-      by false true e h later = ap (λ a. a || list_any (is_identity module_file called) (ids_of (filter q xs))) e ∙ later h
+      by false true e h later = ap (λ a. a || list_any (is_identity module_name called) (ids_of (filter q xs))) e ∙ later h
       by false false e h later = later h
 
-  none_after : (i : Id) (all : List NumberedId) → is_identity module_file called i ≡ true → AllByRecursion (λ k. id_cmp i k ≡ Less) (ids_of all) → list_any (is_identity module_file called) (ids_of all) ≡ false
+  none_after : (i : Id) (all : List NumberedId) → is_identity module_name called i ≡ true → AllByRecursion (λ k. id_cmp i k ≡ Less) (ids_of all) → list_any (is_identity module_name called) (ids_of all) ≡ false
   none_after i [] is h = refl
-  none_after i (x ∷ xs) is h = ap (λ b. b || list_any (is_identity module_file called) (ids_of xs)) (before_apart module_file called i x.id h.0 is) ∙ none_after i xs is h.1
+  none_after i (x ∷ xs) is h = ap (λ b. b || list_any (is_identity module_name called) (ids_of xs)) (before_apart module_name called i x.id h.0 is) ∙ none_after i xs is h.1
 
   from_order : (i : Id) (all : List NumberedId) (at : ℕ) (e : NumberedId) → AllByRecursion (λ k. id_cmp i k ≡ Less) (ids_of all) → at < length all → get_or all at e ≡ e → id_cmp i e.id ≡ Less
   from_order i [] at e h b is = absurd (omega (arith, b))
   from_order i (x ∷ xs) zero e h b is = subst (λ (y : NumberedId). id_cmp i y.id ≡ Less) is h.0
   from_order i (x ∷ xs) (suc at) e h b is = from_order i xs at e h.1 (omega (arith, b)) is
 
-  apart_before : (i j : Id) → id_cmp i j ≡ Less → is_identity module_file called j ≡ true → is_identity module_file called i ≡ false
-  apart_before i j less is = by (is_identity module_file called i) refl
+  apart_before : (i j : Id) → id_cmp i j ≡ Less → is_identity module_name called j ≡ true → is_identity module_name called i ≡ false
+  apart_before i j less is = by (is_identity module_name called i) refl
     where
-      by : (b : Bool) → is_identity module_file called i ≡ b → b ≡ false
+      by : (b : Bool) → is_identity module_name called i ≡ b → b ≡ false
       by false h = refl
-      by true h = let t : true ≡ false = sym is ∙ before_apart module_file called i j less h in absurd (cc)
+      by true h = let t : true ≡ false = sym is ∙ before_apart module_name called i j less h in absurd (cc)
 
   -- one that is in a list in order is in the part where the test passes
-  pub only_one : (all : List NumberedId) (at : ℕ) (e : NumberedId) → RiseById (ids_of all) → at < length all → get_or all at e ≡ e → is_identity module_file called e.id ≡ true
-      → list_any (is_identity module_file called) (ids_of (filter q all)) ≡ q e
+  pub only_one : (all : List NumberedId) (at : ℕ) (e : NumberedId) → RiseById (ids_of all) → at < length all → get_or all at e ≡ e → is_identity module_name called e.id ≡ true
+      → list_any (is_identity module_name called) (ids_of (filter q all)) ≡ q e
   unfolding IsStrictlySortedBy
   only_one [] at e up b is one = absurd (omega (arith, b))
   only_one (x ∷ xs) zero e up b is one = by (q x) refl
     where
-      here : is_identity module_file called x.id ≡ true
-      here = ap (λ (y : NumberedId). is_identity module_file called y.id) is ∙ one
+      here : is_identity module_name called x.id ≡ true
+      here = ap (λ (y : NumberedId). is_identity module_name called y.id) is ∙ one
 
-      by : (a : Bool) → q x ≡ a → list_any (is_identity module_file called) (ids_of (cond a (x ∷ filter q xs) (filter q xs))) ≡ q e
-      by true t = ap (λ c. c || list_any (is_identity module_file called) (ids_of (filter q xs))) here ∙ sym t ∙ ap q is
+      by : (a : Bool) → q x ≡ a → list_any (is_identity module_name called) (ids_of (cond a (x ∷ filter q xs) (filter q xs))) ≡ q e
+      by true t = ap (λ c. c || list_any (is_identity module_name called) (ids_of (filter q xs))) here ∙ sym t ∙ ap q is
       by false t = none_left xs (none_after x.id xs here up.0) ∙ sym t ∙ ap q is
   only_one (x ∷ xs) (suc at) e up b is one = by (q x) (only_one xs at e up.1 (omega (arith, b)) is one)
     where
-      off : is_identity module_file called x.id ≡ false
+      off : is_identity module_name called x.id ≡ false
       off = apart_before x.id e.id (from_order x.id xs at e up.0 (omega (arith, b)) is) one
 
-      by : (a : Bool) → list_any (is_identity module_file called) (ids_of (filter q xs)) ≡ q e → list_any (is_identity module_file called) (ids_of (cond a (x ∷ filter q xs) (filter q xs))) ≡ q e
-      by true h = ap (λ c. c || list_any (is_identity module_file called) (ids_of (filter q xs))) off ∙ h
+      by : (a : Bool) → list_any (is_identity module_name called) (ids_of (filter q xs)) ≡ q e → list_any (is_identity module_name called) (ids_of (cond a (x ∷ filter q xs) (filter q xs))) ≡ q e
+      by true h = ap (λ c. c || list_any (is_identity module_name called) (ids_of (filter q xs))) off ∙ h
       by false h = h
 
-pub is_itself : (module_file called : List ℕ) (i : Id) → i ≡ record { module_file = module_file; name = called } → is_identity module_file called i ≡ true
-is_itself module_file called i e =
-    let here : is_identity module_file called (record { module_file = module_file; name = called }) ≡ true =
-    ap (λ b. b && bytes_eq called called) ((bytes_eq-Decides module_file module_file).1 refl) ∙ (bytes_eq-Decides called called).1 refl in
-    ap (λ (j : Id). is_identity module_file called j) e ∙ here
+pub is_itself : (module_name called : List ℕ) (i : Id) → i ≡ record { module_name = module_name; name = called } → is_identity module_name called i ≡ true
+is_itself module_name called i e =
+    let here : is_identity module_name called (record { module_name = module_name; name = called }) ≡ true =
+    ap (λ b. b && bytes_eq called called) ((bytes_eq-Decides module_name module_name).1 refl) ∙ (bytes_eq-Decides called called).1 refl in
+    ap (λ (j : Id). is_identity module_name called j) e ∙ here
 
 -- a part of a list in order is in order
 pub part_rises : (q : NumberedId → Bool) (all : List NumberedId) → RiseById (ids_of all) → RiseById (ids_of (filter q all))

@@ -21,17 +21,17 @@ texts_one xs ys f g same = rising_one (slice_cmp nat_cmp) nat_list_cmp_total xs 
 both_true : (a b : Bool) → a ≡ true → b ≡ true → (a && b) ≡ true
 both_true a b e f = rw (e, f) refl
 
-is_itself : (k : Id) → is_identity k.module_file k.name k ≡ true
-is_itself k = both_true (bytes_eq k.module_file k.module_file) (bytes_eq k.name k.name) ((bytes_eq-Decides k.module_file k.module_file).1 refl) ((bytes_eq-Decides k.name k.name).1 refl)
+is_itself : (k : Id) → is_identity k.module_name k.name k ≡ true
+is_itself k = both_true (bytes_eq k.module_name k.module_name) (bytes_eq k.name k.name) ((bytes_eq-Decides k.module_name k.module_name).1 refl) ((bytes_eq-Decides k.name k.name).1 refl)
 
-is_that : (k x : Id) → is_identity k.module_file k.name x ≡ true → x ≡ k
-is_that k x h = same_id k.module_file k.name x ((Equal-is (id_cmp x k)).0 (sym (compared k.module_file k.name x) ∙ h))
+is_that : (k x : Id) → is_identity k.module_name k.name x ≡ true → x ≡ k
+is_that k x h = same_id k.module_name k.name x ((Equal-is (id_cmp x k)).0 (sym (compared k.module_name k.name x) ∙ h))
 
 abbrev pub SameIds : List Id → List Id → Type 0
-SameIds xs ys = (module_file called : List ℕ) → list_any (is_identity module_file called) xs ≡ list_any (is_identity module_file called) ys
+SameIds xs ys = (module_name called : List ℕ) → list_any (is_identity module_name called) xs ≡ list_any (is_identity module_name called) ys
 
 id_moves : (xs ys : List Id) → SameIds xs ys → (k : Id) → Among xs k → Among ys k
-id_moves xs ys same k a = any_among (is_identity k.module_file k.name) k (is_that k) ys (sym (same k.module_file k.name) ∙ among_any (is_identity k.module_file k.name) k (is_itself k) xs a)
+id_moves xs ys same k a = any_among (is_identity k.module_name k.name) k (is_that k) ys (sym (same k.module_name k.name) ∙ among_any (is_identity k.module_name k.name) k (is_itself k) xs a)
 
 pub ids_one : (xs ys : List Id) → RiseById xs → RiseById ys → SameIds xs ys → xs ≡ ys
-ids_one xs ys f g same = rising_one id_cmp ids_total xs ys f g (id_moves xs ys same) (id_moves ys xs (λ module_file called. sym (same module_file called)))
+ids_one xs ys f g same = rising_one id_cmp ids_total xs ys f g (id_moves xs ys same) (id_moves ys xs (λ module_name called. sym (same module_name called)))

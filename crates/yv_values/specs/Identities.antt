@@ -13,17 +13,17 @@ use Rattle.yv_values.specs.Values.{Val, identity}
 
 -- an identity: its module and its name
 pub record Id : Type 0 where
-  pub module_file : List ℕ
+  pub module_name : List ℕ
   pub name : List ℕ
 
 -- the module and the name of an identity
 abbrev pub id_of : Member → Id
-id_of m = record { module_file = rc_str_bytes m.module; name = rc_str_bytes m.name }
+id_of m = record { module_name = rc_str_bytes m.module; name = rc_str_bytes m.name }
 
 -- by module, and then by name
 abbrev pub id_cmp : Id → Id → Ordering
 id_cmp i j =
-    ordering_then (slice_cmp nat_cmp i.module_file j.module_file) (slice_cmp nat_cmp i.name j.name)
+    ordering_then (slice_cmp nat_cmp i.module_name j.module_name) (slice_cmp nat_cmp i.name j.name)
 
 -- each of these identities comes before all after it, so that none is there twice
 abbrev pub RiseById : List Id → Type 0
@@ -31,12 +31,12 @@ RiseById = IsStrictlySortedBy id_cmp
 
 -- an identity has this module and name
 abbrev pub is_identity : List ℕ → List ℕ → Id → Bool
-is_identity module_file called i = bytes_eq i.module_file module_file && bytes_eq i.name called
+is_identity module_name called i = bytes_eq i.module_name module_name && bytes_eq i.name called
 
 -- the identity of this module and name, where it is one of these (section 9.10)
 abbrev pub identity_in : List Id → List ℕ → List ℕ → Option Val
-identity_in ids module_file called = if list_any (is_identity module_file called) ids
-    then Some (identity module_file called) else None
+identity_in ids module_name called = if list_any (is_identity module_name called) ids
+    then Some (identity module_name called) else None
 
 -- an identity with a number
 pub record NumberedId : Type 0 where

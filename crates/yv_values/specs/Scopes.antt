@@ -14,33 +14,33 @@ use Rattle.yv_values.specs.Values.{Val, boolean}
 -- a prefix and its module
 pub record PrefixBinding : Type 0 where
   pub prefix : List ℕ
-  pub module_file : List ℕ
+  pub module_name : List ℕ
 
 -- the module of a file, and its prefixes
 pub record Place : Type 0 where
-  pub module_file : List ℕ
+  pub module_name : List ℕ
   pub bindings : List PrefixBinding
 
 -- a prefix with the module that it refers to
 abbrev pub binding_of : String Global × String Global → PrefixBinding
-binding_of p = record { prefix = string_bytes p.0; module_file = string_bytes p.1 }
+binding_of p = record { prefix = string_bytes p.0; module_name = string_bytes p.1 }
 
 -- a module with the prefixes that are declared there
 abbrev pub place_of : Scope → Place
 place_of s =
-    record { module_file = string_bytes s.module; bindings = map binding_of s.prefixes.items }
+    record { module_name = string_bytes s.module; bindings = map binding_of s.prefixes.items }
 
 -- the module that a prefix means
 abbrev pub module_of : List PrefixBinding → List ℕ → Option (List ℕ)
 module_of [] prefix = None
 module_of (b ∷ bs) prefix =
-    if bytes_eq b.prefix prefix then Some b.module_file else module_of bs prefix
+    if bytes_eq b.prefix prefix then Some b.module_name else module_of bs prefix
 
 -- an identity without prefix is of the file's module
 abbrev pub identity_in_scope : List Id → Place → List ℕ → Option ℕ → Option Val
-identity_in_scope ids place s None = identity_in ids place.module_file s
+identity_in_scope ids place s None = identity_in ids place.module_name s
 identity_in_scope ids place s (Some i) =
-    option_and_then (λ module_file. identity_in ids module_file (drop (i + 1) s))
+    option_and_then (λ module_name. identity_in ids module_name (drop (i + 1) s))
     (module_of place.bindings (take i s))
 
 -- the Boolean value that a text writes

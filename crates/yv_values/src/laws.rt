@@ -28,8 +28,8 @@ pub fn texts_that_rise_are_one_list()
 /// Two lists of identities that rise are one where they have the same identities.
 pub fn identities_that_rise_are_one_list()
     ensures { (xs ys : List Id) → RiseById xs → RiseById ys
-        → ((module_file called : List ℕ) → list_any (is_identity module_file called) xs
-        ≡ list_any (is_identity module_file called) ys)
+        → ((module_name called : List ℕ) → list_any (is_identity module_name called) xs
+        ≡ list_any (is_identity module_name called) ys)
         → xs ≡ ys }
 {}
 

@@ -43,9 +43,9 @@ impl Members {
         // The identities, each once and in the order of their modules and names.
         ensures rises { IfOk result (λ sorted. RiseById sorted) }
         // Each is one exactly if it was one.
-        ensures same { IfOk result (λ sorted. (module_file called : List ℕ) →
-            identity_in sorted module_file called
-            ≡ identity_in (map id_of members.items) module_file called) }
+        ensures same { IfOk result (λ sorted. (module_name called : List ℕ) →
+            identity_in sorted module_name called
+            ≡ identity_in (map id_of members.items) module_name called) }
     {
         let mut members = members;
         // Names of modules may be long. This puts the identities into their order without reading
@@ -59,9 +59,9 @@ impl Members {
     fn from_sorted(members: Vec<Member>) -> Result<Members, AllocError>
         requires { IsSortedByKey id_of id_cmp members.items }
         ensures rises { IfOk result (λ sorted. RiseById sorted) }
-        ensures same { IfOk result (λ sorted. (module_file called : List ℕ) →
-            identity_in sorted module_file called
-            ≡ identity_in (map id_of members.items) module_file called) }
+        ensures same { IfOk result (λ sorted. (module_name called : List ℕ) →
+            identity_in sorted module_name called
+            ≡ identity_in (map id_of members.items) module_name called) }
     {
         let mut members = members;
         members.dedup_by(|later, earlier| later.is_same(earlier));
@@ -102,7 +102,7 @@ impl Members {
     pub(crate) fn find(&self, module: &[u8], name: &[u8]) -> Option<&Member>
         ensures value { is_some result ≡ list_any (is_identity module.now name.now) self.now }
         ensures same { IfSome result
-            (λ m. id_of m.now ≡ record { module_file = module.now; name = name.now }) }
+            (λ m. id_of m.now ≡ record { module_name = module.now; name = name.now }) }
     {
         let entry = self.all.find(module, name)?;
         if is_between(self.low, self.high, entry.number) {
@@ -169,7 +169,7 @@ impl Member {
     /// Its order beside the identity of this module and name.
     pub(crate) fn compare(&self, module: &[u8], name: &[u8]) -> Ordering
         ensures { result
-            ≡ id_cmp (id_of self.now) record { module_file = module.now; name = name.now } }
+            ≡ id_cmp (id_of self.now) record { module_name = module.now; name = name.now } }
     {
         compare(self.module.as_str().as_bytes(), module).then(compare(
             self.name.as_str().as_bytes(),

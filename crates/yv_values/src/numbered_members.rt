@@ -91,7 +91,7 @@ impl NumberedMembers {
         ensures value { is_some result
             ≡ list_any (is_identity module.now name.now) (ids_of self.now) }
         ensures same { IfSome result (λ m. id_of m.now.member
-            ≡ record { module_file = module.now; name = name.now }) }
+            ≡ record { module_name = module.now; name = name.now }) }
         ensures there { IfSome result (λ m. Contains self.now (numbered_of m.now)) }
     {
         let at = self.likely_place(module, name);
@@ -137,7 +137,7 @@ impl NumberedMembers {
         ensures any { IfSome result (λ m.
             list_any (is_identity module.now name.now) (ids_of self.now) ≡ true) }
         ensures same { IfSome result (λ m. id_of m.now.member
-            ≡ record { module_file = module.now; name = name.now }) }
+            ≡ record { module_name = module.now; name = name.now }) }
         ensures there { IfSome result (λ m. Contains self.now (numbered_of m.now)) }
     {
         match self.members.get(place) {
@@ -160,7 +160,7 @@ impl NumberedMembers {
         ensures value { is_some result
             ≡ list_any (is_identity module.now name.now) (ids_of self.now) }
         ensures same { IfSome result (λ m. id_of m.now.member
-            ≡ record { module_file = module.now; name = name.now }) }
+            ≡ record { module_name = module.now; name = name.now }) }
         ensures there { IfSome result (λ m. Contains self.now (numbered_of m.now)) }
     {
         match self
@@ -194,7 +194,7 @@ impl NumberedMembers {
 fn stands_after(members: &[NumberedMember], place: usize, module: &[u8], name: &[u8]) -> bool
     ensures { IsTrue result → 0 < place
         → (m : NumberedMember) × (slice_get members.now (place - 1) ≡ Some m)
-        × (id_cmp (entry_id m) record { module_file = module.now; name = name.now } ≡ Less) }
+        × (id_cmp (entry_id m) record { module_name = module.now; name = name.now } ≡ Less) }
 {
     if place == 0 {
         return true;
@@ -208,7 +208,7 @@ fn stands_after(members: &[NumberedMember], place: usize, module: &[u8], name: &
 // Whether this identity comes before the one at a place, where there is one.
 fn stands_before(members: &[NumberedMember], place: usize, module: &[u8], name: &[u8]) -> bool
     ensures { IsTrue result → (m : NumberedMember) → slice_get members.now place ≡ Some m
-        → id_cmp (entry_id m) record { module_file = module.now; name = name.now } ≡ Greater }
+        → id_cmp (entry_id m) record { module_name = module.now; name = name.now } ≡ Greater }
 {
     match members.get(place) {
         Some(entry) => entry.member.compare(module, name).is_gt(),

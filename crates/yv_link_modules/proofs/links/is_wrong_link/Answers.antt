@@ -16,7 +16,7 @@ not_wrong h None target n = refl
 not_wrong h (Some own) None n = refl
 not_wrong h (Some own) (Some f) n = by (has_word (codes "import") h) (has_word (codes "include") h) (has_word (codes "belongs-to") h) n
   where
-    by : (a b c : Bool) → (a || (b || c)) ≡ false → (if b then (f.is_module || not (bytes_eq f.module_file own.module_file)) else ((a || (b || c)) && not f.is_module)) ≡ false
+    by : (a b c : Bool) → (a || (b || c)) ≡ false → (if b then (f.is_module || not (bytes_eq f.module_name own.module_name)) else ((a || (b || c)) && not f.is_module)) ≡ false
     by true b c e = absurd (false≢true (sym e))
     by false true c e = absurd (false≢true (sym e))
     by false false true e = absurd (false≢true (sym e))

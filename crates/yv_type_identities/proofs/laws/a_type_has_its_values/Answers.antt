@@ -3,7 +3,7 @@ use Rattle.yv_link_scopes.specs.Rows.{name_in}
 use Rattle.yv_type_identities.proofs.laws.a_type_has_its_values.Goals as goal
 
 pub returns : goal.returns
-returns c files choice t u clear one other number module_file called h =
+returns c files choice t u clear one other number module_name called h =
     let v = h.3 in (
       h.0,
       h.1,

@@ -34,14 +34,14 @@ loop-number-preserved c =
     ]
 
 pub returns-clause-same : goal.returns-clause-same
-returns-clause-same c = IfOk-weaker c.new.result (λ ids. (module_file called : List ℕ) → identity_in ids module_file called ≡ identity_in (map id_of c.loop-number.members.items) module_file called) _ (λ ids sorted_same module_file called.
+returns-clause-same c = IfOk-weaker c.new.result (λ ids. (module_name called : List ℕ) → identity_in ids module_name called ≡ identity_in (map id_of c.loop-number.members.items) module_name called) _ (λ ids sorted_same module_name called.
     let cs : List Candidate = c.args.candidates.now.list.items in
     let numbers : List ℕ = c.deref-number-items.result.now in
     let last : c.loop-number.number-index ≡ length numbers = omega (arith, c.loop-number-test.false, c.loop-number.auto.number-index-end) in
     let all =
-    through (gathered numbers (is_one cs) (id_in cs) c.loop-number.number-index c.loop-number.members.items last c.loop-number.invariant module_file called)
-    (by_number cs numbers (λ (d : Candidate). is_left c.args.left.now d.identity) (record { module_file = module_file; name = called }) (rw c.deref-number-items.ensures.value c.in_ok-numbers.ensures)) in
-    let sorted : list_any (is_identity module_file called) (map id_of c.loop-number.members.items) ≡ list_any (is_identity module_file called) ids = sym (told_alike (list_any (is_identity module_file called) ids) (list_any (is_identity module_file called) (map id_of c.loop-number.members.items)) (identity module_file called) (sorted_same module_file called)) in (
+    through (gathered numbers (is_one cs) (id_in cs) c.loop-number.number-index c.loop-number.members.items last c.loop-number.invariant module_name called)
+    (by_number cs numbers (λ (d : Candidate). is_left c.args.left.now d.identity) (record { module_name = module_name; name = called }) (rw c.deref-number-items.ensures.value c.in_ok-numbers.ensures)) in
+    let sorted : list_any (is_identity module_name called) (map id_of c.loop-number.members.items) ≡ list_any (is_identity module_name called) ids = sym (told_alike (list_any (is_identity module_name called) ids) (list_any (is_identity module_name called) (map id_of c.loop-number.members.items)) (identity module_name called) (sorted_same module_name called)) in (
       λ h. all.0 (sorted ∙ h),
       λ h. sym sorted ∙ all.1 h,
     )) c.new.ensures.same

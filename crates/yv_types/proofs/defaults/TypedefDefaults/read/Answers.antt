@@ -8,8 +8,8 @@ use Rattle.yv_link_definitions.specs.Meanings.{AreNames}
 use Rattle.yv_type_chains.specs.InnerTables.{at}
 use Rattle.yv_type_chains.specs.Bases.{AreBases}
 use Rattle.yv_type_chains.specs.Types.{IsOrderOfTypes, IsTypeAt}
-use Rattle.yv_node_definition.specs.Definition.{TextInFile}
-use Rattle.yv_node_definition.specs.declared.definition.WrittenText.{WrittenText}
+use Rattle.yv_statement.specs.TextInFile.{TextInFile}
+use Rattle.yv_statement.specs.declared.written_text.WrittenText.{WrittenText}
 use Rattle.yv_types.specs.Defaults.{HasDefault}
 use Rattle.yv_types.specs.InnerDefaultTables.{AreFound, IsFollowed, text_from}
 use Rattle.yv_types.specs.TypeDefaults.{AreDefaults}

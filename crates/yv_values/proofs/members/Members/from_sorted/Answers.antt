@@ -32,9 +32,9 @@ returns-clause-rises c = where_ok c.from_rising.result (λ sorted is.
     subst (λ (ids : List Id). RiseById ids) (sym is) (rises_left c.args.members.items _ (dedup_same _ same _ (λ x y b f' x' y' k. search rules) _ _ c.dedup_by.ensures.filtered) c.requires)) c.from_rising.ensures
 
 pub returns-clause-same : goal.returns-clause-same
-returns-clause-same c = where_ok c.from_rising.result (λ sorted is module_file called.
+returns-clause-same c = where_ok c.from_rising.result (λ sorted is module_name called.
     let left = dedup_same _ same _ (λ x y b f' x' y' k. search rules) _ _ c.dedup_by.ensures.filtered in
-    ap (λ (ids : List Id). identity_in ids module_file called) is
-    ∙ ap (λ (xs : List Member). identity_in (map id_of xs) module_file called) left
-    ∙ ap (λ (b : Bool). cond b (Some (identity module_file called)) None)
-    (kept_same id_of id_cmp same (λ x y h. same_id (rc_str_bytes y.«module») (rc_str_bytes y.name) (id_of x) ((Equal-is (id_cmp (id_of x) (id_of y))).0 (sym (ties x y) ∙ h))) (is_identity module_file called) c.args.members.items)) c.from_rising.ensures
+    ap (λ (ids : List Id). identity_in ids module_name called) is
+    ∙ ap (λ (xs : List Member). identity_in (map id_of xs) module_name called) left
+    ∙ ap (λ (b : Bool). cond b (Some (identity module_name called)) None)
+    (kept_same id_of id_cmp same (λ x y h. same_id (rc_str_bytes y.«module») (rc_str_bytes y.name) (id_of x) ((Equal-is (id_cmp (id_of x) (id_of y))).0 (sym (ties x y) ∙ h))) (is_identity module_name called) c.args.members.items)) c.from_rising.ensures

@@ -10,10 +10,10 @@ use Rattle.yv_values.proofs.numbered_members.NumberedMembers.is_absent.Goals as 
 
 pub returns-then-stands_after : goal.returns-then-stands_after
 returns-then-stands_after c = λ t.
-    let module_file = c.args.«module».now in
+    let module_name = c.args.«module».now in
     let called = c.args.name.now in
     let up = sorted_from_rising entry_id id_cmp ids_total _ c.self.invariant in
     let below = rw c.deref.ensures.value at (c.if-stands_after.ensures refl) in
     let above = rw c.deref-then-stands_after.ensures.value at (c.stands_before.ensures t) in
     let same = sym (ids_numbered _) ∙ ap ids_of c.self.view_is in
-    ap (λ (ids : List Id). list_any (is_identity module_file called) ids) (sym same) ∙ apart entry_id module_file called (rc_slice_items c.self.inside.members) c.args.place up below above
+    ap (λ (ids : List Id). list_any (is_identity module_name called) ids) (sym same) ∙ apart entry_id module_name called (rc_slice_items c.self.inside.members) c.args.place up below above

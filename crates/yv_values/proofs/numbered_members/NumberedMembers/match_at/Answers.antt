@@ -13,12 +13,12 @@ use Rattle.yv_values.proofs.numbered_members.NumberedMembers.match_at.Goals as g
 
 pub returns-in-Some-clause-any : goal.returns-in-Some-clause-any
 returns-in-Some-clause-any c =
-    let module_file = c.args.«module».now in
+    let module_name = c.args.«module».now in
     let called = c.args.name.now in
     let m : Member = c.in-Some.entry.now.member in
     let read = slice_get_read c.deref.result.now _ c.args.place c.in-Some.entry.now refl c.in-Some.ensures.lookup.3.0 c.in-Some.ensures.lookup.1 in
     let same = sym (ids_numbered _) ∙ ap ids_of (ap (λ (ms : List NumberedMember). map numbered_of ms) c.deref.ensures.value ∙ c.self.view_is) in
-    ap (λ (ids : List Id). list_any (is_identity module_file called) ids) (sym same) ∙ found_at entry_id module_file called c.deref.result.now c.args.place c.in-Some.entry.now read (either_order (bytes_eq (rc_str_bytes m.«module») module_file) (bytes_eq (rc_str_bytes m.name) called) ∙ sym c.if-is_named.ensures)
+    ap (λ (ids : List Id). list_any (is_identity module_name called) ids) (sym same) ∙ found_at entry_id module_name called c.deref.result.now c.args.place c.in-Some.entry.now read (either_order (bytes_eq (rc_str_bytes m.«module») module_name) (bytes_eq (rc_str_bytes m.name) called) ∙ sym c.if-is_named.ensures)
 
 pub returns-in-Some-clause-there : goal.returns-in-Some-clause-there
 returns-in-Some-clause-there c =
