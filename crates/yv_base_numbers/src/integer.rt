@@ -2,7 +2,7 @@
 ghost use Rattle.std.specs.Prelude.{◌≡◌, int_le};
 ghost use Rattle.yv_base_numbers.specs.Numbers.{integer};
 
-/// A whole number of at most 64 bits besides its sign: `Natural(n)` is n, and `Below(n)` is -1 - n.
+/// An integer of at most 64 bits besides its sign: `Natural(n)` is n, and `Below(n)` is -1 - n.
 #[derive(Clone, Copy, PartialEq, Eq, PartialOrd, Ord, Drop)]
 pub enum Integer {
     Natural(u64),

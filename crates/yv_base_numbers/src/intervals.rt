@@ -8,7 +8,7 @@ use std::alloc::AllocError;
 use std::marker::Model;
 use std::rc::RcSlice;
 
-/// The numbers from the low one to the high one, both included.
+/// A span of numbers: those from the low one to the high one, both included.
 #[derive(Clone, Copy, Drop)]
 pub struct Span {
     pub low: Integer,

@@ -15,8 +15,8 @@ pub enum NumberKind {
     Bits,
 }
 
-/// An `enum` or `bit` statement: its name, and the text of its `value` or `position`, where it has
-/// one. Contracts see the name, and what the text states.
+/// An entry: an `enum` or `bit` statement. It has its name, and the text of its `value` or
+/// `position`, where it has one. Contracts see the name, and what the text states.
 #[derive(Drop)]
 pub struct ListedEntry<'a> {
     pub name: &'a str,

@@ -8,10 +8,10 @@ use crate::restriction_order::lie_within;
 use std::alloc::{AllocError, Global};
 
 /// The intervals that the argument of a `range` leaves of a type's (RFC 7950, sections 9.2.4 and
-/// 9.3.4), or that of a
-/// `length` (section 9.4.4), or `None` where it doesn't restrict that type. The type's numbers are whole, or decimals
-/// with so many fraction digits, which count as the number scaled by them. It takes time linear in
-/// the text, and for each of its parts one logarithmic in the count of the type's intervals.
+/// 9.3.4), or that of a `length` (section 9.4.4), or `None` where it doesn't restrict that type.
+/// The type's numbers are whole, or decimals with so many fraction digits, which count as the
+/// number scaled by them. It takes time linear in the text, and for each of its parts one
+/// logarithmic in the count of the type's intervals.
 pub fn restrict(
     alloc: Global,
     text: &str,

@@ -23,8 +23,8 @@ fn part(numbers: &[usize], start: usize, end: usize) -> &[usize]
     &numbers[start..end]
 }
 
-/// Numbers from 0, each at one place or at none, by place. Contracts see the list of the numbers of
-/// each place.
+/// Families of numbers from 0, by place: each number is in that of one place, or in none. Contracts
+/// see the list of the numbers of each place.
 #[derive(Drop)]
 pub struct Families {
     // Where the numbers of each place end among all of them.

@@ -4,7 +4,7 @@ ghost use Rattle.std.specs.{Prelude.{◌≡◌, ℕ, IfOk}, Option.{option_copie
 use std::alloc::{AllocError, Global};
 use std::collections::BTreeMap;
 
-/// Values at some of many places.
+/// A sparse list: values at some of many places.
 #[derive(Drop)]
 pub struct Sparse<T> {
     map: BTreeMap<usize, T>,

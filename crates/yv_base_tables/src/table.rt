@@ -3,8 +3,8 @@ ghost use Rattle.std.specs.{Prelude.{◌≡◌, ◌≢◌, ◌<◌, ◌≤◌, �
 
 use std::alloc::{AllocError, Global};
 
-/// Values at some of many numbers. It takes 8 bytes for each number up to the last with a value,
-/// and memory for each value that was put there.
+/// A table of values at some of many numbers. It takes 8 bytes for each number up to the last with
+/// a value, and memory for each value that was put there.
 #[derive(Drop)]
 pub struct Table<T> {
     // Where the value of each number is among the items, counted from 1; 0 where it has none.

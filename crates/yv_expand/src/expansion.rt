@@ -5,8 +5,8 @@ use crate::item::Item;
 use std::alloc::{AllocError, Global};
 use std::marker::Model;
 
-/// Items with numbers from 0, each after its parent, and never more than a limit. Contracts see the
-/// limit and the items.
+/// An expansion: items with numbers from 0, each after its parent, and never more than a limit.
+/// Contracts see the limit and the items.
 #[derive(Drop)]
 pub struct Expansion {
     limit: u32,

@@ -2,7 +2,7 @@
 ghost use Rattle.std.specs.Prelude.{◌≡◌};
 ghost use Rattle.yv_expand.specs.Origin.{number_of};
 
-/// The statement from which a schema node comes.
+/// The origin of a schema node: the statement from which it comes.
 #[derive(Clone, Copy, Debug, PartialEq, Eq)]
 pub enum Origin {
     /// The statement of this number.

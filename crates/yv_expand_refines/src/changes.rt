@@ -7,9 +7,9 @@ use crate::places::Places;
 use std::alloc::{AllocError, Global};
 use std::marker::Model;
 
-/// For each item of an expansion the refines that change it, in order; items that are changed alike
-/// share one sequence of refines. A sequence goes on by a run of refines from an earlier one, or
-/// from nothing, and each that is made so is kept once.
+/// The changes of items: for each item of an expansion the refines that change it, in order; items
+/// that are changed alike share one sequence of refines. A sequence goes on by a run of refines
+/// from an earlier one, or from nothing, and each that is made so is kept once.
 #[derive(Drop)]
 pub struct Changes {
     runs: Vec<Vec<usize>>,
@@ -32,7 +32,7 @@ impl Model for Changes {
     ghost invariant = { λ c. AreJoined (length c.runs.items) c.joints.made.items (places_in c.of) };
 }
 
-/// How a sequence is made from an earlier one.
+/// How a sequence continues an earlier one.
 #[derive(Clone, Copy, Debug)]
 pub struct Continuation<'c> {
     /// The place of the sequence from which it goes on, if there is one.

@@ -11,7 +11,7 @@ use crate::places::ItemPlaces;
 use std::alloc::{AllocError, Global};
 use yv_base_tables::PathTree;
 
-/// A path of a tree, and where it leads.
+/// An arrival: a path of a tree, and where it leads.
 #[derive(Clone, Copy, Debug, PartialEq, Eq)]
 pub struct Arrival {
     /// The number of the path.

@@ -4,9 +4,9 @@ ghost use Rattle.yv_expand_rounds.specs.Labels.{is_named};
 
 use crate::statement_kind::StatementKind;
 
-/// The number of the module and name of an item together: two items have the same number exactly
-/// where they have the same module and the same name; its kind; and whether an augment of a module
-/// gives it, and it isn't below another node that this augment gives.
+/// The label of an item: the number of its module and name together: two items have the same number
+/// exactly where they have the same module and the same name; its kind; and whether an augment of a
+/// module gives it, and it isn't below another node that this augment gives.
 #[derive(Clone, Copy, Debug, PartialEq, Eq)]
 pub struct Label {
     pub name: usize,

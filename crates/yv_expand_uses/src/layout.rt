@@ -11,7 +11,7 @@ use crate::spot::Spot;
 use std::alloc::{AllocError, Global};
 use yv_expand::Item;
 
-/// Items with what is known of each, and how many copies of augments there are.
+/// A layout of items, each with what is known of it, and how many copies of augments there are.
 #[derive(Drop)]
 pub struct Layout {
     /// What is known of each item, by its number.

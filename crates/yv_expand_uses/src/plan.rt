@@ -54,9 +54,9 @@ fn names_of(
     Ok(names)
 }
 
-/// Statements, the augments of modules among them, and the items; for each file that of its module,
-/// the names and the paths, the refines and augments of each block, and which of these give
-/// something.
+/// The plan of an expansion: statements, the augments of modules among them, and the items; for
+/// each file that of its module, the names and the paths, the refines and augments of each block,
+/// and which of these give something.
 #[derive(Drop)]
 pub struct Plan<'r, 'a, 'b> {
     /// The statements of all files.

@@ -33,7 +33,7 @@ struct KeptTargets {
     place: usize,
 }
 
-/// What the refines of items mean, as far as these were looked at.
+/// The targets that refines of items mean, as far as these were looked at.
 #[derive(Drop)]
 pub struct RefineTargets {
     // For each `uses` that refines and each module to which copies of it belong the number of what

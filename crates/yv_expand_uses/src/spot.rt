@@ -2,7 +2,7 @@
 
 use yv_expand_rounds::Label;
 
-/// An item of an expansion.
+/// The spot of an item in an expansion.
 #[derive(Clone, Copy, Debug, PartialEq, Eq)]
 pub struct Spot {
     /// The number of the statement that gives it.

@@ -4,7 +4,7 @@ ghost use Rattle.std.specs.Prelude.{◌≡◌};
 use crate::path::Path;
 use std::marker::Model;
 
-/// What is wrong at a place of a document.
+/// The kind of a fault: what is wrong at a place of a document.
 #[derive(Clone, Copy, Debug, PartialEq, Eq)]
 pub enum FaultKind {
     /// A member names no child data node.

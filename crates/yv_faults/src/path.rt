@@ -96,8 +96,8 @@ enum Left<'p> {
     Value(ValueSteps<'p>),
 }
 
-/// A step of a path: what the member is called, and its number from 1 where it is an entry or an
-/// item of an array.
+/// A part of a path, one step: what the member is called, and its number from 1 where it is an
+/// entry or an item of an array.
 #[derive(Clone, Copy)]
 pub struct Part<'p> {
     /// The name of the member.

@@ -5,7 +5,7 @@ ghost use Rattle.yv_faults.specs.InnerPath.{is_entry};
 use yv_nodes::NodeId;
 use yv_schema_tables::Schema;
 
-/// The way from the top to a node: a chain on the stack, written out only where a fault is
+/// The trail from the top to a node: a chain on the stack, written out only where a fault is
 /// reported.
 #[derive(Clone, Copy)]
 pub enum Trail<'a> {

@@ -4,7 +4,7 @@ use std::alloc::AllocError;
 use thiserror::Error;
 use yv_statement::{Kind, Selection};
 
-/// What is to be done with the modules.
+/// The command: what is to be done with the modules.
 #[derive(Debug, Drop)]
 pub enum Command {
     /// Count the nodes of the schema.
@@ -15,7 +15,7 @@ pub enum Command {
     Validate(String),
 }
 
-/// What a command line asks for.
+/// The job that a command line asks for.
 #[derive(Debug, Drop)]
 pub struct Job {
     pub command: Command,

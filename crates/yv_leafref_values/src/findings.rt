@@ -80,8 +80,8 @@ impl Model for Note {
     ghost view = { λ n. record { position = n.position; node = n.node.0; item = n.item; value = n.value } };
 }
 
-/// What a walk over a document finds: the objects that it enters, with numbers from 0 on in the
-/// order in which it enters them, the document first; the values of targets, and where their
+/// The findings of a walk over a document: the objects that it enters, with numbers from 0 on in
+/// the order in which it enters them, the document first; the values of targets, and where their
 /// defaults are in use; and the values of leafrefs. Beside values it keeps a few numbers of each,
 /// and no path. What fails for want of memory leaves it as it was.
 #[derive(Drop)]

@@ -6,8 +6,8 @@ use yv_nodes::NodeId;
 use yv_statement::Kind;
 use yv_walk::Existence;
 
-/// Where the rules of a node hold: always, in a case if one of these nodes exists, only by default,
-/// or not at all.
+/// The scope in which the rules of a node hold: always, in a case if one of these nodes exists,
+/// only by default, or not at all.
 #[derive(Clone, Copy, Debug, PartialEq, Eq)]
 pub enum RuleScope {
     Always,

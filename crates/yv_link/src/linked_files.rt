@@ -10,8 +10,8 @@ use yv_link_identities::{Identities, IdentityRef};
 use yv_link_scopes::Rows;
 use yv_statement::Statement;
 
-/// Files in which nothing is wrong with modules, features and identities. A file is meant by its
-/// place in the list of files. Of the readers only `descendants` allocates memory.
+/// Linked files: nothing is wrong in them with modules, features and identities. A file is meant by
+/// its place in the list of files. Of the readers only `descendants` allocates memory.
 #[derive(Drop)]
 pub struct Linked<'a, 'b> {
     pub(crate) rows: Rows<'a, 'b>,

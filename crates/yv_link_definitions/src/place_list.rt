@@ -5,9 +5,9 @@ ghost use Rattle.yv_link_definitions.specs.InnerOrder.{Rise};
 use crate::place::{Place, are_before, find_there, first_there};
 use std::alloc::{AllocError, Global};
 
-/// Places of statements, each with its number. Where statements are in the order of files and
-/// offsets, as where texts are read, a search takes time log n; otherwise it takes time linear in
-/// the places.
+/// A list of places of statements, each with its number. Where statements are in the order of files
+/// and offsets, as where texts are read, a search takes time log n; otherwise it takes time linear
+/// in the places.
 #[derive(Drop)]
 pub struct PlaceList {
     places: Vec<Place>,

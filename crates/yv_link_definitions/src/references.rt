@@ -12,7 +12,8 @@ use std::collections::BTreeMap;
 use yv_link_scopes::{Entry, NameKind};
 use yv_statement::Keyword;
 
-/// A typedef or a grouping, by its statement's file and offset.
+/// A reference (ref) to a definition (def), a typedef or a grouping, by its statement's file and
+/// offset.
 #[derive(Clone, Copy, Debug, PartialEq, Eq)]
 pub struct DefRef {
     pub file: u32,

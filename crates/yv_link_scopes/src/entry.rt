@@ -4,7 +4,8 @@ ghost use Rattle.yv_statement.specs.Keywords.{keyword_of, same, written};
 
 use yv_statement::{Keyword, Statement};
 
-/// A statement, the number of its file, and the number of the block that contains its names.
+/// An entry of the list of statements: a statement, the number of its file, and the number of the
+/// block that contains its names.
 #[derive(Clone, Copy)]
 pub struct Entry<'a, 'b> {
     pub file: u32,

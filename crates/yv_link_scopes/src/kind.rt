@@ -10,7 +10,7 @@ use crate::rows::Rows;
 use std::alloc::{AllocError, Global};
 use yv_statement::Keyword;
 
-/// What a statement names.
+/// The kind of a statement's name: what it names.
 #[derive(Clone, Copy, Debug, PartialEq, Eq)]
 pub enum NameKind {
     Prefix,

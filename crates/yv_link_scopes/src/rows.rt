@@ -16,7 +16,7 @@ use yv_statement::Statement;
 // need some that no statement has.
 const MOST_STATEMENTS: usize = 4_294_967_293;
 
-/// The statements of files as one numbered list.
+/// The rows of files: their statements as one numbered list.
 #[derive(Drop)]
 pub struct Rows<'a, 'b> {
     roots: &'a [Statement<'b>],

@@ -14,8 +14,8 @@ use std::rc::{Rc, RcSlice, RcStr};
 use yv_statement::WrittenText;
 use yv_values::{Defaults, PlainType, Value};
 
-/// What a statement says of the schema node that it defines, while it is put together: each part
-/// may still be changed. Contracts see it as a `Defined`.
+/// A draft of a definition, what a statement says of the schema node that it defines: each part
+/// may still be changed. Contracts see it as the record `Definition`.
 #[derive(Drop)]
 pub struct DefinitionDraft {
     /// The offset in bytes of the statement's keyword.
@@ -146,9 +146,9 @@ impl DefinitionDraft {
     }
 }
 
-/// What a statement says of the schema node that it defines, whatever the place of the node in the
-/// schema tree. All nodes that it defines share it; only its types may be others, as those of a
-/// leafref are. Contracts see it as a `Defined`.
+/// A definition: what a statement says of the schema node that it defines, whatever the place of
+/// the node in the schema tree. All nodes that it defines share it; only its types may be others,
+/// as those of a leafref are. Contracts see it as the record `Definition`.
 #[derive(Drop)]
 pub struct Definition {
     said: Rc<DefinitionDraft>,

@@ -8,8 +8,9 @@ use std::collections::BTreeSet;
 use std::marker::Model;
 use std::rc::RcStr;
 
-/// What the `key` statement of a list names, each name being the one step of a path, in order (RFC
-/// 7950, section 7.8.2): None where a prefix identifies no module. Contracts see the list of steps.
+/// The keys that the `key` statement of a list names, each name being the one step of a path, in
+/// order (RFC 7950, section 7.8.2): None where a prefix identifies no module. Contracts see the
+/// list of steps.
 #[derive(Drop)]
 pub struct Keys {
     steps: Vec<Option<PathStep>>,

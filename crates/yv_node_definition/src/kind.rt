@@ -32,7 +32,7 @@ pub enum NodeKind {
     Output,
 }
 
-/// Whether a definition is still to be used (RFC 7950, section 7.21.2).
+/// The status of a definition: whether it is still to be used (RFC 7950, section 7.21.2).
 #[derive(Clone, Copy, Debug, PartialEq, Eq)]
 pub enum NodeStatus {
     /// In use; a definition without a `status` statement is.

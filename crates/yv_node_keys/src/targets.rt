@@ -28,7 +28,8 @@ pub struct LeafTargets {
     cases: BTreeMap<u32, NodeId>,
 }
 
-/// What all lists and choices name, and the least refusal of a list that names what it may not.
+/// The targets that were found: what all lists and choices name, and the least refusal of a list
+/// that names what it may not.
 #[derive(Drop)]
 pub struct FoundTargets {
     /// What they name, where nothing is refused.

@@ -8,7 +8,7 @@ use yv_base_numbers::{Integer, integer_of};
 use yv_statement::Statement;
 use yv_text_grammar::Keyword;
 
-/// What is said of a node, where it is said (RFC 7950, section 7.13.2).
+/// The properties of a node that statements say, where they do (RFC 7950, section 7.13.2).
 #[derive(Clone, Copy, Debug, PartialEq, Eq)]
 pub struct StatedProperties {
     /// The truth of its `config` statement.

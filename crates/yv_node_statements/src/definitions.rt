@@ -26,7 +26,8 @@ use yv_text_grammar::Keyword;
 use yv_types::{TypeLeafref, Types};
 use yv_values::{Defaults, Matchers, PlainType};
 
-/// What the numbered statements of files say of the nodes that they define, each read once.
+/// The definitions of files: what the numbered statements say of the nodes that they define,
+/// each read once.
 /// Contracts see the files, and what their `type` statements mean.
 #[derive(Drop)]
 pub struct Definitions<'r, 'a, 'b> {

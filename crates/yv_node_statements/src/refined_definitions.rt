@@ -12,7 +12,8 @@ use yv_expand_refines::Changes;
 use yv_node_definition::Definition;
 use yv_values::Matchers;
 
-/// What the statements of files say of the nodes of items, as refines change these. Contracts see
+/// The definitions of items: what the statements of files say of their nodes, as refines change
+/// these. Contracts see
 /// what the statements say, and the sequences of refines.
 #[derive(Drop)]
 pub struct RefinedDefinitions<'d, 'r, 'a, 'b> {

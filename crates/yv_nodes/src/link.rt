@@ -7,7 +7,7 @@ use std::alloc::{AllocError, Global};
 use std::collections::BTreeSet;
 use std::marker::Model;
 
-/// The path of a leafref (RFC 7950, sections 9.9.2 and 9.9.3).
+/// The link from a leafref to its target, by its path (RFC 7950, sections 9.9.2 and 9.9.3).
 #[derive(Drop)]
 pub struct Link {
     /// How many `../` it begins with, each of which leaves one data node; None where it is

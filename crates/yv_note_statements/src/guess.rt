@@ -6,7 +6,8 @@ use crate::sites::Sites;
 use yv_link_scopes::local;
 use yv_note_text::{Likeness, compare};
 
-/// A name that is like one that was written. Of several the first that is most alike is kept.
+/// A guess at what was meant: a name that is like one that was written. Of several the first that
+/// is most alike is kept.
 #[derive(Clone, Copy)]
 pub struct Guess<'n> {
     pub name: &'n str,

@@ -27,7 +27,7 @@ enum Piece<'w> {
     Excerpt(u32, u64),
 }
 
-/// What is said of a refusal: pieces, and between them the word that the refusal is about. Pieces
+/// A message on a refusal: pieces, and between them the word that the refusal is about. Pieces
 /// are added whether or not there was memory for those before; `outcome` says in the end whether
 /// there was for all.
 #[derive(Drop)]

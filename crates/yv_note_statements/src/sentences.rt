@@ -1,7 +1,7 @@
 //! What each refusal means, in one sentence.
 use yv_statement::Code;
 
-/// The words before and after the word that a refusal is about.
+/// A sentence: the words before and after the word that a refusal is about.
 #[derive(Clone, Copy)]
 pub struct Sentence {
     pub before: &'static str,

@@ -4,7 +4,7 @@ use crate::sites::{Children, Sites};
 use std::alloc::{AllocError, Global};
 use yv_link_scopes::local;
 
-/// A numbered statement of the files.
+/// The site of a numbered statement of the files.
 #[derive(Clone, Copy)]
 pub struct Site<'s, 'a> {
     /// All statements of the files.

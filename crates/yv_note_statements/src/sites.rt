@@ -4,7 +4,7 @@ ghost use Rattle.std.specs.{Prelude.{◌-◌, length}, Iterator.{at_most}};
 use crate::entry::StatementEntry;
 use crate::site::Site;
 
-/// The statements of the files from one of them on.
+/// The sites of the statements of the files from one of them on.
 #[derive(Clone, Copy)]
 pub struct Sites<'s, 'a> {
     entries: &'s [StatementEntry<'a>],
@@ -42,7 +42,7 @@ impl<'s, 'a> Iterator for Sites<'s, 'a> {
     }
 }
 
-/// The statements of a block, in order.
+/// The children of a statement: those of its block, in order.
 #[derive(Clone, Copy)]
 pub struct Children<'s, 'a> {
     block: Site<'s, 'a>,

@@ -4,7 +4,7 @@ use std::alloc::AllocError;
 /// How many names are listed.
 const MOST_NAMES: usize = 8;
 
-/// The word before the last name of a list.
+/// The joint of a list: the word before its last name.
 #[derive(Clone, Copy)]
 pub enum Joint {
     And,

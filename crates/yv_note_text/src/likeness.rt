@@ -1,7 +1,7 @@
 //! Names that are like others.
 ghost use Rattle.std.specs.Prelude.{◌≤◌, length};
 
-/// How a name that is there is like one that was written: the less, the more alike.
+/// The likeness of a name that is there to one that was written: the less, the more alike.
 #[derive(Clone, Copy, PartialEq, Eq, PartialOrd, Ord)]
 pub enum Likeness {
     Same,

@@ -12,8 +12,8 @@ use yv_schema_tables::Schema;
 // Of so many children each is asked, which takes the least time.
 const FEW_CHILDREN: usize = 16;
 
-/// Quiet nodes one after the other: how many there are, and their steps with all that is met below
-/// them.
+/// A run of quiet nodes, one after the other: how many there are, and their steps with all that is
+/// met below them.
 #[derive(Clone, Copy)]
 pub struct Run {
     pub(crate) many: usize,

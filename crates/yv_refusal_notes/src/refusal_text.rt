@@ -39,7 +39,7 @@ fn number_at(rows: &Rows<'_, '_>, refusal: &Refusal) -> usize {
         .unwrap_or(0)
 }
 
-/// What a run was given: its selection of modules and features, and its limit.
+/// What bounds a run: its selection of modules and features, and its limit.
 #[derive(Clone, Copy)]
 pub struct Bounds<'b> {
     /// Which modules are implemented, and which features are supported.

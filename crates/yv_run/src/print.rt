@@ -13,9 +13,9 @@ use yv_streams::Input;
 use yv_tree::TreeDiagram;
 use yv_validate::{Fault, validate};
 
-/// What is written of an outcome. A diagram and the lines of faults aren't text: they may be more
-/// than memory holds, since what is short in a module may be shown many times, and a fault has all
-/// the names on its way.
+/// The body of an outcome: what is written of it. A diagram and the lines of faults aren't text:
+/// they may be more than memory holds, since what is short in a module may be shown many times, and
+/// a fault has all the names on its way.
 #[derive(Drop)]
 pub enum Body<'a> {
     Text(String),
@@ -25,7 +25,7 @@ pub enum Body<'a> {
     Faults(Vec<Fault>),
 }
 
-/// What a run writes, and what it found.
+/// The output of a run: what it writes, and what it found.
 #[derive(Drop)]
 pub struct Output<'a> {
     pub body: Body<'a>,
@@ -100,7 +100,8 @@ fn no_module(alloc: Global) -> Result<Output<'static>, AllocError>
     })
 }
 
-/// What is said of a document, and the document that its bytes are: what a note on it is made of.
+/// The result of checking a document, and the document that its bytes are: what a note on it is
+/// made of.
 #[derive(Drop)]
 pub struct CheckResult {
     pub output: Output<'static>,

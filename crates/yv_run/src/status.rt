@@ -2,7 +2,7 @@
 ghost use Rattle.std.specs.Prelude.{◌≡◌, option_map};
 ghost use Rattle.yv_run.specs.Status.{status_of, exit_of, complaint_of};
 
-/// How a run ended.
+/// The status of a run: how it ended.
 #[derive(Clone, Copy, PartialEq, Eq, Debug)]
 pub enum Status {
     /// Nothing is wrong with the modules and the document.
@@ -18,7 +18,7 @@ pub enum Status {
     WriteFault,
 }
 
-/// What was found, where nothing stopped the run.
+/// The verdict: what was found, where nothing stopped the run.
 #[derive(Clone, Copy, PartialEq, Eq, Debug)]
 pub enum Verdict {
     Clean,

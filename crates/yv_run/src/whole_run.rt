@@ -43,8 +43,8 @@ impl From<AllocError> for Halt {
     }
 }
 
-/// What a run holds when it ends: the schema, and the document with what was found in it. To drop
-/// it takes time for each node and each value, so a program that ends then may forget it.
+/// The holdings of a run when it ends: the schema, and the document with what was found in it. To
+/// drop it takes time for each node and each value, so a program that ends then may forget it.
 #[derive(Drop)]
 pub struct Holdings {
     schema: Option<Schema>,

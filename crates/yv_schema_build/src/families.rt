@@ -6,7 +6,8 @@ ghost use Rattle.yv_schema_build.specs.Families.{below_from, lists_of, numbers_f
 use std::alloc::{AllocError, Global};
 use yv_expand::RemainingNode;
 
-/// The numbers of the nodes at the top, and of those below each node, in order.
+/// The lists of children: the numbers of the nodes at the top, and of those below each node, in
+/// order.
 #[derive(Drop)]
 pub struct ChildLists {
     pub top: Vec<usize>,

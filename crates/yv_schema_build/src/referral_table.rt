@@ -1,7 +1,7 @@
 //! What is known of nodes as leafrefs.
 use yv_node_leafrefs::Leafref;
 
-/// What nodes say as leafrefs.
+/// The referrals of nodes: what they say as leafrefs.
 #[derive(Drop)]
 pub struct Referrals {
     /// For each node the number of what it says. None where it is not a leafref.

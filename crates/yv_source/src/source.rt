@@ -16,8 +16,8 @@ pub const MOST_BYTES: usize = 4_194_304;
 // How many bytes are compared at once.
 const BLOCK: usize = 64;
 
-/// A file's name and text. The text is UTF-8, has only legal characters and at most `MOST_BYTES`
-/// bytes.
+/// The source of statements: a file's name and text. The text is UTF-8, has only legal characters
+/// and at most `MOST_BYTES` bytes.
 #[derive(Drop)]
 pub struct Source {
     name: String,

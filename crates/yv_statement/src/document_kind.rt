@@ -1,6 +1,6 @@
 //! What kind of document is asked for.
 
-/// The data that a JSON document is to have.
+/// The kind of data that a JSON document is to have.
 #[derive(Clone, Copy, Debug, PartialEq, Eq)]
 pub enum Kind {
     /// Configuration and state.

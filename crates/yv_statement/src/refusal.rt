@@ -5,7 +5,7 @@ use crate::statement::Statement;
 use std::alloc::{AllocError, AllocFailed};
 use std::fmt;
 
-/// Refusal codes, in the order in which the refusals at one place are ranked.
+/// The code of a refusal. They are in the order in which the refusals at one place are ranked.
 #[derive(Clone, Copy, Debug, PartialEq, Eq)]
 pub enum Code {
     NotUtf8,
@@ -66,7 +66,7 @@ pub struct Refusal {
     pub line: u64,
 }
 
-/// Why a call has no answer.
+/// What stops a call: why it has no answer.
 #[derive(Clone, Copy, Debug, PartialEq, Eq)]
 pub enum Stop {
     /// The files are refused.

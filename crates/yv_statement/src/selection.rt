@@ -4,8 +4,8 @@ ghost use Rattle.yv_statement.specs.Selection.{selected_of, entry_of, is_impleme
 
 use std::alloc::Global;
 
-/// What is chosen of the modules that are given. An entry that names nothing that is given has no
-/// effect.
+/// The selection: what is chosen of the modules that are given. An entry that names nothing that is
+/// given has no effect.
 #[derive(Debug, Drop)]
 pub struct Selection {
     /// Modules, each with the features of it that are supported. Of a module that isn't named, all

@@ -8,9 +8,10 @@ use std::io::{Error, ErrorKind, Read, Write};
 /// How many interruptions of one stream are borne.
 const PATIENCE: u64 = 1_000;
 
-/// A reader or a writer, with the errors that its calls have answered. Each call is one call of
-/// what it wraps, and passes on its answer. Once the stream has failed, what it wraps is no longer
-/// called: a further call answers an error, and is one more fault.
+/// A stream, a reader or a writer, whose failures are counted: it has the errors that its calls
+/// have answered. Each call is one call of what it wraps, and passes on its answer. Once the stream
+/// has failed, what it wraps is no longer called: a further call answers an error, and is one more
+/// fault.
 #[derive(Drop)]
 pub struct Counted<T> {
     inner: T,

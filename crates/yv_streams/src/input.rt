@@ -10,7 +10,7 @@ use std::io::Read;
 /// What is read of a file: one byte more than it may have, so that its being too large shows.
 const FILE_BYTES: usize = 4_194_305;
 
-/// A file's name, and its bytes or the first 4,194,305 of them.
+/// An input: a file's name, and its bytes or the first 4,194,305 of them.
 #[derive(Debug, Drop)]
 pub struct Input {
     pub name: String,

@@ -12,7 +12,8 @@ use yv_link_definitions::Names;
 use yv_link_scopes::Rows;
 use yv_statement::Refusal;
 
-/// The built-in types to which the types of files lead, and what is wrong with these.
+/// The bases of types: the built-in types to which the types of files lead, and what is wrong with
+/// these.
 #[derive(Drop)]
 pub struct Bases {
     pub(crate) bases: Vec<Option<usize>>,

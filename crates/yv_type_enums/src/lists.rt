@@ -13,8 +13,8 @@ use yv_link::Linked;
 use yv_statement::{Refusal, lesser};
 use yv_type_chains::Bases;
 
-/// The names of the types of files that lead to `enumeration` or to `bits`, and what is wrong with
-/// these.
+/// The lists of names of the types of files that lead to `enumeration` or to `bits`, and what is
+/// wrong with these.
 #[derive(Drop)]
 pub struct Lists<'a> {
     pub(crate) types: Table<TypeNames<'a>>,

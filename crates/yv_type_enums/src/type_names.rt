@@ -64,9 +64,9 @@ impl<'a> NamedEntries<'a> {
     }
 
     /// The names of a `type` statement of this file that is derived from this type, of the same
-    /// kind (RFC 7950, sections
-    /// 9.6.3 and 9.7.3). Where it lists nothing, it takes constant time besides that for the statement's substatements,
-    /// else time n log n in the statements, besides that of their conditions.
+    /// kind (RFC 7950, sections 9.6.3 and 9.7.3). Where it lists nothing, it takes constant time
+    /// besides that for the statement's substatements, else time n log n in the statements, besides
+    /// that of their conditions.
     pub fn derive(
         &self,
         alloc: Global,

@@ -11,9 +11,9 @@ use std::alloc::{AllocError, Global};
 use std::collections::BTreeMap;
 use std::marker::Model;
 
-/// Which keys were kept, and where. A key is a tuple of values; the least place and the membership
-/// of a key are what can be asked. Keys are found by their order, and the places of a key by
-/// theirs.
+/// An index of keys: which were kept, and where. A key is a tuple of values; the least place and
+/// the membership of a key are what can be asked. Keys are found by their order, and the places of
+/// a key by theirs.
 #[derive(Drop)]
 pub struct Index {
     alloc: Global,

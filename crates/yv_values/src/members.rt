@@ -9,16 +9,17 @@ use std::cmp::Ordering;
 use std::marker::Model;
 use std::rc::RcStr;
 
-/// An identity: the module that defines it, and its name. Texts are shared by its copies.
+/// A member of a type, an identity: the module that defines it, and its name. Texts are shared by
+/// its copies.
 #[derive(PartialEq, Eq, PartialOrd, Ord, Drop)]
 pub struct Member {
     pub module: RcStr,
     pub name: RcStr,
 }
 
-/// The identities of an identityref type, in the order of their modules and then of their names and
-/// each once. Contracts see them as that list. They are some of a list that types share: those
-/// whose numbers are from the low one up to the high one, and not that.
+/// The members of an identityref type, its identities, in the order of their modules and then of
+/// their names and each once. Contracts see them as that list. They are some of a list that types
+/// share: those whose numbers are from the low one up to the high one, and not that.
 #[derive(Drop)]
 pub struct Members {
     all: NumberedMembers,

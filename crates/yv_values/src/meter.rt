@@ -4,7 +4,7 @@ ghost use Rattle.yv_values.specs.Count.{count_up};
 
 use std::marker::Model;
 
-/// The count of a validation's steps. It stops at 2 to the 64 less 1.
+/// A meter that counts a validation's steps. It stops at 2 to the 64 less 1.
 #[derive(Drop)]
 pub struct Meter {
     steps: u64,

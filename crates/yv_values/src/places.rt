@@ -5,8 +5,8 @@ ghost use Rattle.yv_values.specs.Places.{AddsPlace, IsLeastPlace, HasBetween};
 use std::alloc::{AllocError, Global};
 use std::marker::Model;
 
-/// One place or more where something was kept, in ascending order. One takes no memory of its own,
-/// since most keys are kept at one place; of more each takes eight bytes.
+/// The places, one or more, where a key was kept, in ascending order. One takes no memory of its
+/// own, since most keys are kept at one place; of more each takes eight bytes.
 #[derive(Drop)]
 pub struct KeyPlaces {
     alloc: Global,

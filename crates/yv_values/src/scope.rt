@@ -4,8 +4,8 @@ ghost use Rattle.yv_values.specs.Scopes.{module_of, binding_of};
 
 use crate::name::is_same;
 
-/// What names in a file mean: the file's module, and each prefix, its own too, with the module that
-/// it means.
+/// The scope of names in a file, what they mean: the file's module, and each prefix, its own too,
+/// with the module that it means.
 #[derive(Drop)]
 pub struct Scope {
     pub module: String,

@@ -27,8 +27,8 @@ pub(crate) enum Atom {
     Empty,
 }
 
-/// What a leaf holds: its kind and content. Values can't be compared outside this crate; an `Index`
-/// does it.
+/// The value of a leaf: its kind and content. Values can't be compared outside this crate; an
+/// `Index` does it.
 #[derive(Drop)]
 pub struct Value {
     atom: Atom,
@@ -152,7 +152,7 @@ impl Atom {
     }
 }
 
-/// Values in a row, as a key of an `Index`.
+/// A tuple of values, as a key of an `Index`.
 #[derive(Drop)]
 pub struct Tuple {
     alloc: Global,

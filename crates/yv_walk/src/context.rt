@@ -21,8 +21,8 @@ use yv_values::Meter;
 // So many children of a choice or case are few.
 const FEW_CHILDREN: usize = 16;
 
-/// What the members of one object write: the values of its data nodes, the data nodes that exist in
-/// its choices and cases, and the members that name no node.
+/// The context of an object: what its members write: the values of its data nodes, the data nodes
+/// that exist in its choices and cases, and the members that name no node.
 #[derive(Drop)]
 pub struct Context<'v> {
     parent: NodeId,

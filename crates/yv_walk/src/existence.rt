@@ -4,7 +4,7 @@ ghost use Rattle.yv_walk.specs.Existence.{any, any_but, both};
 
 use yv_nodes::NodeId;
 
-/// Which data nodes exist of a group: none, only one, or several.
+/// The existence of the data nodes of a group: none, only one, or several.
 #[derive(Clone, Copy, Debug, PartialEq, Eq)]
 pub enum Existence {
     /// None exists.
