@@ -5,7 +5,7 @@ use Rattle.std.specs.Option.{unwrap_or}
 use Rattle.yv_statement.specs.Order.{refusal_at}
 use Rattle.yv_statement.specs.declared.refusal.Code.TheVariants as code
 use Rattle.yv_statement.specs.declared.refusal.Refusal.{Refusal}
-use Rattle.yv_statement.specs.Selection.{Selected}
+use Rattle.yv_statement.specs.Selection.{ModuleChoice}
 use Rattle.yv_link_scopes.specs.Files.{Files}
 use Rattle.yv_link_scopes.specs.RowList.{rows_of}
 use Rattle.yv_link_scopes.specs.Rows.{Row}
@@ -85,7 +85,7 @@ IsWrong files m w =
     ⊎ ((w.code ≡ code.TreeTooDeep) × IsTooDeep m.nodes w.statement))
 
 -- something is refused of the expansion of files, at its statement
-pub record BadExpanded (choice : Selected) (files : Files) (f : Refusal) : Type 0 where
+pub record BadExpanded (choice : ModuleChoice) (files : Files) (f : Refusal) : Type 0 where
   pub made : Product
   pub expand : Expand files (marks_of choice files) (order_of choice files) made
   pub wrong : Wrong

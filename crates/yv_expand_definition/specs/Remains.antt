@@ -1,7 +1,7 @@
 -- Which nodes are left (RFC 7950, section 7.20.2).
 use Rattle.std.specs.Prelude.{◌≡◌, ◌↔◌, ℕ, Bool, true, IsTrue, if◌then◌else◌}
 use Rattle.std.specs.List.{list_all}
-use Rattle.yv_statement.specs.Selection.{Selected}
+use Rattle.yv_statement.specs.Selection.{ModuleChoice}
 use Rattle.yv_link_scopes.specs.Files.{Files}
 use Rattle.yv_link_scopes.specs.RowList.{rows_of}
 use Rattle.yv_link_features.specs.On.{AllHoldBy, Holds}
@@ -12,7 +12,7 @@ use Rattle.yv_expand_definition.specs.Gives.{Product}
 
 -- this tells of numbered statements whether all their conditions hold, each in the file in which it
 -- is
-abbrev pub AreIfFeatures : Selected → Files → (ℕ → Bool) → Type 0
+abbrev pub AreIfFeatures : ModuleChoice → Files → (ℕ → Bool) → Type 0
 AreIfFeatures choice files on = (k : ℕ) → IsTrue (on k)
     ↔ AllHoldBy (λ file text. Holds files choice file text true) (rows_of files) k
 
@@ -24,7 +24,7 @@ remains on (node g below behind) = if list_all on (if_feature_statements g)
     then node g (remains on below) (remains on behind) else remains on behind
 
 -- the nodes of the schema of files
-pub record AreNodes (choice : Selected) (files : Files) (nodes : Forest) : Type 0 where
+pub record AreNodes (choice : ModuleChoice) (files : Files) (nodes : Forest) : Type 0 where
   pub made : Product
   pub expand : Expand files (marks_of choice files) (order_of choice files) made
   pub on : ℕ → Bool

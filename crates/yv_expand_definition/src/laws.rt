@@ -1,6 +1,6 @@
 //! Laws about the definitions only. These functions do nothing: the contract of each is the law.
 ghost use Rattle.std.specs.{Prelude.{◌≡◌, ◌<◌, ℕ, Bool, false, List, Some, map, slice_get}, List.{Contains}};
-ghost use Rattle.yv_statement.specs.{Order.{refusal_at}, declared.refusal.Refusal.{Refusal}, Selection.{Selected}};
+ghost use Rattle.yv_statement.specs.{Order.{refusal_at}, declared.refusal.Refusal.{Refusal}, Selection.{ModuleChoice}};
 ghost use Rattle.yv_link_scopes.specs.{Files.{Files, brief_of}, RowList.{rows_of}, Rows.{Row}};
 ghost use Rattle.yv_expand.specs.{Expands.{Expands}, StatementBlocks.{is_node_or_uses}, Expansion.{IsWhole}, Tree.{Item, Tree}};
 ghost use Rattle.yv_expand_tree.specs.FileOrder.{marks_of, order_of};
@@ -94,7 +94,7 @@ pub fn what_gives_no_nodes_changes_none()
 /// The schema of files has one list of nodes at most: those that are left when the conditions were
 /// asked (RFC 7950, section 7.20.2).
 pub fn files_have_one_schema()
-    ensures { (choice : Selected) (files : Files) (first second : Forest)
+    ensures { (choice : ModuleChoice) (files : Files) (first second : Forest)
         → AreNodes choice files first → AreNodes choice files second → first ≡ second }
 {
     yv_link_scopes::laws::a_name_means_one_thing();
@@ -102,7 +102,7 @@ pub fn files_have_one_schema()
 
 /// What is refused is refused of what the files expand to, which is one.
 pub fn refusals_are_of_the_expansion()
-    ensures { (choice : Selected) (files : Files) (m : Product) (f : Refusal)
+    ensures { (choice : ModuleChoice) (files : Files) (m : Product) (f : Refusal)
         → Expand files (marks_of choice files) (order_of choice files) m
         → BadExpanded choice files f → (wrong : Wrong) × IsWrong files m wrong × (row : Row)
         × (slice_get (rows_of files) wrong.statement ≡ Some row)

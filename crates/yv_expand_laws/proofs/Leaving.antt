@@ -7,7 +7,7 @@ use Rattle.std.proofs.lemmas.List.Elements.{Contains-append_cases}
 use Rattle.std.proofs.lemmas.List.Folds.{list_all-append}
 use Rattle.std.proofs.lemmas.Option.{slice_get-map}
 use Rattle.yv_statement.specs.Order.{IsLeast}
-use Rattle.yv_statement.specs.Selection.{Selected}
+use Rattle.yv_statement.specs.Selection.{ModuleChoice}
 use Rattle.yv_link_scopes.specs.Files.{Files, brief_of}
 use Rattle.yv_link_scopes.specs.RowList.{rows_of}
 use Rattle.yv_link_scopes.specs.Rows.{Row, name_in}
@@ -134,7 +134,7 @@ module _ (rows : List Row) (its : Items) (S on : ℕ → Bool) (spots : List Spo
 -- an expression has one truth, where nothing is refused of the features
 abbrev pub OneTruth : Type 0
 OneTruth =
-    (files : Files) (choice : Selected) (file : ℕ) (text : List ℕ) (a b : Bool) → IsLeast (BadFeatures files) None → Holds files choice file text a → Holds files choice file text b → a ≡ b
+    (files : Files) (choice : ModuleChoice) (file : ℕ) (text : List ℕ) (a b : Bool) → IsLeast (BadFeatures files) None → Holds files choice file text a → Holds files choice file text b → a ≡ b
 
 module _ (rows : List Row) (truth : Truth) where
   -- the conditions of a numbered statement hold

@@ -8,7 +8,7 @@ use Rattle.std.proofs.lemmas.List.Elements.{Contains-append_cases}
 use Rattle.std.proofs.lemmas.Slice.Eq.{bytes_eq-Decides}
 use Rattle.std.proofs.lemmas.Option.{same_Some, slice_get-map, slice_get_within}
 use Rattle.yv_statement.specs.Tree.{Tree, trees}
-use Rattle.yv_statement.specs.Selection.{Selected, is_implemented}
+use Rattle.yv_statement.specs.Selection.{ModuleChoice, is_implemented}
 use Rattle.yv_base_tables.specs.Families.{is_place, numbers_at, numbers_from}
 use Rattle.yv_link_scopes.specs.Files.{Brief, Briefs, Files, brief_of, first_name, has_word, module_file_at, module_file_in, is_module, module_name, file_named, tree_name}
 use Rattle.yv_expand_tree.specs.FileOrder.{is_given, marks_of, order_from, order_of, part_places, places_from}
@@ -49,7 +49,7 @@ found_from {A = A} p n (x ∷ xs) k e = by (p x) refl e (λ e. found_from p (n +
     by true is e go = (0, x, (let same : n ≡ k = same_Some n k e in omega (arith, same)), refl, is)
     by false is e go = (let r = go e in (suc r.0, r.1, (let f = r.2 in omega (arith, f)), r.3, r.4))
 
-module _ (choice : Selected) (files : Files) where
+module _ (choice : ModuleChoice) (files : Files) where
   abbrev briefs : Briefs
   briefs = map brief_of files
 

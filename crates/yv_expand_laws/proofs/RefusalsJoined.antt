@@ -5,7 +5,7 @@ use Rattle.yv_statement.specs.Order.{refusal_at}
 use Rattle.yv_statement.specs.declared.refusal.Code.{Code}
 use Rattle.yv_statement.specs.declared.refusal.Code.TheVariants as code
 use Rattle.yv_statement.specs.declared.refusal.Refusal.{Refusal}
-use Rattle.yv_statement.specs.Selection.{Selected}
+use Rattle.yv_statement.specs.Selection.{ModuleChoice}
 use Rattle.yv_link_scopes.specs.Files.{Files, brief_of}
 use Rattle.yv_link_scopes.specs.RowList.{rows_of}
 use Rattle.yv_link_scopes.specs.Rows.{Row}
@@ -47,7 +47,7 @@ ExpandToSome =
     (files : Files) (marks : List Bool) (order : List ℕ) (own : ℕ) (items : List Item) → AllRefer (map brief_of files) (rows_of files)
     → AreMarked marks order → IsWhole files marks order own items → (m : Product) × Expand files marks order m
 
-module _ (files : Files) (choice : Selected) (f : Final) (m : Product) (r : Refusal) where
+module _ (files : Files) (choice : ModuleChoice) (f : Final) (m : Product) (r : Refusal) where
   abbrev marks : List Bool
   marks = marks_of choice files
 

@@ -5,7 +5,7 @@
 use Rattle.std.specs.Prelude.{◌≡◌, ◌≤◌, ◌↔◌, ℕ, List, None, Some, length, slice_get}
 use Rattle.yv_statement.specs.Order.{IsLeast}
 use Rattle.yv_statement.specs.declared.refusal.Refusal.{Refusal}
-use Rattle.yv_statement.specs.Selection.{Selected}
+use Rattle.yv_statement.specs.Selection.{ModuleChoice}
 use Rattle.yv_statement.specs.Tree.{Tree}
 use Rattle.yv_text_grammar.specs.Refusals.{Bad}
 use Rattle.yv_link_scopes.specs.Files.{Files}
@@ -39,14 +39,14 @@ pub record AreAccepted (files : Files) : Type 0 where
 -- where such files have a final tree, they are refused for one where their expansion is refused
 abbrev pub ConformingRefusalsAreOne : Files → Type 0
 ConformingRefusalsAreOne files =
-    (choice : Selected) (f : Final) (r : Refusal) → AreAccepted files → IsFinal choice files f
+    (choice : ModuleChoice) (f : Final) (r : Refusal) → AreAccepted files → IsFinal choice files f
     → BadFinal choice files r ↔ BadExpanded choice files r
 
 -- the items of such files show nodes, and what is left of the final tree shows of these the nodes
 -- of the schema, where nothing is refused of the features and `truth` tells which expressions hold
 abbrev pub ConformingLeftIsSchema : Files → Type 0
 ConformingLeftIsSchema files =
-    (choice : Selected) (truth : Truth) (f : Final) (nodes : Nodes) → AreAccepted files
+    (choice : ModuleChoice) (truth : Truth) (f : Final) (nodes : Nodes) → AreAccepted files
     → IsLeast (BadFeatures files) None
     → ((file : ℕ) (text : List ℕ) → Holds files choice file text (truth file text))
     → IsFinal choice files f → AreLeft truth files f nodes

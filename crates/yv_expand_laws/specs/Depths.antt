@@ -4,7 +4,7 @@ use Rattle.std.specs.Prelude.{◌≡◌, ◌↔◌, ℕ, Some, slice_get}
 use Rattle.yv_statement.specs.Order.{refusal_at}
 use Rattle.yv_statement.specs.declared.refusal.Code.TheVariants as code
 use Rattle.yv_statement.specs.declared.refusal.Refusal.{Refusal}
-use Rattle.yv_statement.specs.Selection.{Selected}
+use Rattle.yv_statement.specs.Selection.{ModuleChoice}
 use Rattle.yv_link_scopes.specs.Files.{Files}
 use Rattle.yv_link_scopes.specs.RowList.{rows_of}
 use Rattle.yv_link_scopes.specs.Rows.{Row}
@@ -28,7 +28,7 @@ RefusesDepth files nodes f =
 -- the same is refused of the final tree by number
 abbrev pub DepthsAreOne : Files → Type 0
 DepthsAreOne files =
-    (choice : Selected) (f : Final) (its : Items) (m : Product) (r : Refusal) → AreSound files
+    (choice : ModuleChoice) (f : Final) (its : Items) (m : Product) (r : Refusal) → AreSound files
     → HaveRoots files → IsFinal choice files f
     → ShowFiles files (marks_of choice files) f.items its
     → Expand files (marks_of choice files) (order_of choice files) m

@@ -1,7 +1,7 @@
 -- The final tree of files is the forest to which they expand (RFC 7950, sections 7.12, 7.13 and
 -- 7.17).
 use Rattle.std.specs.Prelude.{◌≡◌}
-use Rattle.yv_statement.specs.Selection.{Selected}
+use Rattle.yv_statement.specs.Selection.{ModuleChoice}
 use Rattle.yv_link_scopes.specs.Files.{Files}
 use Rattle.yv_expand_definition.specs.Expansion.{Expand}
 use Rattle.yv_expand_definition.specs.Gives.{Product}
@@ -16,7 +16,7 @@ use Rattle.yv_expand_laws.specs.Trees.{forest_shown}
 -- modules expand to
 abbrev pub FinalTreeShows : Files → Type 0
 FinalTreeShows files =
-    (choice : Selected) (f : Final) (its : Items) (m : Product) → AreSound files → HaveRoots files
+    (choice : ModuleChoice) (f : Final) (its : Items) (m : Product) → AreSound files → HaveRoots files
     → IsFinal choice files f
     → ShowFiles files (marks_of choice files) f.items its
     → Expand files (marks_of choice files) (order_of choice files) m

@@ -2,7 +2,7 @@
 -- 7.20.2).
 use Rattle.std.specs.Prelude.{ℕ, List, None}
 use Rattle.yv_statement.specs.Order.{IsLeast}
-use Rattle.yv_statement.specs.Selection.{Selected}
+use Rattle.yv_statement.specs.Selection.{ModuleChoice}
 use Rattle.yv_link_scopes.specs.Files.{Files}
 use Rattle.yv_link_features.specs.Refusals.{BadFeatures}
 use Rattle.yv_link_features.specs.On.{Holds}
@@ -21,7 +21,7 @@ use Rattle.yv_expand_laws.specs.StatementItems.{AreSound}
 -- schema, where nothing is refused of the features and `truth` tells which expressions hold
 abbrev pub LeftIsSchema : Files → Type 0
 LeftIsSchema files =
-    (choice : Selected) (truth : Truth) (f : Final) (nodes : Nodes) → AreSound files
+    (choice : ModuleChoice) (truth : Truth) (f : Final) (nodes : Nodes) → AreSound files
     → HaveRoots files → IsLeast (BadFeatures files) None
     → ((file : ℕ) (text : List ℕ) → Holds files choice file text (truth file text))
     → IsFinal choice files f → AreLeft truth files f nodes

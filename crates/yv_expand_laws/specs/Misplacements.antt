@@ -6,7 +6,7 @@ use Rattle.std.specs.List.{Contains}
 use Rattle.yv_statement.specs.Order.{refusal_at}
 use Rattle.yv_statement.specs.declared.refusal.Code.TheVariants as code
 use Rattle.yv_statement.specs.declared.refusal.Refusal.{Refusal}
-use Rattle.yv_statement.specs.Selection.{Selected}
+use Rattle.yv_statement.specs.Selection.{ModuleChoice}
 use Rattle.yv_link_scopes.specs.Files.{Files}
 use Rattle.yv_link_scopes.specs.RowList.{rows_of}
 use Rattle.yv_link_scopes.specs.Rows.{Row}
@@ -49,7 +49,7 @@ MisplacedByModule w items tree f =
 -- the same is refused by number
 abbrev pub MisplacementsByModulesAreOne : Files → Type 0
 MisplacementsByModulesAreOne files =
-    (choice : Selected) (f : Final) (its : Items) (m : Product) (r : Refusal) → AreSound files
+    (choice : ModuleChoice) (f : Final) (its : Items) (m : Product) (r : Refusal) → AreSound files
     → HaveRoots files → IsFinal choice files f
     → ShowFiles files (marks_of choice files) f.items its
     → Expand files (marks_of choice files) (order_of choice files) m
@@ -66,7 +66,7 @@ MisplacedByUses w items tree f =
 -- what augments of `uses` misplace is refused of the items exactly where it is refused of the nodes
 abbrev pub MisplacementsByUsesAreOne : Files → Type 0
 MisplacementsByUsesAreOne files =
-    (choice : Selected) (f : Final) (its : Items) (m : Product) (r : Refusal) → AreSound files
+    (choice : ModuleChoice) (f : Final) (its : Items) (m : Product) (r : Refusal) → AreSound files
     → HaveRoots files → IsFinal choice files f
     → ShowFiles files (marks_of choice files) f.items its
     → Expand files (marks_of choice files) (order_of choice files) m
@@ -83,7 +83,7 @@ RefusesBlock files m f =
 -- of all augments the same is refused by number
 abbrev pub MisplacementsAreOne : Files → Type 0
 MisplacementsAreOne files =
-    (choice : Selected) (f : Final) (its : Items) (m : Product) (r : Refusal) → AreSound files
+    (choice : ModuleChoice) (f : Final) (its : Items) (m : Product) (r : Refusal) → AreSound files
     → HaveRoots files → IsFinal choice files f
     → ShowFiles files (marks_of choice files) f.items its
     → Expand files (marks_of choice files) (order_of choice files) m

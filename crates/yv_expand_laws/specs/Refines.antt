@@ -5,7 +5,7 @@ use Rattle.std.specs.List.{Contains}
 use Rattle.yv_statement.specs.Order.{refusal_at}
 use Rattle.yv_statement.specs.declared.refusal.Code.TheVariants as code
 use Rattle.yv_statement.specs.declared.refusal.Refusal.{Refusal}
-use Rattle.yv_statement.specs.Selection.{Selected}
+use Rattle.yv_statement.specs.Selection.{ModuleChoice}
 use Rattle.yv_link_scopes.specs.Files.{Files}
 use Rattle.yv_link_scopes.specs.RowList.{rows_of}
 use Rattle.yv_link_scopes.specs.Rows.{Row}
@@ -32,7 +32,7 @@ RefusesRefine files m f =
 -- the same is refused by number
 abbrev pub RefinesAreOne : Files → Type 0
 RefinesAreOne files =
-    (choice : Selected) (f : Final) (its : Items) (m : Product) (r : Refusal) → AreSound files
+    (choice : ModuleChoice) (f : Final) (its : Items) (m : Product) (r : Refusal) → AreSound files
     → HaveRoots files → IsFinal choice files f
     → ShowFiles files (marks_of choice files) f.items its
     → Expand files (marks_of choice files) (order_of choice files) m

@@ -2,7 +2,7 @@
 -- section 7.20.2).
 use Rattle.std.specs.Prelude.{ℕ, List, None}
 use Rattle.yv_statement.specs.Order.{IsLeast}
-use Rattle.yv_statement.specs.Selection.{Selected}
+use Rattle.yv_statement.specs.Selection.{ModuleChoice}
 use Rattle.yv_link_scopes.specs.Files.{Files}
 use Rattle.yv_link_features.specs.Refusals.{BadFeatures}
 use Rattle.yv_link_features.specs.On.{Holds}
@@ -30,7 +30,7 @@ shown_nodes its (by_number.item i below behind) =
 -- features and `truth` tells which expressions hold
 abbrev pub LeftShows : Files → Type 0
 LeftShows files =
-    (choice : Selected) (truth : Truth) (f : Final) (its : Items) (m : Product) (nodes : Nodes)
+    (choice : ModuleChoice) (truth : Truth) (f : Final) (its : Items) (m : Product) (nodes : Nodes)
     → AreSound files → HaveRoots files
     → IsLeast (BadFeatures files) None
     → ((file : ℕ) (text : List ℕ) → Holds files choice file text (truth file text))

@@ -1,7 +1,7 @@
 -- The final tree of files is one, and what is left of it are its items.
 use Rattle.std.proofs.Common.{inl, inr, ◌≡◌, ℕ, zero, suc, ◌+◌, ◌<◌, ◌≤◌, Bool, true, false, if◌then◌else◌, List, [], ◌∷◌, map, length, length-append, Option, Some, None, refl, sym, ap, subst, ◌∙◌, arith}
 use Rattle.std.specs.List.{slice_get}
-use Rattle.yv_statement.specs.Selection.{Selected}
+use Rattle.yv_statement.specs.Selection.{ModuleChoice}
 use Rattle.yv_link_scopes.specs.Files.{Files, brief_of}
 use Rattle.yv_link_scopes.specs.RowList.{rows_of}
 use Rattle.yv_expand.specs.Tree as expansion
@@ -40,7 +40,7 @@ OneState = (w : Whole) (items : List Item) (a b : State) → AreAugmented w item
 abbrev pub OneTree : Type 0
 OneTree = (labels : List Label) (groups : Groups) (a b : Tree) → IsTree labels groups a → IsTree labels groups b → a ≡ b
 
-pub final_one : OneWhole → OneState → OneTree → (choice : Selected) (files : Files) (a b : Final) → IsFinal choice files a → IsFinal choice files b → a ≡ b
+pub final_one : OneWhole → OneState → OneTree → (choice : ModuleChoice) (files : Files) (a b : Final) → IsFinal choice files a → IsFinal choice files b → a ≡ b
 final_one one_whole one_state one_tree choice files a b p q =
     let items : a.items ≡ b.items = (one_whole files (marks_of choice files) (order_of choice files) p.own q.own a.items b.items p.expanded q.expanded).1 in
     let augments : a.augments ≡ b.augments = p.augments ∙ sym q.augments in
@@ -87,7 +87,7 @@ count_left is_kept (item i below behind) = by (is_kept i) (count_left is_kept be
     by true inner outer = omega (arith, inner, outer)
     by false inner outer = omega (arith, inner, outer)
 
-module _ (choice : Selected) (files : Files) (truth : Truth) (f : Final) (is : IsFinal choice files f) where
+module _ (choice : ModuleChoice) (files : Files) (truth : Truth) (f : Final) (is : IsFinal choice files f) where
   pub laid_long : length (spots_of files f) ≡ length f.items
   laid_long = (laid_whole (whole_of files f) f.items refl).long
 

@@ -3,7 +3,7 @@ use Rattle.std.proofs.Common.{◌≡◌, ◌∙◌, ℕ, List, map, length, Opti
 use Rattle.yv_statement.specs.Order.{IsLeast}
 use Rattle.yv_statement.specs.declared.refusal.Refusal.{Refusal}
 use Rattle.yv_statement.proofs.Least.{least_same}
-use Rattle.yv_statement.specs.Selection.{Selected}
+use Rattle.yv_statement.specs.Selection.{ModuleChoice}
 use Rattle.yv_link_scopes.specs.Files.{Files, brief_of}
 use Rattle.yv_link_scopes.specs.RowList.{rows_of}
 use Rattle.yv_expand.specs.Tree.{Item}
@@ -36,7 +36,7 @@ module _ (files : Files) (grown : AugmentedTree) (missing : Option Refusal) wher
   abbrev pub final_of : (items : List Item) (augments : List ℕ) → AreKnown items augments → Final
   final_of items augments k = record { items = items; augments = augments; state = k.0; tree = k.1.tree.tree }
 
-  pub is_final : (choice : Selected) (own : ℕ) (items : List Item) (augments : List ℕ) (k : AreKnown items augments)
+  pub is_final : (choice : ModuleChoice) (own : ℕ) (items : List Item) (augments : List ℕ) (k : AreKnown items augments)
       → IsWhole files (marks_of choice files) (order_of choice files) own items
       → augments ≡ augments_of (map brief_of files) (rows_of files) (marks_of choice files) → IsFinal choice files (final_of items augments k)
   is_final choice own items augments k is_whole are =
@@ -49,7 +49,7 @@ module _ (files : Files) (grown : AugmentedTree) (missing : Option Refusal) wher
       is ∙ ap (λ (ss : List Spot). all_changes files ss (all_meant grown.refined)) (p ∙ k.1.spots) ∙ ap (all_changes files (spots_of files f)) k.1.refined
 
 -- what is wrong with the one final tree is what is wrong
-pub final_least : (choice : Selected) (files : Files) → ((a b : Final) → IsFinal choice files a → IsFinal choice files b → a ≡ b) → (f : Final) (o : Option Refusal)
+pub final_least : (choice : ModuleChoice) (files : Files) → ((a b : Final) → IsFinal choice files a → IsFinal choice files b → a ≡ b) → (f : Final) (o : Option Refusal)
     → IsFinal choice files f → IsLeast (BadStanding files f) o → IsLeast (BadFinal choice files) o
 final_least choice files one f o is h =
     least_same (BadStanding files f) (BadFinal choice files) o

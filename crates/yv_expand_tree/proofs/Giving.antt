@@ -6,7 +6,7 @@ use Rattle.std.proofs.lemmas.List.{drop_all, take-append-drop, drop_more}
 use Rattle.std.proofs.lemmas.Option.{same_Some, slice_get_within, slice_get-map, slice_get-get_or, slice_get_read, get_or_from_slice_get}
 use Rattle.std.proofs.lemmas.Bool.{eq-eqb, eqb-true, false≢true}
 use Rattle.yv_statement.specs.Tree.{Tree}
-use Rattle.yv_statement.specs.Selection.{Selected, is_implemented}
+use Rattle.yv_statement.specs.Selection.{ModuleChoice, is_implemented}
 use Rattle.yv_base_tables.specs.Families.{by_place, is_place, numbers_at, numbers_from}
 use Rattle.yv_link_scopes.specs.Files.{Brief, Briefs, Files, brief, brief_of, module_file_at, module_file_in, is_module, file_named, tree_name}
 use Rattle.yv_link_scopes.specs.declared.files.File.{File}
@@ -15,7 +15,7 @@ use Rattle.yv_expand_tree.specs.FileOrder.{is_given, marks_of, order_from, order
 pub take_whole : {X : Type 0} (xs : List X) (i : ℕ) → length xs ≤ i → take i xs ≡ xs
 take_whole {X} xs i h = sym (append-nil (take i xs)) ∙ ap (λ (ys : List X). take i xs ++ ys) (sym (drop_all i xs h)) ∙ take-append-drop i xs
 
-module _ (choice : Selected) where
+module _ (choice : ModuleChoice) where
   of_files : (files : List File) → map (λ (b : Brief). is_implemented choice b.module_file) (map brief files) ≡ map (λ (f : File). is_implemented choice f.module_file.now) files
   of_files [] = refl
   of_files (f ∷ files) = ap (λ (bs : List Bool). is_implemented choice f.module_file.now ∷ bs) (of_files files)
@@ -163,7 +163,7 @@ module _ (places : List (Option ℕ)) where
   family_apart m n own (suc i) at (inr h) =
       (let bad : m ≡ h.0 = same_Some m h.0 (same_Some (Some m) (Some h.0) (sym (at_place m i n at) ∙ h.2)) in omega (arith, h.1, bad))
 
-  module _ (choice : Selected) where
+  module _ (choice : ModuleChoice) where
     abbrev OwnAt : ℕ → Files → Type 0
     OwnAt m ts = (k : ℕ) (t : Tree) → slice_get ts k ≡ Some t → is_given choice t ≡ true → slice_get places (m + k) ≡ Some None
 
@@ -207,7 +207,7 @@ place_at briefs n zero t (u ∷ ts) at =
 place_at briefs n (suc k) t (u ∷ ts) at =
     place_at briefs (n + 1) k t ts at ∙ ap (λ (m : ℕ). Some (if module_file_at briefs m == m then None else Some (module_file_at briefs m))) (omega arith)
 
-module _ (choice : Selected) (files : Files) where
+module _ (choice : ModuleChoice) (files : Files) where
   -- a module's file is its own
   own_module_file : (k : ℕ) (t : Tree) → slice_get files k ≡ Some t → is_given choice t ≡ true → module_file_at (map brief_of files) k ≡ k
   own_module_file k t at is =
@@ -232,7 +232,7 @@ module _ (choice : Selected) (files : Files) where
   ]
 
 -- what an order of files gives, file by file
-module _ (choice : Selected) (places : List (Option ℕ)) where
+module _ (choice : ModuleChoice) (places : List (Option ℕ)) where
   pub order_step : (files : Files) (m : ℕ) (t : Tree) (given : Bool) (parts old new whole : List ℕ) → slice_get files m ≡ Some t → given ≡ is_given choice t
       → parts ≡ numbers_at places m → new ≡ old ++ (if given then m ∷ parts else []) → old ++ order_from choice places m (drop m files) ≡ whole
       → new ++ order_from choice places (m + 1) (drop (m + 1) files) ≡ whole
@@ -252,7 +252,7 @@ module _ (choice : Selected) (places : List (Option ℕ)) where
 pub read_at : {A : Type 0} (xs ys : List A) (i : ℕ) (x : A) → xs ≡ ys → i < length xs → x ≡ get_or xs i x → slice_get ys i ≡ Some x
 read_at xs ys i x same lt is = ap (λ l. slice_get l i) (sym same) ∙ slice_get_read xs (length xs) i x refl lt is
 
-pub all_within : (choice : Selected) (files : Files) (xs : List ℕ) → xs ≡ order_of choice files → (k d : ℕ) → k < length xs → get_or xs k d < length files
+pub all_within : (choice : ModuleChoice) (files : Files) (xs : List ℕ) → xs ≡ order_of choice files → (k d : ℕ) → k < length xs → get_or xs k d < length files
 all_within choice files xs same k d lt =
     order_within choice files k (get_or xs k d) (ap (λ l. slice_get l k) (sym same) ∙ slice_get-get_or xs k d lt)
 

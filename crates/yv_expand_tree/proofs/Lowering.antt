@@ -6,7 +6,7 @@ use Rattle.std.specs.Str.{bytes_eq}
 use Rattle.std.proofs.lemmas.Bool.{eqb-true, false≢true, false_from_ne_true}
 use Rattle.std.proofs.lemmas.Option.{get_or_from_slice_get, same_Some, slice_get_within}
 use Rattle.std.proofs.lemmas.Slice.Eq.{bytes_eq-Decides}
-use Rattle.yv_statement.specs.Selection.{Selected}
+use Rattle.yv_statement.specs.Selection.{ModuleChoice}
 use Rattle.yv_link_scopes.specs.Files.{Files}
 use Rattle.yv_link_scopes.specs.RowList.{rows_of}
 use Rattle.yv_link_scopes.specs.Rows.{Row}
@@ -117,7 +117,7 @@ module _ (files : Files) (fine : Conform files) (leafs : Leafs) where
       ap (λ (o : Option Row). unwrap_or (option_map is_node_or_uses o) false) here
       ∙ leafs files k j r s fine at (lowest_word r low) here (scope_told k j s inside))
 
-  module _ (choice : Selected) (truth : Truth) (f : Final) (is : IsFinal choice files f) (below : Below) where
+  module _ (choice : ModuleChoice) (truth : Truth) (f : Final) (is : IsFinal choice files f) (below : Below) where
     abbrev IsLow : ℕ → Type 0
     IsLow p = (x : Item) × (slice_get f.items p ≡ Some x) × (is_lowest (kind_of (rows_of files) x.origin) ≡ true)
 

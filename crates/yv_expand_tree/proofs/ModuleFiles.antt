@@ -4,7 +4,7 @@ use Rattle.std.specs.List.{filter, slice_get}
 use Rattle.std.proofs.lemmas.Bool.{cases_lt, eq-eqb, eqb-true, false≢true}
 use Rattle.std.proofs.lemmas.Option.{same_Some, slice_get_within}
 use Rattle.yv_statement.specs.Tree.{Tree as Root}
-use Rattle.yv_statement.specs.Selection.{Selected, is_implemented}
+use Rattle.yv_statement.specs.Selection.{ModuleChoice, is_implemented}
 use Rattle.yv_link_scopes.specs.Files.{Briefs, Files, brief_of, module_file_at, module_name}
 use Rattle.yv_link_scopes.specs.RowList.{rows_of}
 use Rattle.yv_link_scopes.specs.Rows.{Row}
@@ -111,13 +111,13 @@ module _ (P : ℕ → Type 0) where
         | inr h ↦ tops_listed (first + 1 + count below) behind all.1 h.0 x h.2 up
       ]
 
-mark_at : (choice : Selected) (files : Files) (n : ℕ) → get_or (marks_of choice files) n false ≡ true
+mark_at : (choice : ModuleChoice) (files : Files) (n : ℕ) → get_or (marks_of choice files) n false ≡ true
     → (t : Root) × (slice_get files n ≡ Some t) × (is_implemented choice (module_name t) ≡ true)
 mark_at choice [] n e = absurd (false≢true e)
 mark_at choice (t ∷ ts) zero e = (t, refl, e)
 mark_at choice (t ∷ ts) (suc n) e = mark_at choice ts n e
 
-module _ (choice : Selected) (files : Files) (have : HaveModuleFiles choice files) where
+module _ (choice : ModuleChoice) (files : Files) (have : HaveModuleFiles choice files) where
   -- a module's own file
   abbrev pub IsModuleFile : ℕ → Type 0
   IsModuleFile n = (module_file : Root) × (slice_get files n ≡ Some module_file) × (is_given choice module_file ≡ true)

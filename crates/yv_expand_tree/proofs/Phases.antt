@@ -5,7 +5,7 @@ use Rattle.yv_statement.specs.declared.refusal.Code.{Code}
 use Rattle.yv_statement.specs.declared.refusal.Refusal.{Refusal}
 use Rattle.yv_statement.specs.Order.{IsLeast}
 use Rattle.yv_statement.proofs.Least.{least_lesser}
-use Rattle.yv_statement.specs.Selection.{Selected}
+use Rattle.yv_statement.specs.Selection.{ModuleChoice}
 use Rattle.yv_link_scopes.specs.Files.{Files}
 use Rattle.yv_link_scopes.specs.Rows.{Row}
 use Rattle.yv_link_scopes.specs.RowList.{rows_of}
@@ -44,14 +44,14 @@ standing_phase files t f (inl h) = refused_phase (rows_of files) _ _ _ f h.4.2
 standing_phase files t f (inr (inl h)) = elim h.4.1 [ inl p ↦ refused_phase (rows_of files) _ _ _ f p | inr p ↦ refused_phase (rows_of files) _ _ _ f p ]
 standing_phase files t f (inr (inr h)) = augments_phase files t f h
 
-final_phase : (choice : Selected) (files : Files) (f : Refusal) → BadFinal choice files f → phase_of f.code ≡ 8
+final_phase : (choice : ModuleChoice) (files : Files) (f : Refusal) → BadFinal choice files f → phase_of f.code ≡ 8
 final_phase choice files f h = standing_phase files h.final f h.stands
 
-pub expansion_phase : (choice : Selected) (files : Files) (limit : ℕ) (f : Refusal) → BadExpansion choice files limit f → (6 < phase_of f.code) × (phase_of f.code ≤ 8)
+pub expansion_phase : (choice : ModuleChoice) (files : Files) (limit : ℕ) (f : Refusal) → BadExpansion choice files limit f → (6 < phase_of f.code) × (phase_of f.code ≤ 8)
 expansion_phase choice files limit f (inl h) = let e : phase_of f.code ≡ 7 = many_phase files (marks_of choice files) limit f h in (omega (arith, e), omega (arith, e))
 expansion_phase choice files limit f (inr h) = let e : phase_of f.code ≡ 8 = final_phase choice files f h in (omega (arith, e), omega (arith, e))
 
-module _ (choice : Selected) (files : Files) (limit : ℕ) where
+module _ (choice : ModuleChoice) (files : Files) (limit : ℕ) where
   abbrev Many : Refusal → Type 0
   Many f = TooMany files (marks_of choice files) limit f
 

@@ -3,7 +3,7 @@ use Rattle.std.proofs.Common.{inl, inr, ◌≡◌, ℕ, zero, suc, ◌+◌, ◌-
 use Rattle.std.specs.List.{slice_get}
 use Rattle.std.proofs.lemmas.Bool.{ltb-true}
 use Rattle.std.proofs.lemmas.Option.{same_Some}
-use Rattle.yv_statement.specs.Selection.{Selected}
+use Rattle.yv_statement.specs.Selection.{ModuleChoice}
 use Rattle.yv_link_scopes.specs.Files.{Files}
 use Rattle.yv_expand.specs.Tree as expansion
 use Rattle.yv_expand.specs.Tree.{Item, Node, Nodes}
@@ -55,7 +55,7 @@ GivenBelow = (w : Whole) (items : List Item) (st : State) (t : Tree) (k place : 
     → IsTree (labels_of (layout_of w items).spots) st.groups t → slice_get (tree_list None 1 t) k ≡ Some row → slice_get (layout_of w items).spots row.number ≡ Some s → place < length w.augments
     → s.group ≡ copy_group w place → (p : ℕ) × (row.parent ≡ Some p) × (target_of (labels_of (layout_of w items).spots) st.ends place ≡ Some p)
 
-module _ (choice : Selected) (files : Files) (truth : Truth) (f : Final) (is : IsFinal choice files f) (law : GivenBelow) where
+module _ (choice : ModuleChoice) (files : Files) (truth : Truth) (f : Final) (is : IsFinal choice files f) (law : GivenBelow) where
   -- an item that an augment of a module gives stands below the target of that
   abbrev HasTarget : Option ℕ → ℕ → Type 0
   HasTarget parent i = (giver : ℕ) → source_at (spots_of files f) f.augments i ≡ Some giver

@@ -1,7 +1,7 @@
 -- What the files of implemented modules come to when all augments were applied (RFC 7950, sections
 -- 7.12, 7.13 and 7.17).
 use Rattle.std.specs.Prelude.{◌≡◌, ℕ, List, length, map, None}
-use Rattle.yv_statement.specs.Selection.{Selected}
+use Rattle.yv_statement.specs.Selection.{ModuleChoice}
 use Rattle.yv_link_scopes.specs.Files.{Files, brief_of}
 use Rattle.yv_link_scopes.specs.RowList.{rows_of}
 use Rattle.yv_expand.specs.Tree.{Item}
@@ -33,7 +33,7 @@ abbrev pub whole_of : Files → Final → Whole
 whole_of files f = whole (map brief_of files) (rows_of files) f.augments (length f.items)
 
 -- this is what the files of implemented modules come to
-pub record IsFinal (choice : Selected) (files : Files) (f : Final) : Type 0 where
+pub record IsFinal (choice : ModuleChoice) (files : Files) (f : Final) : Type 0 where
   pub own : ℕ
   pub expanded : IsWhole files (marks_of choice files) (order_of choice files) own f.items
   pub augments : f.augments

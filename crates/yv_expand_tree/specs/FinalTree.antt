@@ -1,6 +1,6 @@
 -- What is kept of a final tree.
 use Rattle.std.specs.Prelude.{◌≡◌, ℕ, ◌+◌, ◌-◌, ◌&&◌, nat_lt, List, [], ◌∷◌, length, if◌then◌else◌, Option, Some, None, slice_get, slice_index_or}
-use Rattle.yv_statement.specs.Selection.{Selected}
+use Rattle.yv_statement.specs.Selection.{ModuleChoice}
 use Rattle.yv_link_scopes.specs.Files.{Files}
 use Rattle.yv_expand.specs.Tree.{Item, Node, Nodes, item_list}
 use Rattle.yv_expand.specs.declared.origin.Origin.{Origin}
@@ -35,7 +35,7 @@ abbrev pub targets_of : Files → Final → List (Option ℕ)
 targets_of files f = targets_from (labels_of (spots_of files f)) f.state 0 f.augments
 
 -- this is kept of what the files of implemented modules come to, where conditions hold so
-pub record AreKept (choice : Selected) (files : Files) (truth : Truth)
+pub record AreKept (choice : ModuleChoice) (files : Files) (truth : Truth)
     (k : FinalTreeView) : Type 0 where
   pub final : Final
   pub is_final : IsFinal choice files final

@@ -2,7 +2,7 @@
 -- 7.13 and 7.17).
 use Rattle.std.specs.Prelude.{◌⊎◌, ℕ, None}
 use Rattle.yv_statement.specs.declared.refusal.Refusal.{Refusal}
-use Rattle.yv_statement.specs.Selection.{Selected}
+use Rattle.yv_statement.specs.Selection.{ModuleChoice}
 use Rattle.yv_link_scopes.specs.Files.{Files}
 use Rattle.yv_link_scopes.specs.RowList.{rows_of}
 use Rattle.yv_expand.specs.Limit.{TooMany}
@@ -33,12 +33,12 @@ BadStanding files t f =
     ⊎ BadAugments files t f)
 
 -- a refusal of the final tree of these files
-pub record BadFinal (choice : Selected) (files : Files) (f : Refusal) : Type 0 where
+pub record BadFinal (choice : ModuleChoice) (files : Files) (f : Refusal) : Type 0 where
   pub final : Final
   pub is_final : IsFinal choice files final
   pub stands : BadStanding files final f
 
 -- the expansion passes the limit, or something is wrong with the final tree
-abbrev pub BadExpansion : Selected → Files → (limit : ℕ) → Refusal → Type 0
+abbrev pub BadExpansion : ModuleChoice → Files → (limit : ℕ) → Refusal → Type 0
 BadExpansion choice files limit f =
     TooMany files (marks_of choice files) limit f ⊎ BadFinal choice files f

@@ -1,6 +1,6 @@
 //! Laws about the definitions only. These functions do nothing: the contract of each is the law.
 ghost use Rattle.std.specs.Prelude.{◌≡◌, ◌≤◌, ◌<◌, false, ℕ, List, true, None, Some, length, map, slice_get, slice_index_or};
-ghost use Rattle.yv_statement.specs.{Codes.{phase_of}, Tree.{Tree as Root}, declared.refusal.Refusal.{Refusal}, Selection.{Selected}};
+ghost use Rattle.yv_statement.specs.{Codes.{phase_of}, Tree.{Tree as Root}, declared.refusal.Refusal.{Refusal}, Selection.{ModuleChoice}};
 ghost use Rattle.yv_link_scopes.specs.{Files.{Files, brief_of}, RowList.{rows_of}};
 ghost use Rattle.yv_expand.specs.{StatementBlocks.{given_before}, Weigh.{Weigh}, Tree.{Item, Node, Nodes, count, item_list}, Conformance.{Conform}};
 ghost use Rattle.yv_expand_rounds.specs.Kinds.{is_uses};
@@ -10,14 +10,14 @@ ghost use Rattle.yv_expand_tree.specs.{Refusals.{BadExpansion}, Final.{Final, Is
 
 /// What is wrong with the expansion of files is refused in the phases 7 and 8.
 pub fn refusals_of_expansions_have_phases()
-    ensures { (choice : Selected) (files : Files) (limit : ℕ) (f : Refusal)
+    ensures { (choice : ModuleChoice) (files : Files) (limit : ℕ) (f : Refusal)
         → BadExpansion choice files limit f
         → (6 < phase_of f.code) × (phase_of f.code ≤ 8) }
 {}
 
 /// The files of implemented modules have one final tree.
 pub fn files_have_one_final_tree()
-    ensures { (choice : Selected) (files : Files) (a b : Final) → IsFinal choice files a
+    ensures { (choice : ModuleChoice) (files : Files) (a b : Final) → IsFinal choice files a
         → IsFinal choice files b → a ≡ b }
 {
     yv_expand::laws::a_whole_is_one();
@@ -27,7 +27,7 @@ pub fn files_have_one_final_tree()
 
 /// What is left of a final tree is one list of nodes.
 pub fn what_is_left_is_one()
-    ensures { (choice : Selected) (files : Files) (truth : Truth) (f : Final) (a b : Nodes)
+    ensures { (choice : ModuleChoice) (files : Files) (truth : Truth) (f : Final) (a b : Nodes)
         → IsFinal choice files f
         → AreLeft truth files f a → AreLeft truth files f b → a ≡ b }
 {
@@ -37,7 +37,7 @@ pub fn what_is_left_is_one()
 /// What is left of a final tree has no more nodes than units were counted for the files of the
 /// implemented modules.
 pub fn nodes_are_within_units()
-    ensures { (choice : Selected) (files : Files) (truth : Truth) (f : Final) (nodes : Nodes)
+    ensures { (choice : ModuleChoice) (files : Files) (truth : Truth) (f : Final) (nodes : Nodes)
         (units : ℕ) → IsFinal choice files f
         → AreLeft truth files f nodes
         → Weigh (map brief_of files) (rows_of files)
@@ -52,7 +52,7 @@ pub fn nodes_are_within_units()
 
 /// What is left of a final tree has no more nodes than there are items.
 pub fn nodes_are_within_items()
-    ensures { (choice : Selected) (files : Files) (truth : Truth) (f : Final) (nodes : Nodes)
+    ensures { (choice : ModuleChoice) (files : Files) (truth : Truth) (f : Final) (nodes : Nodes)
         → IsFinal choice files f
         → AreLeft truth files f nodes → count nodes ≤ length f.items }
 {
@@ -62,7 +62,7 @@ pub fn nodes_are_within_items()
 
 /// What is left are items that aren't uses.
 pub fn what_is_left_are_nodes()
-    ensures { (choice : Selected) (files : Files) (truth : Truth) (f : Final) (nodes : Nodes)
+    ensures { (choice : ModuleChoice) (files : Files) (truth : Truth) (f : Final) (nodes : Nodes)
         (place : ℕ) (x : Node)
         → IsFinal choice files f → AreLeft truth files f nodes
         → slice_get (item_list None 0 nodes) place ≡ Some x
@@ -76,7 +76,7 @@ pub fn what_is_left_are_nodes()
 
 /// No item is left twice.
 pub fn no_item_is_left_twice()
-    ensures { (choice : Selected) (files : Files) (truth : Truth) (f : Final) (nodes : Nodes)
+    ensures { (choice : ModuleChoice) (files : Files) (truth : Truth) (f : Final) (nodes : Nodes)
         (i k : ℕ) (x y : Node)
         → IsFinal choice files f → AreLeft truth files f nodes
         → slice_get (item_list None 0 nodes) i ≡ Some x
@@ -88,7 +88,7 @@ pub fn no_item_is_left_twice()
 
 /// An item belongs to a module that is implemented, where the files of such modules have these.
 pub fn module_files_are_of_modules()
-    ensures { (choice : Selected) (files : Files) (f : Final) (item : ℕ) (s : Spot)
+    ensures { (choice : ModuleChoice) (files : Files) (f : Final) (item : ℕ) (s : Spot)
         → HaveModuleFiles choice files → IsFinal choice files f
         → slice_get (spots_of files f) item ≡ Some s
         → (module_file : Root) × (slice_get files s.module_file ≡ Some module_file)
@@ -98,7 +98,7 @@ pub fn module_files_are_of_modules()
 /// A node that an augment of a module gives is below the one to which the augment adds, which is
 /// left as well.
 pub fn given_nodes_stand_below_their_target()
-    ensures { (choice : Selected) (files : Files) (truth : Truth) (f : Final) (nodes : Nodes)
+    ensures { (choice : ModuleChoice) (files : Files) (truth : Truth) (f : Final) (nodes : Nodes)
         (place giver : ℕ) (x : Node)
         → IsFinal choice files f → AreLeft truth files f nodes
         → slice_get (item_list None 0 nodes) place ≡ Some x
@@ -115,7 +115,7 @@ pub fn given_nodes_stand_below_their_target()
 /// In files that conform, a node that is left and isn't at the top is below one that isn't a leaf,
 /// leaf-list, anydata or anyxml.
 pub fn nothing_stands_below_a_leaf()
-    ensures { (choice : Selected) (files : Files) (truth : Truth) (f : Final) (nodes : Nodes)
+    ensures { (choice : ModuleChoice) (files : Files) (truth : Truth) (f : Final) (nodes : Nodes)
         (place p : ℕ) (x : Node) → Conform files
         → IsFinal choice files f → AreLeft truth files f nodes
         → slice_get (item_list None 0 nodes) place ≡ Some x → x.parent ≡ Some p

@@ -1,6 +1,6 @@
 //! The final tree of files.
 ghost use Rattle.std.specs.Prelude.{◌≡◌, ◌≢◌, None, Some, Err, length, IfOk, OnOk};
-ghost use Rattle.yv_statement.specs.{Order.{IsLeast}, declared.refusal.Refusal.{Refusal}, declared.refusal.Stop.TheVariants.{Fault, PatternBuild}, Selection.{Selected, selected_of}};
+ghost use Rattle.yv_statement.specs.{Order.{IsLeast}, declared.refusal.Refusal.{Refusal}, declared.refusal.Stop.TheVariants.{Fault, PatternBuild}, Selection.{ModuleChoice, selected_of}};
 ghost use Rattle.yv_link_scopes.specs.Views.{files_in, lent_in, rows_in};
 ghost use Rattle.yv_link_definitions.specs.Meanings.{AreNames};
 ghost use Rattle.yv_link.specs.LinkedFiles.{truth_in};
@@ -114,20 +114,20 @@ fn finish<'a, 'b>(
     rows: &Rows<'a, 'b>,
     expanded: FileExpansion,
 ) -> Result<FinalTree, Stop>
-    ensures keeps { (choice : Selected)
+    ensures keeps { (choice : ModuleChoice)
         → IsWhole (lent_in rows.now) (marks_of choice (lent_in rows.now))
         (order_of choice (lent_in rows.now)) expanded.own expanded.expansion.items
         → expanded.augments.items
         ≡ augments_of (files_in rows.now) (rows_in rows.now) (marks_of choice (lent_in rows.now))
         → IfOk result (AreKept choice (lent_in rows.now) (truth_in linked.now)) }
     ensures limit { IfOk result (λ t. t.limit ≡ expanded.expansion.limit) }
-    ensures clear { (choice : Selected)
+    ensures clear { (choice : ModuleChoice)
         → IsWhole (lent_in rows.now) (marks_of choice (lent_in rows.now))
         (order_of choice (lent_in rows.now)) expanded.own expanded.expansion.items
         → expanded.augments.items
         ≡ augments_of (files_in rows.now) (rows_in rows.now) (marks_of choice (lent_in rows.now))
         → OnOk result (IsLeast (BadFinal choice (lent_in rows.now)) None) }
-    ensures refusal { (choice : Selected) (r : Refusal)
+    ensures refusal { (choice : ModuleChoice) (r : Refusal)
         → IsWhole (lent_in rows.now) (marks_of choice (lent_in rows.now))
         (order_of choice (lent_in rows.now)) expanded.own expanded.expansion.items
         → expanded.augments.items

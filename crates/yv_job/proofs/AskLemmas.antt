@@ -9,7 +9,7 @@ use Rattle.clap.specs.Words.{Text, Row, subcommand_of}
 use Rattle.yv_job.specs.Asks.{IsAsked, IsLimit, IsSupportFor, IsImportsFor, IsKindFor, IsChoice, IsFiles, Asks, AsksIn, WordsAsk}
 use Rattle.yv_job.specs.CommandLine.{yangcheck_app}
 use Rattle.yv_job.specs.Jobs.{Task, CommandAsked, Compiles, Draws, Checks}
-use Rattle.yv_statement.specs.Selection.{Selected, Entry}
+use Rattle.yv_statement.specs.Selection.{ModuleChoice, Entry}
 use Rattle.yv_statement.specs.declared.document_kind.Kind.{Kind}
 use Rattle.yv_statement.specs.declared.document_kind.Kind.TheVariants.{All, ConfigOnly}
 use Rattle.yv_job.specs.Names.{JoinsNames, IsNames, IsIdentifier, HasIdentifiers, entry_text}
@@ -94,7 +94,7 @@ same_support (Some t) es fs h i =
     same_entries es fs (recursion_from_All HasIdentifiers es h.each) (recursion_from_All HasIdentifiers fs i.each)
     (sym (split_entries t es h) ∙ split_entries t fs i)
 
-same_choice : (rows : List Row) (c d : Selected) → IsChoice rows c → IsChoice rows d → c ≡ d
+same_choice : (rows : List Row) (c d : ModuleChoice) → IsChoice rows c → IsChoice rows d → c ≡ d
 same_choice rows c d h i =
     ap₂ (λ (s : List Entry) (n : List (List ℕ)). record { support = s; imports = n })
     (same_support _ c.support d.support h.support i.support) (same_imports _ c.imports d.imports h.imports i.imports)
@@ -107,7 +107,7 @@ same_task name rows t u h i =
     let choice = same_choice rows t.choice u.choice h.choice i.choice in
     let kind = same_kind _ t.kind u.kind h.kind i.kind in
     ap₂ (λ (a : CommandAsked) (fs : List (List ℕ)). record { asked = a; files = fs; limit = t.limit; choice = t.choice; kind = t.kind }) asked files
-    ∙ ap₂ (λ (n : ℕ) (c : Selected). record { asked = u.asked; files = u.files; limit = n; choice = c; kind = t.kind }) limit choice
+    ∙ ap₂ (λ (n : ℕ) (c : ModuleChoice). record { asked = u.asked; files = u.files; limit = n; choice = c; kind = t.kind }) limit choice
     ∙ ap (λ (k : Kind). record { asked = u.asked; files = u.files; limit = u.limit; choice = u.choice; kind = k }) kind
 
 same_in : (found : Option (Text × List Row)) (t u : Task) → AsksIn found t → AsksIn found u → t ≡ u

@@ -3,7 +3,7 @@ use Rattle.std.specs.Prelude.{◌≡◌, ◌≤◌, ℕ, List, [], Option, Some,
 use Rattle.std.specs.Str.Parse.{IsNumeral, digits_value}
 use Rattle.clap.specs.Words.{Text, Row, all_of, first_of, fault_of, subcommand_of}
 use Rattle.yv_job.specs.Jobs.{Task, CommandAsked, Compiles, Draws, Checks}
-use Rattle.yv_statement.specs.Selection.{Selected, Entry}
+use Rattle.yv_statement.specs.Selection.{ModuleChoice, Entry}
 use Rattle.yv_statement.specs.declared.document_kind.Kind.{Kind}
 use Rattle.yv_statement.specs.declared.document_kind.Kind.TheVariants.{All, ConfigOnly}
 use Rattle.yv_job.specs.CommandLine.{yangcheck_app}
@@ -45,7 +45,7 @@ IsKindFor None k = k ≡ All
 IsKindFor (Some t) k = t ≡ kind_word k
 
 -- the choice is that of `--support` and `--import-only`
-pub record IsChoice (rows : List Row) (c : Selected) : Type 0 where
+pub record IsChoice (rows : List Row) (c : ModuleChoice) : Type 0 where
   pub support : IsSupportFor (first_of (codes "support") rows) c.support
   pub imports : IsImportsFor (first_of (codes "import-only") rows) c.imports
 

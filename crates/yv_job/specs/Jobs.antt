@@ -3,7 +3,7 @@ use Rattle.std.specs.Prelude.{◌≤◌, length, ℕ, List, map, string_bytes}
 use Rattle.yv_job.specs.declared.job.Job.{Job}
 use Rattle.yv_job.specs.declared.job.Command.{Command}
 use Rattle.yv_job.specs.declared.job.Command.TheVariants.{Compile, Tree, Validate}
-use Rattle.yv_statement.specs.Selection.{Selected, selected_of}
+use Rattle.yv_statement.specs.Selection.{ModuleChoice, selected_of}
 use Rattle.yv_statement.specs.declared.document_kind.Kind.{Kind}
 
 -- a command: it compiles, or it draws the tree of a module, or it checks the document of a file
@@ -17,7 +17,7 @@ pub record Task : Type 0 where
   pub asked : CommandAsked
   pub files : List (List ℕ)
   pub limit : ℕ
-  pub choice : Selected
+  pub choice : ModuleChoice
   pub kind : Kind
 
 -- what a command asks for

@@ -2,7 +2,7 @@
 ghost use Rattle.std.specs.Prelude.{◌≡◌, ◌≤◌, ℕ, List, length, IfSome, IfOk, IfErr, MatchOption, map, option_map, string_bytes};
 ghost use Rattle.clap.specs.Words.{subcommand_rows_of, found_of, rows_of, all_of, first_of};
 ghost use Rattle.yv_job.specs.{Asks.{AsksIn, Asks, IsChoice, IsAsked, IsFiles}, Jobs.{CommandAsked, task_of, asked_of, HasFiles, HasLimit}, Faults.{IsReason, TellsReason}, Matches.{AsksForNothing}};
-ghost use Rattle.yv_statement.specs.Selection.{Selected, selected_of};
+ghost use Rattle.yv_statement.specs.Selection.{ModuleChoice, selected_of};
 
 use crate::job::{Command, Job};
 use crate::names::copy_texts;
@@ -79,7 +79,7 @@ fn selection_of(
     ensures choice { let rows = rows_of (found_of below.now) in
         IfOk result (λ r. IfOk r (λ s. IsChoice rows (selected_of s))) }
     ensures nothing { let rows = rows_of (found_of below.now) in
-        IfOk result (λ r. IfErr r (λ _. (c : Selected) → IsChoice rows c → ⊥)) }
+        IfOk result (λ r. IfErr r (λ _. (c : ModuleChoice) → IsChoice rows c → ⊥)) }
     ensures reason { let rows = rows_of (found_of below.now) in
         IfOk result
         (λ r. IfErr r (λ line. (name : List ℕ) → IsReason name rows (string_bytes line))) }

@@ -1,6 +1,6 @@
 -- What is known of files that were linked.
 use Rattle.std.specs.Prelude.{◌≡◌, ℕ, Bool, List}
-use Rattle.yv_statement.specs.Selection.{Selected}
+use Rattle.yv_statement.specs.Selection.{ModuleChoice}
 use Rattle.yv_link_scopes.specs.Files.{Files}
 use Rattle.yv_link_scopes.specs.Views.{lent_in, files_in}
 use Rattle.yv_link_features.specs.Features.{AreFeatures, truth_of}
@@ -9,7 +9,7 @@ use Rattle.yv_link.specs.Modules.{AreModules}
 use Rattle.yv_link.specs.declared.linked_files.Linked.{Linked}
 
 -- these are the files, with what is chosen of them; how, only the readers ask
-pub record AreLinked (files : Files) (choice : Selected) (linked : Linked) : Type 0 where
+pub record AreLinked (files : Files) (choice : ModuleChoice) (linked : Linked) : Type 0 where
   pub lent : lent_in linked.rows ≡ files
   pub modules : AreModules choice (files_in linked.rows) linked.modules.items
   pub features : AreFeatures files choice linked.features

@@ -1,6 +1,6 @@
 //! Files that were linked, and what is asked of them.
 ghost use Rattle.std.specs.Prelude.{◌≡◌, ◌↔◌, map, IsTrue, IfOk};
-ghost use Rattle.yv_statement.specs.Selection.{Selected};
+ghost use Rattle.yv_statement.specs.Selection.{ModuleChoice};
 ghost use Rattle.yv_link_scopes.specs.{Files.{Files, brief_of}, RowList.{rows_of}};
 
 use crate::modules::ModuleRef;
@@ -28,7 +28,7 @@ impl<'a, 'b> Linked<'a, 'b> {
 
     /// The statements of the files, in the order of the files.
     pub fn statements(&self) -> &'a [Statement<'b>]
-        ensures { (files : Files) (choice : Selected) → AreLinked files choice self.now → result.now
+        ensures { (files : Files) (choice : ModuleChoice) → AreLinked files choice self.now → result.now
             ≡ files }
     {
         self.rows.statements()
@@ -36,7 +36,7 @@ impl<'a, 'b> Linked<'a, 'b> {
 
     /// All statements of the files as one numbered list.
     pub fn rows(&self) -> &Rows<'a, 'b>
-        ensures { (files : Files) (choice : Selected) → AreLinked files choice self.now
+        ensures { (files : Files) (choice : ModuleChoice) → AreLinked files choice self.now
             → lent_in result.now ≡ files }
     {
         &self.rows
@@ -44,7 +44,7 @@ impl<'a, 'b> Linked<'a, 'b> {
 
     /// The module of a name.
     pub fn module(&self, name: &'a str) -> Option<ModuleRef>
-        ensures { (files : Files) (choice : Selected) → AreLinked files choice self.now
+        ensures { (files : Files) (choice : ModuleChoice) → AreLinked files choice self.now
             → result ≡ named_module choice (map brief_of files) name.now }
     {
         let number = self.rows.file_named(name)?;
@@ -53,7 +53,7 @@ impl<'a, 'b> Linked<'a, 'b> {
 
     /// The module that a prefix identifies in a file (RFC 7950, section 7.1.4).
     pub fn prefix(&self, file: u32, prefix: &'a str) -> Option<ModuleRef>
-        ensures { (files : Files) (choice : Selected) → AreLinked files choice self.now
+        ensures { (files : Files) (choice : ModuleChoice) → AreLinked files choice self.now
             → result ≡ prefixed_module choice (map brief_of files) (rows_of files) file prefix.now }
     {
         let number = self.rows.module_of(file as usize, prefix)?;
@@ -66,7 +66,7 @@ impl<'a, 'b> Linked<'a, 'b> {
         // The result is that of one function of file and text.
         ensures truth { result ≡ truth_in self.now file if_feature.now }
         // Whether the expression holds in the file.
-        ensures holds { (files : Files) (choice : Selected) → AreLinked files choice self.now
+        ensures holds { (files : Files) (choice : ModuleChoice) → AreLinked files choice self.now
             → Holds files choice file if_feature.now result }
     {
         self.features.holds(&self.rows, file as usize, if_feature)
@@ -74,7 +74,7 @@ impl<'a, 'b> Linked<'a, 'b> {
 
     /// The identity that a name means in a file (RFC 7950, section 7.18).
     pub fn identity(&self, file: u32, name: &'a str) -> Option<IdentityRef>
-        ensures { (files : Files) (choice : Selected) → AreLinked files choice self.now
+        ensures { (files : Files) (choice : ModuleChoice) → AreLinked files choice self.now
             → result ≡ reference_of (map brief_of files) (rows_of files) file name.now }
     {
         self.identities.identity(&self.rows, file as usize, name)
@@ -84,7 +84,7 @@ impl<'a, 'b> Linked<'a, 'b> {
     /// Where identities have several bases each it may take one step for each way to a base: use
     /// `descendants` for files from strangers.
     pub fn derived(&self, identity: IdentityRef, base: IdentityRef) -> bool
-        ensures { (files : Files) (choice : Selected) → AreLinked files choice self.now
+        ensures { (files : Files) (choice : ModuleChoice) → AreLinked files choice self.now
             → IsTrue result ↔ IsDerived (map brief_of files) (rows_of files) identity base }
     {
         self.identities.is_derived(identity, base)
@@ -98,7 +98,7 @@ impl<'a, 'b> Linked<'a, 'b> {
         base: IdentityRef,
     ) -> Result<Vec<IdentityRef>, AllocError>
         ensures { IfOk result
-            (λ found. (files : Files) (choice : Selected) → AreLinked files choice self.now
+            (λ found. (files : Files) (choice : ModuleChoice) → AreLinked files choice self.now
             → AreDescendants (map brief_of files) (rows_of files) base found.items) }
     {
         self.identities.descendants(alloc, base)
@@ -106,7 +106,7 @@ impl<'a, 'b> Linked<'a, 'b> {
 
     // The module whose file has this number, if it is one.
     fn module_at(&self, number: usize) -> Option<ModuleRef>
-        ensures { (files : Files) (choice : Selected) → AreLinked files choice self.now
+        ensures { (files : Files) (choice : ModuleChoice) → AreLinked files choice self.now
             → result ≡ Rattle.yv_link.specs.Modules.ref_at choice (map brief_of files) number }
     {
         match self.modules.get(number) {

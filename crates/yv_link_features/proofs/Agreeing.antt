@@ -9,7 +9,7 @@ use Rattle.std.specs.declared.vec.Vec.{Vec}
 use Rattle.std.specs.declared.alloc.Global.{Global}
 use Rattle.yv_text_if_feature.specs.Tokens.{names_among, tokens}
 use Rattle.yv_text_if_feature.specs.IfFeature.{IfFeature, Spells, Name, Not, And, Or, names_in, truth}
-use Rattle.yv_statement.specs.Selection.{Selected}
+use Rattle.yv_statement.specs.Selection.{ModuleChoice}
 use Rattle.yv_link_scopes.specs.Files.{Briefs}
 use Rattle.yv_link_scopes.specs.Rows.{Row, name_in}
 use Rattle.yv_link_features.specs.Meaning.{Meaning}
@@ -70,7 +70,7 @@ hold_same order means rows on now k h all i q at own =
     (λ n m d e. h d (record { place = i; condition = q; at = at; own = own; name = n; named = m; meant = e }))
     (all i q at own)
 
-pub is_on_same : InOrder → (means : Meaning) (files : Briefs) (rows : List Row) (choice : Selected) (on now : Assignment) (k : ℕ) (r : Row) → on k ≡ now k → AgreeOn means rows on now k → IsOn means files rows choice on k r → IsOn means files rows choice now k r
+pub is_on_same : InOrder → (means : Meaning) (files : Briefs) (rows : List Row) (choice : ModuleChoice) (on now : Assignment) (k : ℕ) (r : Row) → on k ≡ now k → AgreeOn means rows on now k → IsOn means files rows choice on k r → IsOn means files rows choice now k r
 is_on_same order means files rows choice on now k r e h o = (
   λ t. let p = o.0 (e ∙ t) in (p.0, hold_same order means rows on now k h p.1),
   λ p. sym e ∙ o.1 (p.0, hold_same order means rows now on k (λ d s. sym (h d s)) p.1),
@@ -82,7 +82,7 @@ same_truth false true f g = g refl
 same_truth false false f g = refl
 
 -- two that are on by the same rule agree, where what they depend on does
-pub on_one : InOrder → (means : Meaning) (files : Briefs) (rows : List Row) (choice : Selected) (on now : Assignment) (k : ℕ) (r : Row) → AgreeOn means rows on now k → IsOn means files rows choice on k r → IsOn means files rows choice now k r → on k ≡ now k
+pub on_one : InOrder → (means : Meaning) (files : Briefs) (rows : List Row) (choice : ModuleChoice) (on now : Assignment) (k : ℕ) (r : Row) → AgreeOn means rows on now k → IsOn means files rows choice on k r → IsOn means files rows choice now k r → on k ≡ now k
 on_one order means files rows choice on now k r h o p =
     same_truth (on k) (now k)
     (λ t. let q = o.0 t in p.1 (q.0, hold_same order means rows on now k h q.1))
@@ -117,7 +117,7 @@ and_true_parts : (a b : Bool) → (a && b) ≡ true → (a ≡ true) × (b ≡ t
 and_true_parts true b e = (refl, e)
 and_true_parts false b e = absurd (false≢true e)
 
-pub on_told : (means : Meaning) (files : Briefs) (rows : List Row) (choice : Selected) (on : Assignment) (lists : List (Vec ℕ Global)) (k : ℕ) (e : Row) (supported hold result : Bool) → AreLists rows lists → slice_get rows k ≡ Some e → supported ≡ has_support files choice e → IsTrue hold ↔ AllTrue means rows on (numbers_at lists k) → result ≡ (supported && hold) → (r : Row) → slice_get rows k ≡ Some r → IsTrue result ↔ ((has_support files choice r ≡ true) × AllHold means rows on k)
+pub on_told : (means : Meaning) (files : Briefs) (rows : List Row) (choice : ModuleChoice) (on : Assignment) (lists : List (Vec ℕ Global)) (k : ℕ) (e : Row) (supported hold result : Bool) → AreLists rows lists → slice_get rows k ≡ Some e → supported ≡ has_support files choice e → IsTrue hold ↔ AllTrue means rows on (numbers_at lists k) → result ≡ (supported && hold) → (r : Row) → slice_get rows k ≡ Some r → IsTrue result ↔ ((has_support files choice r ≡ true) × AllHold means rows on k)
 on_told means files rows choice on lists k e supported hold result a at s h res r there =
     let same : has_support files choice e ≡ has_support files choice r = ap (has_support files choice) (same_Some e r (sym at ∙ there)) in
     let own = all_own means rows on lists k a in (

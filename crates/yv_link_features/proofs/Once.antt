@@ -6,7 +6,7 @@ use Rattle.std.proofs.lemmas.List.Elements.{Contains-append_cases, Contains-appe
 use Rattle.std.proofs.lemmas.Option.{slice_get_within}
 use Rattle.yv_statement.specs.Order.{Among, IsLeast, refusal_at}
 use Rattle.yv_statement.specs.declared.refusal.Code.TheVariants as code
-use Rattle.yv_statement.specs.Selection.{Selected}
+use Rattle.yv_statement.specs.Selection.{ModuleChoice}
 use Rattle.yv_link_scopes.specs.Files.{Briefs}
 use Rattle.yv_link_scopes.specs.Rows.{Row}
 use Rattle.yv_link_features.specs.Meaning.{Meaning, meaning_of, is_feature}
@@ -69,7 +69,7 @@ leads_more : {means : Meaning} {rows : List Row} (a b c : ℕ) → LeadsTo means
 leads_more a b c (by_step s) t = by_way s (by_step t)
 leads_more a b c (by_way {b = d} s w) t = by_way s (leads_more d b c w t)
 
-module _ (files : Briefs) (rows : List Row) (choice : Selected) (none : HasNoCycle (meaning_of files rows) rows) (order : InOrder) (on now : Assignment) (are : AreOn files rows choice on) (too : AreOn files rows choice now) where
+module _ (files : Briefs) (rows : List Row) (choice : ModuleChoice) (none : HasNoCycle (meaning_of files rows) rows) (order : InOrder) (on now : Assignment) (are : AreOn files rows choice on) (too : AreOn files rows choice now) where
   -- each statement leads to k, or is among the others that are left
   agree : (m : ℕ) (rest : List ℕ) → length rest ≤ m → (k : ℕ) → ((v : ℕ) → v < length rows → LeadsTo (meaning_of files rows) rows v k ⊎ Contains rest v) → (r : Row) → slice_get rows k ≡ Some r → is_feature r ≡ true → on k ≡ now k
   unfolding Without

@@ -4,7 +4,7 @@ use Rattle.std.specs.List.{slice_get}
 use Rattle.std.proofs.lemmas.Bool.{cases_eq}
 use Rattle.std.proofs.lemmas.List.{get_or_default, get_or-take, length-take-le, length-set}
 use Rattle.std.proofs.lemmas.Option.{slice_get_within}
-use Rattle.yv_statement.specs.Selection.{Selected}
+use Rattle.yv_statement.specs.Selection.{ModuleChoice}
 use Rattle.yv_link_scopes.specs.Files.{Briefs}
 use Rattle.yv_link_scopes.specs.Rows.{Row}
 use Rattle.yv_link_features.specs.Meaning.{Meaning, is_feature}
@@ -15,11 +15,11 @@ use Rattle.yv_link_features.specs.InnerGraph.{IsOrderOf}
 use Rattle.yv_link_features.proofs.Agreeing.{InOrder, hold_same, is_on_same}
 
 -- the first n of an order are marked as they are on
-pub record MarkedUpTo (means : Meaning) (files : Briefs) (rows : List Row) (choice : Selected) (order : List ℕ) (n : ℕ) (on : List Bool) : Type 0 where
+pub record MarkedUpTo (means : Meaning) (files : Briefs) (rows : List Row) (choice : ModuleChoice) (order : List ℕ) (n : ℕ) (on : List Bool) : Type 0 where
   pub each : length on ≡ length rows
   pub are_on : (i : ℕ) → i < n → (r : Row) → slice_get rows (get_or order i 0) ≡ Some r → is_feature r ≡ true → IsOn means files rows choice (from_marks on) (get_or order i 0) r
 
-module _ (means : Meaning) (files : Briefs) (rows : List Row) (choice : Selected) (order : List ℕ) (o : IsOrderOf means rows order) where
+module _ (means : Meaning) (files : Briefs) (rows : List Row) (choice : ModuleChoice) (order : List ℕ) (o : IsOrderOf means rows order) where
   pub marked_start : (on : List Bool) → length on ≡ length rows → MarkedUpTo means files rows choice order 0 on
   marked_start on e = record { each = e; are_on = λ i l. absurd (omega arith) }
 

@@ -2,7 +2,7 @@
 use Rattle.std.specs.Prelude.{◌≡◌, ◌⊎◌, ℕ, Bool, false, List, map, slice_index_or}
 use Rattle.std.proofs.Common.{inl, inr}
 use Rattle.yv_text_if_feature.specs.IfFeature.{IfFeature, Spells}
-use Rattle.yv_statement.specs.Selection.{Selected}
+use Rattle.yv_statement.specs.Selection.{ModuleChoice}
 use Rattle.yv_link_scopes.specs.Files.{Files, brief_of}
 use Rattle.yv_link_scopes.specs.RowList.{rows_of}
 use Rattle.yv_link_scopes.specs.Tables.{table_of, first_of}
@@ -27,7 +27,7 @@ abbrev pub on_in : Features → Assignment
 on_in features = from_marks features.on.items
 
 -- they are the features of these files, and those are marked that are on where this is chosen
-unfoldable pub AreFeatures : Files → Selected → Features → Type 0
+unfoldable pub AreFeatures : Files → ModuleChoice → Features → Type 0
 AreFeatures files choice features =
     (table_of features.places ≡ first_of Feature (rows_of files))
     × AreOn (map brief_of files) (rows_of files) choice (on_in features)

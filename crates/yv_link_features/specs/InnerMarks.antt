@@ -2,7 +2,7 @@
 use Rattle.std.specs.Prelude.{◌≡◌, ℕ, true, length, Some, slice_get}
 use Rattle.yv_statement.specs.Order.{Among}
 use Rattle.yv_statement.specs.declared.refusal.Refusal.{Refusal}
-use Rattle.yv_statement.specs.Selection.{Selected}
+use Rattle.yv_statement.specs.Selection.{ModuleChoice}
 use Rattle.yv_link_scopes.specs.Views.{files_in, rows_in}
 use Rattle.yv_link_scopes.specs.Rows.{Row}
 use Rattle.yv_link_features.specs.Meaning.{is_feature}
@@ -16,7 +16,7 @@ abbrev pub BadIn : FeatureNames → Refusal → Type 0
 BadIn names f = Among (rows_in names.rows.now) (BadRow (means_in names) (rows_in names.rows.now))
     (length (rows_in names.rows.now)) f
 
-abbrev pub AreOnIn : FeatureNames → Selected → Assignment → Type 0
+abbrev pub AreOnIn : FeatureNames → ModuleChoice → Assignment → Type 0
 AreOnIn names choice on =
     (k : ℕ) (r : Row) → slice_get (rows_in names.rows.now) k ≡ Some r → is_feature r ≡ true
     → IsOn (means_in names) (files_in names.rows.now) (rows_in names.rows.now) choice on k r

@@ -1,6 +1,6 @@
 //! The features of files.
 ghost use Rattle.std.specs.Prelude.{◌≡◌, ◌≢◌, None, OnOk, IfOk, Some, Err};
-ghost use Rattle.yv_statement.specs.{Order.{IsLeast}, declared.refusal.Refusal.{Refusal}, declared.refusal.Stop.TheVariants.{Fault, PatternBuild}, Selection.{Selected, selected_of}};
+ghost use Rattle.yv_statement.specs.{Order.{IsLeast}, declared.refusal.Refusal.{Refusal}, declared.refusal.Stop.TheVariants.{Fault, PatternBuild}, Selection.{ModuleChoice, selected_of}};
 ghost use Rattle.yv_link_scopes.specs.{Views.{lent_in, rows_in}, Tables.{first_of, table_of}, declared.kind.NameKind.TheVariants.{Feature}};
 ghost use Rattle.yv_link_features.specs.{Refusals.{BadFeatures}, Features.{AreFeatures, from_marks, truth_of}, InnerMarks.{AreOnIn, BadIn}, On.{Holds}};
 
@@ -55,7 +55,7 @@ impl<'a> Features<'a> {
         // The result is that of one function of file and text.
         ensures truth { result ≡ truth_of self.now (lent_in rows.now) file text.now }
         // Whether the expression holds in the file.
-        ensures holds { (choice : Selected) → AreFeatures (lent_in rows.now) choice self.now
+        ensures holds { (choice : ModuleChoice) → AreFeatures (lent_in rows.now) choice self.now
             → Holds (lent_in rows.now) choice file text.now result }
     {
         yv_text_if_feature::laws::a_text_spells_one_if_feature();

@@ -1,6 +1,6 @@
 //! Laws about the definitions only.
 ghost use Rattle.std.specs.Prelude.{◌≡◌, ℕ, Bool, List, None};
-ghost use Rattle.yv_statement.specs.{Order.{IsLeast}, Selection.{Selected}};
+ghost use Rattle.yv_statement.specs.{Order.{IsLeast}, Selection.{ModuleChoice}};
 ghost use Rattle.yv_link_scopes.specs.Files.{Files};
 ghost use Rattle.yv_link_features.specs.{Refusals.{BadFeatures}, Features.{AreFeatures, Tell, truth_of}, On.{Holds}, declared.features.Features.{Features}};
 
@@ -20,7 +20,7 @@ pub fn features_tell_the_value()
 /// What the features of files answer for an expression is its truth, whatever the file and the
 /// text.
 pub fn features_tell_what_holds()
-    ensures { (files : Files) (choice : Selected) (features : Features)
+    ensures { (files : Files) (choice : ModuleChoice) (features : Features)
         → AreFeatures files choice features
         → (file : ℕ) (text : List ℕ)
         → Holds files choice file text (truth_of features files file text) }
@@ -28,7 +28,7 @@ pub fn features_tell_what_holds()
 
 /// Where nothing is refused of the features, an expression in a file has one truth.
 pub fn an_expression_has_one_truth()
-    ensures { (files : Files) (choice : Selected) (file : ℕ) (text : List ℕ) (a b : Bool)
+    ensures { (files : Files) (choice : ModuleChoice) (file : ℕ) (text : List ℕ) (a b : Bool)
         → IsLeast (BadFeatures files) None
         → Holds files choice file text a → Holds files choice file text b → a ≡ b }
 {

@@ -11,8 +11,8 @@ use Rattle.yv_node_keys.specs.InnerMixedConfig.{is_mixed_at}
 use Rattle.yv_node_keys.specs.declared.shift.Shift.{Shift}
 
 -- the node so far from one
-abbrev pub moved : ℕ → NodeId → NodeId
-moved by n = record { 0 = n.0 + by }
+abbrev pub moved_id : ℕ → NodeId → NodeId
+moved_id by n = record { 0 = n.0 + by }
 
 -- a node is one of those of a shift
 pub record IsInside (s : Shift) (n : NodeId) : Type 0 where
@@ -27,10 +27,10 @@ AreInside s (n ∷ ns) = IsInside s n × AreInside s ns
 -- a node and the one so far from it are called alike and are of one kind, and those below them are
 -- so far from each other
 pub record IsMoved (rows : List Row) (s : Shift) (n : NodeId) : Type 0 where
-  pub called : AreCalledAlike rows n (moved s.by n)
+  pub called : AreCalledAlike rows n (moved_id s.by n)
   pub kinds : (test : NodeKind → Bool)
-      → is_kind_at rows test n ≡ is_kind_at rows test (moved s.by n)
-  pub below : children_at rows (moved s.by n) ≡ map (moved s.by) (children_at rows n)
+      → is_kind_at rows test n ≡ is_kind_at rows test (moved_id s.by n)
+  pub below : children_at rows (moved_id s.by n) ≡ map (moved_id s.by) (children_at rows n)
   pub inside : AreInside s (children_at rows n)
 
 -- all nodes of a shift are so

@@ -1,7 +1,7 @@
 //! The leafs that `unique` statements name, by those that they name in an earlier list.
 ghost use Rattle.std.specs.{Prelude.{◌≡◌, List, Option, Some, false, map, IfOk, IfSome}, List.{list_any}};
 ghost use Rattle.yv_node_definition.specs.Steps.{Step};
-ghost use Rattle.yv_node_keys.specs.{Numbers.{unique_leaf_at}, InnerMixedConfig.{is_bad_statement_at, is_mixed_at}, InnerShifts.{AreUnmixed, moved}};
+ghost use Rattle.yv_node_keys.specs.{Numbers.{unique_leaf_at}, InnerMixedConfig.{is_bad_statement_at, is_mixed_at}, InnerShifts.{AreUnmixed, moved_id}};
 
 use crate::shift::{Shift, shift_between};
 use crate::unique::is_mixed;
@@ -51,7 +51,7 @@ fn moved_leafs(
     known: &[NodeId],
 ) -> Result<Option<Vec<NodeId>>, AllocError>
     ensures { IfOk result (λ leafs. IfSome leafs
-        (λ numbers. numbers.items ≡ map (moved shift.by) known.now)) }
+        (λ numbers. numbers.items ≡ map (moved_id shift.by) known.now)) }
 {
     let mut leafs = Vec::with_capacity(alloc, known.len())?;
     for leaf in known {
@@ -71,7 +71,7 @@ fn unmixed_leafs(
     known: &[NodeId],
 ) -> Result<Option<Vec<NodeId>>, AllocError>
     ensures moved { IfOk result (λ leafs. IfSome leafs
-        (λ numbers. numbers.items ≡ map (moved shift.by) known.now)) }
+        (λ numbers. numbers.items ≡ map (moved_id shift.by) known.now)) }
     ensures unmixed { IfOk result (λ leafs. IfSome leafs
         (λ numbers. is_mixed_at nodes.now.rows numbers.items ≡ false)) }
 {
@@ -92,7 +92,7 @@ fn all_moved(
     known: &[Vec<NodeId>],
 ) -> Result<Option<Vec<Vec<NodeId>>>, AllocError>
     ensures moved { IfOk result (λ found. IfSome found (λ lists.
-        map (λ v. v.items) lists.items ≡ map (λ v. map (moved shift.by) v.items) known.now)) }
+        map (λ v. v.items) lists.items ≡ map (λ v. map (moved_id shift.by) v.items) known.now)) }
     ensures unmixed { IfOk result
         (λ found. IfSome found (λ lists. AreUnmixed nodes.now.rows lists.items)) }
 {

@@ -1,6 +1,6 @@
 //! How far the nodes below a list are from those below another of which the same is said.
 ghost use Rattle.std.specs.Prelude.{◌≡◌, ◌<◌, ◌≤◌, true, length, map, IfSome};
-ghost use Rattle.yv_node_keys.specs.{Numbers.{module_file_at}, InnerShifts.{AreInside, AreMoved, IsInside, IsMoved, moved}};
+ghost use Rattle.yv_node_keys.specs.{Numbers.{module_file_at}, InnerShifts.{AreInside, AreMoved, IsInside, IsMoved, moved_id}};
 
 use crate::counterparts::are_called_alike;
 use crate::node_numbers::module_file_at;
@@ -19,7 +19,7 @@ impl Shift {
     /// The node so far from one of these nodes.
     pub(crate) fn counterpart(self, node: NodeId) -> Option<NodeId>
         ensures inside { IfSome result (λ other. IsInside self node) }
-        ensures is { IfSome result (λ other. other ≡ moved self.by node) }
+        ensures is { IfSome result (λ other. other ≡ moved_id self.by node) }
     {
         if node.number() < self.first || self.end <= node.number() {
             return None;
@@ -32,7 +32,7 @@ impl Shift {
 // Whether one node is so far from another.
 fn is_moved_to(shift: Shift, one: NodeId, other: NodeId) -> bool
     ensures inside { result ≡ true → IsInside shift one }
-    ensures is { result ≡ true → other ≡ moved shift.by one }
+    ensures is { result ≡ true → other ≡ moved_id shift.by one }
 {
     match shift.counterpart(one) {
         Some(moved) => moved == other,
@@ -43,7 +43,7 @@ fn is_moved_to(shift: Shift, one: NodeId, other: NodeId) -> bool
 // Whether nodes are so far from these, one by one.
 fn are_moved_to(shift: Shift, ones: &[NodeId], others: &[NodeId]) -> bool
     ensures inside { result ≡ true → AreInside shift ones.now }
-    ensures are { result ≡ true → others.now ≡ map (moved shift.by) ones.now }
+    ensures are { result ≡ true → others.now ≡ map (moved_id shift.by) ones.now }
 {
     if ones.len() != others.len() {
         return false;
@@ -111,7 +111,7 @@ pub(crate) fn shift_between(
 ) -> Option<Shift>
     ensures moved { IfSome result (λ shift. AreMoved nodes.now.rows shift) }
     ensures inside { IfSome result (λ shift. IsInside shift earlier) }
-    ensures list { IfSome result (λ shift. list ≡ moved shift.by earlier) }
+    ensures list { IfSome result (λ shift. list ≡ moved_id shift.by earlier) }
     ensures own { IfSome result
         (λ shift. module_file_at nodes.now.rows list ≡ module_file_at nodes.now.rows earlier) }
 {

@@ -1,7 +1,7 @@
 -- The plain types and the defaults of the `type` statements of files.
 use Rattle.std.proofs.Common.{◌≡◌, ℕ, List, [], Option, Some, None, inl, inr, codes, refl, sym, ◌∙◌}
 use Rattle.std.specs.Option.{unwrap_or}
-use Rattle.yv_statement.specs.Selection.{Selected}
+use Rattle.yv_statement.specs.Selection.{ModuleChoice}
 use Rattle.yv_link_scopes.specs.Files.{Files}
 use Rattle.yv_link_scopes.specs.RowList.{rows_of}
 use Rattle.yv_link_definitions.specs.References.{number_at}
@@ -23,10 +23,10 @@ same_kinds a b h = λ i file offset. h file offset i
 
 -- a type has one list of plain types
 abbrev pub HasOneSpace : Type 0
-HasOneSpace = (files : Files) (choice : Selected) (truth : Truth) (k : ℕ) (ps qs : List Plain) → Space files truth choice k ps
+HasOneSpace = (files : Files) (choice : ModuleChoice) (truth : Truth) (k : ℕ) (ps qs : List Plain) → Space files truth choice k ps
     → Space files truth choice k qs → ps ≡ qs
 
-module _ (files : Files) (choice : Selected) (truth : Truth) where
+module _ (files : Files) (choice : ModuleChoice) (truth : Truth) where
   -- what is told of a statement's types is so
   told_kind : (number : Option ℕ) (told : Option (List Plain)) → IsTold files choice truth number told → IsKindOf files choice truth number (unwrap_or told [])
   told_kind None None h = refl
@@ -87,7 +87,7 @@ module _ (files : Files) (one : SaysOneThing) where
   one_referrals a b p q =
       same_referrals a b (λ file offset. one_referral_of (number_at (rows_of files) (codes "type") file offset) (a file offset) (b file offset) (p file offset) (q file offset))
 
-pub one_typing : (files : Files) (choice : Selected) (truth : Truth) → HasOneSpace → HasOneDefault → SaysOneThing → (a b : TypeMeanings) → AreTyped files choice truth a
+pub one_typing : (files : Files) (choice : ModuleChoice) (truth : Truth) → HasOneSpace → HasOneDefault → SaysOneThing → (a b : TypeMeanings) → AreTyped files choice truth a
     → AreTyped files choice truth b → a ≡ b
 one_typing files choice truth spaces defaults says a b p q =
     let kinds : a.kinds ≡ b.kinds = one_kinds files choice truth spaces a.kinds b.kinds p.kinds q.kinds in

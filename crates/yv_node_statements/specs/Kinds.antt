@@ -2,7 +2,7 @@
 -- leafrefs (RFC 7950, sections 7.3.4, 7.4 and 9).
 use Rattle.std.specs.Prelude.{◌≡◌, ◌⊎◌, ℕ, List, [], Option, Some, None, codes}
 use Rattle.std.specs.Option.{unwrap_or}
-use Rattle.yv_statement.specs.Selection.{Selected}
+use Rattle.yv_statement.specs.Selection.{ModuleChoice}
 use Rattle.yv_link_scopes.specs.Files.{Files}
 use Rattle.yv_link_scopes.specs.RowList.{rows_of}
 use Rattle.yv_link_definitions.specs.References.{number_at}
@@ -19,19 +19,19 @@ abbrev pub Kinds : Type 0
 Kinds = ℕ → ℕ → List Plain
 
 -- these are the plain types of the numbered statement; no types, where it has none
-abbrev pub IsKind : Files → Selected → Truth → ℕ → List Plain → Type 0
+abbrev pub IsKind : Files → ModuleChoice → Truth → ℕ → List Plain → Type 0
 IsKind files choice truth k ps =
     Space files truth choice k ps
     ⊎ (((qs : List Plain) → Space files truth choice k qs → ⊥) × (ps ≡ []))
 
 -- these are the plain types of the statement of this number; no types, where there is no statement
-abbrev pub IsKindOf : Files → Selected → Truth → Option ℕ → List Plain → Type 0
+abbrev pub IsKindOf : Files → ModuleChoice → Truth → Option ℕ → List Plain → Type 0
 IsKindOf files choice truth None ps = ps ≡ []
 IsKindOf files choice truth (Some k) ps = IsKind files choice truth k ps
 
 -- the plain types of all `type` statements of these files, where this is chosen of them and these
 -- conditions hold
-abbrev pub AreKinds : Files → Selected → Truth → Kinds → Type 0
+abbrev pub AreKinds : Files → ModuleChoice → Truth → Kinds → Type 0
 AreKinds files choice truth kinds =
     (file offset : ℕ) → IsKindOf files choice truth
     (number_at (rows_of files) (codes "type") file offset) (kinds file offset)
@@ -67,7 +67,7 @@ pub record TypeMeanings : Type 0 where
   pub referrals : TypeReferrals
 
 -- this is what the `type` statements of these files mean
-pub record AreTyped (files : Files) (choice : Selected) (truth : Truth)
+pub record AreTyped (files : Files) (choice : ModuleChoice) (truth : Truth)
     (typing : TypeMeanings) : Type 0 where
   pub kinds : AreKinds files choice truth typing.kinds
   pub defaults : AreTypeDefaults files typing.defaults

@@ -5,14 +5,14 @@ use Rattle.std.proofs.lemmas.Option.{get_or_from_slice_get, slice_get-get_or, sl
 use Rattle.yv_values.specs.Types.{Plain}
 use Rattle.yv_node_definition.specs.Definition.{Definition, with_types}
 use Rattle.yv_nodes.specs.Rows.{Row, StandBehind, blank_row, rank}
-use Rattle.yv_nodes.specs.Alike.{untyped, untyped_at}
+use Rattle.yv_nodes.specs.Alike.{without_types, untyped_at}
 use Rattle.yv_nodes.specs.InnerAlike.{AreFirsts, IsFirst}
 use Rattle.yv_nodes.specs.InnerTypes.{with_own_types}
 use Rattle.yv_nodes.specs.NodeTypes.{typed_row}
 
 -- rows behind leave what is said before
 untyped_left : (rows more : List Row) (n : ℕ) → n < length rows → untyped_at (rows ++ more) n ≡ untyped_at rows n
-untyped_left rows more n lt = ap untyped (get_or_append_left rows more blank_row n lt)
+untyped_left rows more n lt = ap without_types (get_or_append_left rows more blank_row n lt)
 
 wider : (rows more : List Row) (n first : ℕ) → n < length rows → IsFirst rows n first → IsFirst (rows ++ more) n first
 wider rows more n first lt is = record {
@@ -44,14 +44,14 @@ first_through rows firsts row earlier first are lt at said =
     record {
       before = omega (arith, is.before, lt);
       alike = untyped_left rows (row ∷ []) first (omega (arith, is.before, lt)) ∙ is.alike ∙ sym (ap (with_types []) said)
-          ∙ sym (ap untyped (get_or_at rows row [] blank_row (length rows) refl));
+          ∙ sym (ap without_types (get_or_at rows row [] blank_row (length rows) refl));
     }
 
 -- other types leave what is said but for types
-typed_untyped : (lists : List (List Plain)) (k : ℕ) (row : Row) → untyped (with_own_types lists k row) ≡ untyped row
+typed_untyped : (lists : List (List Plain)) (k : ℕ) (row : Row) → without_types (with_own_types lists k row) ≡ without_types row
 typed_untyped lists k row = by (slice_get lists k)
   where
-    by : (types : Option (List Plain)) → (let now : Row = elim types [ None ↦ row | Some some ↦ typed_row some row ] in untyped now ≡ untyped row)
+    by : (types : Option (List Plain)) → (let now : Row = elim types [ None ↦ row | Some some ↦ typed_row some row ] in without_types now ≡ without_types row)
     by None = refl
     by (Some types) = refl
 
@@ -60,7 +60,7 @@ stays : (lists : List (List Plain)) (rows new : List Row) → ((n : ℕ) → sli
 stays lists rows new each n lt =
     let was : Row = get_or rows n blank_row in
     let is : slice_get new n ≡ Some (with_own_types lists n was) = each n ∙ ap (option_map (with_own_types lists n)) (slice_get-get_or rows n blank_row lt) in
-    ap untyped (get_or_from_slice_get new n (with_own_types lists n was) blank_row is) ∙ typed_untyped lists n was
+    ap without_types (get_or_from_slice_get new n (with_own_types lists n was) blank_row is) ∙ typed_untyped lists n was
 
 pub retyped_firsts : (lists : List (List Plain)) (rows new : List Row) (firsts : List ℕ) → length new ≡ length rows
     → ((n : ℕ) → slice_get new n ≡ option_map (with_own_types lists n) (slice_get rows n)) → AreFirsts rows firsts → AreFirsts new firsts

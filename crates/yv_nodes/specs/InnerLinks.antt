@@ -3,5 +3,5 @@ use Rattle.std.specs.Prelude.{ℕ, ◌++◌, List, Option, None, replicate}
 use Rattle.yv_nodes.specs.Link.{Link}
 
 -- these links, and as many places more without one
-abbrev pub padded : List (Option Link) → (rest : ℕ) → List (Option Link)
-padded links rest = links ++ replicate rest None
+abbrev pub links_with_rest : List (Option Link) → (rest : ℕ) → List (Option Link)
+links_with_rest links rest = links ++ replicate rest None

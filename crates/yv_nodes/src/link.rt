@@ -1,6 +1,6 @@
 //! Where the paths of leafrefs lead.
 ghost use Rattle.std.specs.{Prelude.{◌≡◌, ◌||◌, ◌-◌, ◌≤◌, ℕ, None, IfOk, OnOk, drop, length, replicate}, BTreeSet.{contains}, Option.{option_map}, Ordering.{nat_cmp}};
-ghost use Rattle.yv_nodes.specs.{Link.{is_target, leads_to, link_in, reference_in}, InnerLinks.{padded}};
+ghost use Rattle.yv_nodes.specs.{Link.{is_target, leads_to, link_in, reference_in}, InnerLinks.{links_with_rest}};
 
 use crate::node::NodeId;
 use std::alloc::{AllocError, Global};
@@ -50,13 +50,13 @@ pub struct Links {
 impl Model for Links {
     ghost use Rattle.std.specs.{Prelude.{◌≡◌, ℕ, List, Option}, BTreeSet.{contains}, Ordering.{nat_cmp}};
     ghost use Rattle.yv_nodes.specs.Link as spec;
-    ghost use Rattle.yv_nodes.specs.InnerLinks.{padded};
+    ghost use Rattle.yv_nodes.specs.InnerLinks.{links_with_rest};
 
     ghost Value = { List (Option spec.Link) };
 
-    ghost view = { λ l. padded l.links.items l.rest };
+    ghost view = { λ l. links_with_rest l.links.items l.rest };
 
-    ghost invariant = { λ l. (n : ℕ) → contains nat_cmp l.targets n ≡ spec.is_target (padded l.links.items l.rest) n };
+    ghost invariant = { λ l. (n : ℕ) → contains nat_cmp l.targets n ≡ spec.is_target (links_with_rest l.links.items l.rest) n };
 }
 
 impl Links {
@@ -143,7 +143,7 @@ fn count_to_last(links: &[Option<Link>]) -> usize
 
 // Takes the places after that of the last link away, with their memory, and gives their number.
 fn drop_rest(links: &mut Vec<Option<Link>>) -> usize
-    ensures { padded links.new.items result ≡ links.old.items }
+    ensures { links_with_rest links.new.items result ≡ links.old.items }
 {
     let count = count_to_last(links.as_slice());
     let rest = links.len() - count;

@@ -7,7 +7,7 @@ use Rattle.yv_statement.specs.Order.{IsUpTo, IsLeast}
 use Rattle.yv_statement.specs.declared.refusal.Refusal.{Refusal}
 use Rattle.yv_source.specs.Answer.{IsBadFile, IsSpelled, IsRefused}
 use Rattle.yv_source.specs.Legal.{IsLegalFile}
-use Rattle.yv_statement.specs.Selection.{Selected}
+use Rattle.yv_statement.specs.Selection.{ModuleChoice}
 use Rattle.yv_schema.specs.Refuses.{Refuses}
 use Rattle.yv_schema_build.specs.Module.{modules_of}
 use Rattle.yv_schema.specs.Notes.{AreNotes}
@@ -37,12 +37,12 @@ pub record Once : Type 0 where
   pub spelled : (text : List ℕ) (t u : Tree) → IsSpelled text t → IsSpelled text u → t ≡ u
   pub refused : (text : List ℕ) (r s : Refusal) → IsRefused text r → IsRefused text s → r ≡ s
   pub apart : (text : List ℕ) (t : Tree) (r : Refusal) → IsSpelled text t → IsRefused text r → ⊥
-  pub schema : (choice : Selected) (files : List Tree) (limit : ℕ) (a b : Forest) → IsLeast (Refuses choice files limit) None → IsSchema choice files a → IsSchema choice files b → a ≡ b
-  pub augments : (choice : Selected) (files : List Tree) (limit : ℕ) (a b : List Note) → IsLeast (Refuses choice files limit) None → AreNotes choice files a → AreNotes choice files b → a ≡ b
-  pub references : (choice : Selected) (files : List Tree) (limit : ℕ) (a b : List (Option Link)) → IsLeast (Refuses choice files limit) None → AreReferences choice files a → AreReferences choice files b → a ≡ b
+  pub schema : (choice : ModuleChoice) (files : List Tree) (limit : ℕ) (a b : Forest) → IsLeast (Refuses choice files limit) None → IsSchema choice files a → IsSchema choice files b → a ≡ b
+  pub augments : (choice : ModuleChoice) (files : List Tree) (limit : ℕ) (a b : List Note) → IsLeast (Refuses choice files limit) None → AreNotes choice files a → AreNotes choice files b → a ≡ b
+  pub references : (choice : ModuleChoice) (files : List Tree) (limit : ℕ) (a b : List (Option Link)) → IsLeast (Refuses choice files limit) None → AreReferences choice files a → AreReferences choice files b → a ≡ b
   pub order : (r s : Refusal) → IsUpTo r s → IsUpTo s r → r ≡ s
 
-one_least : Once → (choice : Selected) (ts : List Tree) (limit : ℕ) (r s : Refusal) → IsLeast (Refuses choice ts limit) (Some r) → IsLeast (Refuses choice ts limit) (Some s) → r ≡ s
+one_least : Once → (choice : ModuleChoice) (ts : List Tree) (limit : ℕ) (r s : Refusal) → IsLeast (Refuses choice ts limit) (Some r) → IsLeast (Refuses choice ts limit) (Some s) → r ≡ s
 one_least once choice ts limit r s p q = once.order r s (p.1 s q.0) (q.1 r p.0)
 
 -- a file isn't both read and unread, and is unread in one way
@@ -98,7 +98,7 @@ one_place once files ts us n m f g r s p at a q at' b =
     ]
 
 -- statements of which nothing is refused give one schema
-one_given : Once → (choice : Selected) (ts : List Tree) (limit : ℕ) (a b : Rows) → IsLeast (Refuses choice ts limit) None → IsGiven choice ts limit a → IsGiven choice ts limit b → a ≡ b
+one_given : Once → (choice : ModuleChoice) (ts : List Tree) (limit : ℕ) (a b : Rows) → IsLeast (Refuses choice ts limit) None → IsGiven choice ts limit a → IsGiven choice ts limit b → a ≡ b
 one_given once choice ts limit a b clear p q =
     p.rows
     ∙ ap₂ (λ (notes : List Note) (links : List (Option Link)). rows_of limit (modules_of choice ts) notes links (whole a)) (once.augments choice ts limit a.augments b.augments clear p.augments q.augments)
@@ -106,7 +106,7 @@ one_given once choice ts limit a b clear p q =
     ∙ ap (rows_of limit (modules_of choice ts) b.augments b.links) (once.schema choice ts limit (whole a) (whole b) clear p.tree q.tree)
     ∙ sym q.rows
 
-files_once : Once → (choice : Selected) (limit : ℕ) (files : List File) (c d : Compilation) → FilesCompile choice limit files c → FilesCompile choice limit files d → c ≡ d
+files_once : Once → (choice : ModuleChoice) (limit : ℕ) (files : List File) (c d : Compilation) → FilesCompile choice limit files c → FilesCompile choice limit files d → c ≡ d
 files_once once choice limit files _ _ (bad_syntax {r} n f ts p at a) (bad_syntax {r = s} m g us q at' b) = ap RefusedAt (one_place once files ts us n m f g r s p at a q at' b)
 files_once once choice limit files _ _ (bad_syntax {r} n f ts p at a) (refuses us q b) = absurd (not_read once files us n f r q at a)
 files_once once choice limit files _ _ (bad_syntax {r} n f ts p at a) (gives_schema us q b is) = absurd (not_read once files us n f r q at a)

@@ -19,7 +19,7 @@ use Rattle.yv_link_scopes.specs.Rows.{Row, is_extended}
 use Rattle.yv_pattern.specs.Spells.{Translates}
 use Rattle.yv_type_restrictions.specs.Types.{HasTypePattern}
 use Rattle.yv_streams.specs.Files.{File}
-use Rattle.yv_statement.specs.Selection.{Selected}
+use Rattle.yv_statement.specs.Selection.{ModuleChoice}
 use Rattle.yv_note_patterns.specs.PatternFailure.{AreNoPatterns, HasNoPattern, IsPatternAmong, TellsPattern, read, unread}
 use Rattle.yv_run.specs.Compiles.{HavePattern}
 use Rattle.yv_run.specs.Notes.{NotesPattern}
@@ -176,14 +176,14 @@ none_among : (rows : List Row) (r : Row) → IsPatternAmong rows r → AreNoPatt
 none_among rows r is none = none is.number r is.at is.keyword is.dialect
 
 -- files with a pattern that isn't built have one
-contradicts : Laws → (files : List File) (choice : Selected) (limit : ℕ) → HavePattern choice limit files → HasNoPattern files → ⊥
+contradicts : Laws → (files : List File) (choice : ModuleChoice) (limit : ℕ) → HavePattern choice limit files → HasNoPattern files → ⊥
 contradicts laws files choice limit have (read trees each none) =
     let row = laws.listed have.trees have.pattern in
     none_among (rows_of have.trees) row.0 row.1 (subst (λ ts. AreNoPatterns (rows_of ts)) (one_list laws files trees have.trees each have.read) none)
 contradicts laws files choice limit have (unread q at) = not_read laws files have.trees at.number at.file at.own have.read at.at at.unread
 
 -- so there is a note where one of them isn't built
-pub notes_pattern : {A E : Type 0} (bytes_of : A → List ℕ) (files : List File) (choice : Selected) (limit : ℕ) (r : Result (Option A) E) → Laws → HavePattern choice limit files
+pub notes_pattern : {A E : Type 0} (bytes_of : A → List ℕ) (files : List File) (choice : ModuleChoice) (limit : ℕ) (r : Result (Option A) E) → Laws → HavePattern choice limit files
     → IfOk r (λ found. IfSome found (λ s. TellsPattern files (bytes_of s))) → IfOk r (λ found. IfNone found (HasNoPattern files))
     → IfOk r (λ found. NotesPattern files (option_map bytes_of found))
 notes_pattern bytes_of files choice limit (Ok None) laws have tells none = absurd (contradicts laws files choice limit have none)

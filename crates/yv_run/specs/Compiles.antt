@@ -4,7 +4,7 @@ use Rattle.std.specs.List.{AllZip}
 use Rattle.yv_statement.specs.Tree.{Tree}
 use Rattle.yv_statement.specs.Order.{IsLeast}
 use Rattle.yv_statement.specs.declared.refusal.Refusal.{Refusal}
-use Rattle.yv_statement.specs.Selection.{Selected}
+use Rattle.yv_statement.specs.Selection.{ModuleChoice}
 use Rattle.yv_type_restrictions.specs.Types.{HasTypePattern}
 use Rattle.yv_nodes.specs.Rows.{Rows, whole}
 use Rattle.yv_nodes.specs.Numbers.{rows_of}
@@ -22,7 +22,7 @@ pub data Compilation : Type 0 where
 
 -- the schema of statements within a limit: the numbered rows of their schema tree, with the modules
 -- that are implemented, the augments that add nodes, and where leafrefs lead
-pub record IsGiven (choice : Selected) (ts : List Tree) (limit : ℕ) (s : Rows) : Type 0 where
+pub record IsGiven (choice : ModuleChoice) (ts : List Tree) (limit : ℕ) (s : Rows) : Type 0 where
   pub tree : IsSchema choice ts (whole s)
   pub augments : AreNotes choice ts s.augments
   pub references : AreReferences choice ts s.links
@@ -30,7 +30,7 @@ pub record IsGiven (choice : Selected) (ts : List Tree) (limit : ℕ) (s : Rows)
 
 -- What files come to under a choice and a limit of what they may expand to: one of them can't be
 -- read, though those before it can; or their statements are refused; or they give their schema.
-pub data FilesCompile (choice : Selected) (limit : ℕ) (files : List File) : Compilation
+pub data FilesCompile (choice : ModuleChoice) (limit : ℕ) (files : List File) : Compilation
     → Type 0 where
   bad_syntax : {r : Refusal} (n : ℕ) (f : File) (ts : List Tree) → AllZip IsRead (take n files) ts
       → slice_get files n ≡ Some f → IsUnread f r
@@ -43,12 +43,12 @@ pub data FilesCompile (choice : Selected) (limit : ℕ) (files : List File) : Co
       → IsGiven choice ts limit schema → FilesCompile choice limit files (HasSchema schema)
 
 -- the files come to some schema
-abbrev pub GiveSchema : Selected → ℕ → List File → Type 0
+abbrev pub GiveSchema : ModuleChoice → ℕ → List File → Type 0
 GiveSchema choice limit files = (schema : Rows) × FilesCompile choice limit files (HasSchema schema)
 
 -- the files can be read, nothing of them is refused before their types, and one of these has a
 -- pattern
-pub record HavePattern (choice : Selected) (limit : ℕ) (files : List File) : Type 0 where
+pub record HavePattern (choice : ModuleChoice) (limit : ℕ) (files : List File) : Type 0 where
   pub trees : List Tree
   pub read : AllZip IsRead files trees
   pub clear : IsLeast (RefusesBeforeTypes choice trees limit) None

@@ -2,7 +2,7 @@
 //! only when all is written.
 ghost use Rattle.std.specs.Prelude.{◌≡◌, ◌↔◌, ◌⊎◌, true, ℕ, map, length, IfOk, IsErrOf, OnErr, None, Ok, option_map, string_bytes};
 ghost use Rattle.yv_job.specs.Jobs.{HasFiles, HasLimit, task_of};
-ghost use Rattle.yv_statement.specs.Selection.{Selected, selected_of};
+ghost use Rattle.yv_statement.specs.Selection.{ModuleChoice, selected_of};
 ghost use Rattle.yv_streams.specs.{Stream.{stream_inner, has_failed, IsFresh, FailsOnceAtMost, TakesAtMost}, Files.{file_of}};
 ghost use Rattle.yv_run.specs.{Compiles.{HavePattern}, Output.{WantsData, IsStopped}, Notes.{NotesPattern, RunsWithNote}, Runs.{Runs, most_read}};
 
@@ -237,7 +237,7 @@ pub fn run_with_note<R: Read, W: Write>(
 
 // What helps a person to fix a pattern that isn't built.
 fn pattern_note(alloc: Global, inputs: &[Input]) -> Result<Option<String>, AllocError>
-    ensures { (choice : Selected) (limit : ℕ) → HavePattern choice limit (map file_of inputs.now)
+    ensures { (choice : ModuleChoice) (limit : ℕ) → HavePattern choice limit (map file_of inputs.now)
         → IfOk result
         (λ note. NotesPattern (map file_of inputs.now) (option_map string_bytes note)) }
 {

@@ -3,7 +3,7 @@ use Rattle.std.proofs.Common.{◌≡◌, ◌↔◌, ◌⊎◌, inl, inr, ℕ, �
 use Rattle.std.specs.Prelude.{Result, IfOk, OnOk}
 use Rattle.yv_statement.specs.declared.refusal.Refusal.{Refusal}
 use Rattle.yv_statement.specs.Order.{IsLeast}
-use Rattle.yv_statement.specs.Selection.{Selected}
+use Rattle.yv_statement.specs.Selection.{ModuleChoice}
 use Rattle.yv_link_scopes.specs.Files.{Files}
 use Rattle.yv_link_scopes.specs.RowList.{rows_of}
 use Rattle.yv_link_features.specs.Refusals.{BadFeatures}
@@ -49,32 +49,32 @@ both_ok (Ok a) P Q p q = (p, q)
 both_ok (Err e) P Q p q = tt
 
 -- a schema by numbered items has a final tree
-pub final_of : (choice : Selected) (files : Files) (nodes : schema.Forest) → IsNumberedSchema choice files nodes → HaveFinalTree choice files
+pub final_of : (choice : ModuleChoice) (files : Files) (nodes : schema.Forest) → IsNumberedSchema choice files nodes → HaveFinalTree choice files
 final_of choice files nodes s =
     subst (λ (fs : Files). HaveFinalTree choice fs) s.of_files (record { final = s.basis.final; is_final = s.is_basis.final })
 
 -- what is refused before files are expanded is refused
-before_expansion : (choice : Selected) (files : Files) (limit : ℕ) (f : Refusal) → RefusesBeforeExpansion files f → RefusesByNumber choice files limit f
+before_expansion : (choice : ModuleChoice) (files : Files) (limit : ℕ) (f : Refusal) → RefusesBeforeExpansion files f → RefusesByNumber choice files limit f
 before_expansion choice files limit f (inl h) = inl (inl h)
 before_expansion choice files limit f (inr (inl h)) = inl (inr (inl h))
 before_expansion choice files limit f (inr (inr h)) = inl (inr (inr (inl h)))
 
-pub none_before : (choice : Selected) (files : Files) (limit : ℕ) → IsLeast (RefusesByNumber choice files limit) None
+pub none_before : (choice : ModuleChoice) (files : Files) (limit : ℕ) → IsLeast (RefusesByNumber choice files limit) None
     → IsLeast (RefusesBeforeExpansion files) None
 none_before choice files limit clear f h = clear f (before_expansion choice files limit f h)
 
 -- what the laws on least refusals say
 pub record LeastLaws : Type 0 where
-  pub with_final_tree : (choice : Selected) (files : Files) (limit : ℕ) (f : Final) (o : Option Refusal)
+  pub with_final_tree : (choice : ModuleChoice) (files : Files) (limit : ℕ) (f : Final) (o : Option Refusal)
       → length (rows_of files) ≤ 4294967293 → IsFinal choice files f
       → IsLeast (RefusesByNumber choice files limit) o ↔ IsLeast (Refuses choice files limit) o
-  pub with_early_refusal : (choice : Selected) (files : Files) (limit : ℕ) (r : Refusal) (o : Option Refusal) → RefusesBeforeExpansion files r
+  pub with_early_refusal : (choice : ModuleChoice) (files : Files) (limit : ℕ) (r : Refusal) (o : Option Refusal) → RefusesBeforeExpansion files r
       → IsLeast (RefusesByNumber choice files limit) o ↔ IsLeast (Refuses choice files limit) o
-  pub past_the_limit : (choice : Selected) (files : Files) (limit : ℕ) (r : Refusal) (o : Option Refusal)
+  pub past_the_limit : (choice : ModuleChoice) (files : Files) (limit : ℕ) (r : Refusal) (o : Option Refusal)
       → IsLeast (TooMany files (marks_of choice files) limit) (Some r)
       → IsLeast (RefusesByNumber choice files limit) o ↔ IsLeast (Refuses choice files limit) o
 
-module _ (least : LeastLaws) (choice : Selected) (files : Files) (limit : ℕ) where
+module _ (least : LeastLaws) (choice : ModuleChoice) (files : Files) (limit : ℕ) where
   -- the refusal that is answered is the least by the tree
   pub refusal_by_tree : (r : Refusal) → Stops choice files limit r → IsLeast (RefusesByNumber choice files limit) (Some r)
       → IsLeast (Refuses choice files limit) (Some r)
@@ -91,7 +91,7 @@ module _ (least : LeastLaws) (choice : Selected) (files : Files) (limit : ℕ) w
       let final : HaveFinalTree choice files = final_of choice files nodes s in
       (least.with_final_tree choice files limit final.final None few final.is_final).0 h
 
-module _ (laws : Laws) (choice : Selected) (files : Files) (limit : ℕ) where
+module _ (laws : Laws) (choice : ModuleChoice) (files : Files) (limit : ℕ) where
   -- where nothing is refused before types by numbered items, nothing is by the tree
   pub before_by_tree : AreFew files → HaveFinalTree choice files → IsLeast (RefusesBeforeTypesByNumber choice files limit) None
       → IsLeast (RefusesBeforeTypes choice files limit) None
@@ -115,7 +115,7 @@ pub record AreFine (files : Files) : Type 0 where
   pub roots : HaveRoots files
   pub fine : IsLeast (BadFeatures files) None
 
-pub fine_of : (laws : Laws) (choice : Selected) (files : Files) (limit : ℕ) → AreFew files → IsLeast (RefusesByNumber choice files limit) None
+pub fine_of : (laws : Laws) (choice : ModuleChoice) (files : Files) (limit : ℕ) → AreFew files → IsLeast (RefusesByNumber choice files limit) None
     → AreFine files
 fine_of laws choice files limit few clear =
     let early : IsLeast (RefusesBeforeExpansion files) None = none_before choice files limit clear in
@@ -129,7 +129,7 @@ fine_of laws choice files limit few clear =
 -- by numbered items each leafref has its link
 abbrev pub EachHasItsLink : Type 0
 EachHasItsLink =
-    (choice : Selected) (files : Files) (limit : ℕ) (tree : schema.Forest) (links : List (Option Link)) → IsLeast (RefusesByNumber choice files limit) None
+    (choice : ModuleChoice) (files : Files) (limit : ℕ) (tree : schema.Forest) (links : List (Option Link)) → IsLeast (RefusesByNumber choice files limit) None
     → (s : IsNumberedSchema choice files tree) → AreNumberedReferences choice files links
     → (n : ℕ) (row : Row) (ref : Referral) → IsLeafref (by_number.leafrefs_of s.basis) n row ref
     → (link : Link) × (reference_in links n ≡ Some link) × RefersTo (by_number.leafrefs_of s.basis) n link.target × (link.is_required ≡ ref.is_required)
@@ -140,7 +140,7 @@ HasItsLink s links =
     (n : ℕ) (row : Row) (ref : Referral) → IsLeafref s n row ref
     → (link : Link) × (reference_in links n ≡ Some link) × RefersTo s n link.target × (link.is_required ≡ ref.is_required)
 
-module _ (laws : Laws) (linked : EachHasItsLink) (choice : Selected) (limit : ℕ) (tree : schema.Forest) (links : List (Option Link)) where
+module _ (laws : Laws) (linked : EachHasItsLink) (choice : ModuleChoice) (limit : ℕ) (tree : schema.Forest) (links : List (Option Link)) where
   linked_of : (t : Basis) (f : Final) → AreFine t.files → IsFinal choice t.files f → by_tree.IsBasis choice t
       → IsTyped (by_tree.leafrefs_of t) (by_tree.stated_of t) tree → IsLeast (RefusesByNumber choice t.files limit) None
       → AreNumberedReferences choice t.files links → HasItsLink (by_tree.leafrefs_of t) links

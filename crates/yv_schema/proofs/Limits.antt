@@ -3,7 +3,7 @@ use Rattle.std.proofs.Common.{◌≡◌, ◌↔◌, ◌⊎◌, inl, inr, ℕ, �
 use Rattle.yv_statement.specs.Codes.{phase_of}
 use Rattle.yv_statement.specs.declared.refusal.Refusal.{Refusal}
 use Rattle.yv_statement.specs.Order.{IsLeast, IsUpTo}
-use Rattle.yv_statement.specs.Selection.{Selected}
+use Rattle.yv_statement.specs.Selection.{ModuleChoice}
 use Rattle.yv_statement.proofs.Least.{least_same, up_to_both, up_to_trans}
 use Rattle.yv_link_scopes.specs.Files.{Files}
 use Rattle.yv_expand.specs.Limit.{TooMany}
@@ -33,7 +33,7 @@ same_behind P Q R r stands after_q after_r (Some s) (inr q, least) = (
   λ t h. elim h [ inl x ↦ least t (inl x) | inr y ↦ up_to_trans s r t (least r (inl stands)) (after_r t y) ],
 )
 
-module _ (choice : Selected) (files : Files) (limit : ℕ) where
+module _ (choice : ModuleChoice) (files : Files) (limit : ℕ) where
   abbrev Many : Refusal → Type 0
   Many f = TooMany files (marks_of choice files) limit f
 

@@ -6,7 +6,7 @@ use Rattle.std.proofs.lemmas.Bool.{eq-eqb, eqb-true}
 use Rattle.std.proofs.lemmas.Simd.{map-map}
 use Rattle.std.proofs.lemmas.Option.{get_or_from_slice_get, same_Some, slice_get-map}
 use Rattle.yv_statement.specs.Order.{IsLeast}
-use Rattle.yv_statement.specs.Selection.{Selected}
+use Rattle.yv_statement.specs.Selection.{ModuleChoice}
 use Rattle.yv_base_tables.specs.Families.{is_place, numbers_at}
 use Rattle.yv_link_scopes.specs.Files.{Files, brief_of}
 use Rattle.yv_link_scopes.specs.RowList.{rows_of}
@@ -41,7 +41,7 @@ use Rattle.yv_schema.proofs.Trees.{shown_basis}
 -- a node that an augment of a module gives is below the one to which the augment adds
 abbrev pub GivenBelow : Type 0
 GivenBelow =
-    (choice : Selected) (files : Files) (truth : Truth) (f : Final) (nodes : Nodes) (place giver : ℕ) (x : Node)
+    (choice : ModuleChoice) (files : Files) (truth : Truth) (f : Final) (nodes : Nodes) (place giver : ℕ) (x : Node)
     → IsFinal choice files f → AreLeft truth files f nodes → slice_get (item_list None 0 nodes) place ≡ Some x
     → source_at (spots_of files f) f.augments x.origin ≡ Some giver
     → (target : ℕ) × (node : Node) × (x.parent ≡ Some target) × (slice_get (item_list None 0 nodes) target ≡ Some node)
@@ -50,13 +50,13 @@ GivenBelow =
 -- no item is left twice
 abbrev pub LeftOnce : Type 0
 LeftOnce =
-    (choice : Selected) (files : Files) (truth : Truth) (f : Final) (nodes : Nodes) (i k : ℕ) (x y : Node)
+    (choice : ModuleChoice) (files : Files) (truth : Truth) (f : Final) (nodes : Nodes) (i k : ℕ) (x y : Node)
     → IsFinal choice files f → AreLeft truth files f nodes → slice_get (item_list None 0 nodes) i ≡ Some x
     → slice_get (item_list None 0 nodes) k ≡ Some y → x.origin ≡ y.origin → i ≡ k
 
 -- no augment of a module is there twice
 abbrev pub AugmentsApart : Type 0
-AugmentsApart = (choice : Selected) (files : Files) → AreApart (augments_of (map brief_of files) (rows_of files) (marks_of choice files))
+AugmentsApart = (choice : ModuleChoice) (files : Files) → AreApart (augments_of (map brief_of files) (rows_of files) (marks_of choice files))
 
 get_back : {A B : Type 0} (f : A → B) (xs : List A) (n : ℕ) (y : B) → slice_get (map f xs) n ≡ Some y → (x : A) × (slice_get xs n ≡ Some x) × (f x ≡ y)
 get_back f [] n y at = absurd (not_none at)
@@ -75,7 +75,7 @@ same_note b (Some r) wanted got (n ∷ others) one empty =
     ap (λ (w : Option ℕ). by_number.note_of_augment b (Some r) w (map (λ n. record { 0 = n }) (n ∷ others))) o.1
     ∙ sym (ap (λ (g : Option ℕ). by_tree.note_of_augment b.files (Some r) g (n ∷ others)) o.2)
 
-module _ (choice : Selected) (b : NumberedBasis) (its : Items) (is : IsNumberedBasis choice b) (told : ShowFiles b.files (marks_of choice b.files) b.final.items its)
+module _ (choice : ModuleChoice) (b : NumberedBasis) (its : Items) (is : IsNumberedBasis choice b) (told : ShowFiles b.files (marks_of choice b.files) b.final.items its)
     (given_below : GivenBelow) (once : LeftOnce) (apart : AreApart b.final.augments) where
   abbrev t : Basis
   t = shown_basis its b
@@ -160,12 +160,12 @@ module _ (choice : Selected) (b : NumberedBasis) (its : Items) (is : IsNumberedB
 
 module _ (left_is_schema : (files : Files) → LeftIsSchema files) (are_items : LeftAreItems)
     (given_below : GivenBelow) (once : LeftOnce) (apart : AugmentsApart) where
-  notes_are : (choice : Selected) (b : NumberedBasis) (its : Items) → IsNumberedBasis choice b → ShowFiles b.files (marks_of choice b.files) b.final.items its
+  notes_are : (choice : ModuleChoice) (b : NumberedBasis) (its : Items) → IsNumberedBasis choice b → ShowFiles b.files (marks_of choice b.files) b.final.items its
       → by_number.notes_of b ≡ by_tree.notes_of choice (shown_basis its b)
   notes_are choice b its is told = same_notes choice b its is told given_below once (subst AreApart (sym is.final.augments) (apart choice b.files))
 
   -- notes by numbered items are notes by the tree
-  pub gives_notes : (choice : Selected) (files : Files) (notes : List Note) → AreSound files → HaveRoots files
+  pub gives_notes : (choice : ModuleChoice) (files : Files) (notes : List Note) → AreSound files → HaveRoots files
       → IsLeast (BadFeatures files) None → AreNumberedNotes choice files notes → AreNotes choice files notes
   gives_notes choice files notes sound roots fine n =
       subst (λ (fs : Files). AreSound fs → HaveRoots fs → IsLeast (BadFeatures fs) None → AreNotes choice fs notes) n.of_files
@@ -177,7 +177,7 @@ module _ (left_is_schema : (files : Files) → LeftIsSchema files) (are_items : 
       }) sound roots fine
 
   -- notes by the tree are notes by numbered items, where there is a final tree by number
-  pub takes_notes : OneNodes → (choice : Selected) (files : Files) (notes : List Note) (f : Final) → AreSound files → HaveRoots files
+  pub takes_notes : OneNodes → (choice : ModuleChoice) (files : Files) (notes : List Note) (f : Final) → AreSound files → HaveRoots files
       → IsLeast (BadFeatures files) None → IsFinal choice files f → AreNotes choice files notes → AreNumberedNotes choice files notes
   takes_notes one choice files notes f sound roots fine final n =
       subst (λ (fs : Files). AreSound fs → HaveRoots fs → IsLeast (BadFeatures fs) None → IsFinal choice fs f → AreNumberedNotes choice fs notes) n.of_files

@@ -4,7 +4,7 @@ use Rattle.yv_statement.specs.Tree.{Tree}
 use Rattle.yv_statement.specs.Codes.{phase_of}
 use Rattle.yv_statement.specs.declared.refusal.Refusal.{Refusal}
 use Rattle.yv_statement.specs.Order.{IsLeast, IsUpTo}
-use Rattle.yv_statement.specs.Selection.{Selected}
+use Rattle.yv_statement.specs.Selection.{ModuleChoice}
 use Rattle.yv_link_scopes.specs.Files.{Files}
 use Rattle.yv_link.specs.Links.{BadLinks}
 use Rattle.yv_expand_tree.specs.Refusals.{BadExpansion}
@@ -39,7 +39,7 @@ file_phase n t f h = ap (λ (r : Refusal). phase_of r.code) h.is ∙ (is_own t h
 
 -- what is refused of the expansion has the phases 7 and 8, and of links the phases up to 5
 abbrev pub ExpansionsHavePhases : Type 0
-ExpansionsHavePhases = (choice : Selected) (files : Files) (limit : ℕ) (f : Refusal) → BadExpansion choice files limit f
+ExpansionsHavePhases = (choice : ModuleChoice) (files : Files) (limit : ℕ) (f : Refusal) → BadExpansion choice files limit f
     → (6 < phase_of f.code) × (phase_of f.code ≤ 8)
 
 abbrev pub LinksHavePhases : Type 0
@@ -58,7 +58,7 @@ either_phase w (inl (inr is)) = ap phase_of is
 either_phase w (inr (inl is)) = ap phase_of is
 either_phase w (inr (inr is)) = ap phase_of is
 
-pub expanded_phase : (choice : Selected) (files : Files) (f : Refusal) → BadExpanded choice files f → phase_of f.code ≡ 8
+pub expanded_phase : (choice : ModuleChoice) (files : Files) (f : Refusal) → BadExpanded choice files f → phase_of f.code ≡ 8
 expanded_phase choice files f h = ap (λ (r : Refusal). phase_of r.code) h.is ∙ elim h.is_wrong [
   | inl there ↦ either_phase h.wrong (refused_is files (marks_of choice files) (order_of choice files) h.made h.expand h.wrong there)
   | inr x ↦ elim x [ inl imposes ↦ ap phase_of imposes.0 | inr deep ↦ ap phase_of deep.0 ]
@@ -111,7 +111,7 @@ nodes_phase s top f (inl h) = rows_phase top f h
 nodes_phase s top f (inr (inl h)) = tree_phase top f h
 nodes_phase s top f (inr (inr h)) = leafrefs_phase s f h
 
-module _ (phases : ExpansionsHavePhases) (choice : Selected) (files : Files) (limit : ℕ) where
+module _ (phases : ExpansionsHavePhases) (choice : ModuleChoice) (files : Files) (limit : ℕ) where
   typing_late : (f : Refusal) → BadTyping choice files f → 6 < phase_of f.code
   typing_late f h = let e : phase_of f.code ≡ 9 = types_phase files h.truth f h.bad in omega (arith, e)
 

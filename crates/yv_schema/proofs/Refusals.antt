@@ -3,7 +3,7 @@ use Rattle.std.proofs.Common.{◌↔◌, ◌⊎◌, inl, inr, ℕ, ◌≤◌, le
 use Rattle.std.proofs.lemmas.Option.{slice_get_within}
 use Rattle.yv_statement.specs.declared.refusal.Refusal.{Refusal}
 use Rattle.yv_statement.specs.Order.{IsLeast}
-use Rattle.yv_statement.specs.Selection.{Selected}
+use Rattle.yv_statement.specs.Selection.{ModuleChoice}
 use Rattle.yv_statement.proofs.Least.{least_same}
 use Rattle.yv_link_scopes.specs.Files.{Files}
 use Rattle.yv_link_scopes.specs.RowList.{rows_of}
@@ -31,7 +31,7 @@ use Rattle.yv_schema.proofs.Schemas.{LeftAreItems, OneNodes, shown, shown_same, 
 use Rattle.yv_schema.proofs.Trees.{AreSame, same_leafrefs, same_stated, shown_basis}
 
 module _ (left_is_schema : (files : Files) → LeftIsSchema files) (are_items : LeftAreItems) where
-  bad_of : (choice : Selected) (b : NumberedBasis) (top : schema.Forest) (f : Refusal) → AreSound b.files → HaveRoots b.files
+  bad_of : (choice : ModuleChoice) (b : NumberedBasis) (top : schema.Forest) (f : Refusal) → AreSound b.files → HaveRoots b.files
       → IsLeast (BadFeatures b.files) None → IsNumberedBasis choice b → IsTyped (by_number.leafrefs_of b) (by_number.stated_of b) top
       → BadWith (by_number.leafrefs_of b) top f → BadSchema choice b.files f
   bad_of choice b top f sound roots fine is typed bad =
@@ -51,13 +51,13 @@ module _ (left_is_schema : (files : Files) → LeftIsSchema files) (are_items : 
       }
 
   -- what is wrong with a schema tree by numbered items is wrong with that of the tree
-  pub schema_gives : (choice : Selected) (files : Files) (f : Refusal) → AreSound files → HaveRoots files → IsLeast (BadFeatures files) None
+  pub schema_gives : (choice : ModuleChoice) (files : Files) (f : Refusal) → AreSound files → HaveRoots files → IsLeast (BadFeatures files) None
       → BadNumberedSchema choice files f → BadSchema choice files f
   schema_gives choice files f sound roots fine h =
       subst (λ (fs : Files). AreSound fs → HaveRoots fs → IsLeast (BadFeatures fs) None → BadSchema choice fs f) h.schema.of_files
       (λ sound roots fine. bad_of choice h.schema.basis h.tree f sound roots fine h.schema.is_basis h.schema.is h.stands) sound roots fine
 
-  tree_bad_of : OneNodes → (choice : Selected) (t : Basis) (top : schema.Forest) (final : Final) (f : Refusal) → AreSound t.files
+  tree_bad_of : OneNodes → (choice : ModuleChoice) (t : Basis) (top : schema.Forest) (final : Final) (f : Refusal) → AreSound t.files
       → HaveRoots t.files → IsLeast (BadFeatures t.files) None → IsFinal choice t.files final → IsBasis choice t
       → IsTyped (by_tree.leafrefs_of t) (by_tree.stated_of t) top → BadWith (by_tree.leafrefs_of t) top f → BadNumberedSchema choice t.files f
   tree_bad_of one choice t top final f sound roots fine is_final is typed bad =
@@ -80,7 +80,7 @@ module _ (left_is_schema : (files : Files) → LeftIsSchema files) (are_items : 
       }
 
   -- and the other way round, where there is a final tree by number
-  pub schema_takes : OneNodes → (choice : Selected) (files : Files) (final : Final) (f : Refusal) → AreSound files → HaveRoots files
+  pub schema_takes : OneNodes → (choice : ModuleChoice) (files : Files) (final : Final) (f : Refusal) → AreSound files → HaveRoots files
       → IsLeast (BadFeatures files) None → IsFinal choice files final → BadSchema choice files f → BadNumberedSchema choice files f
   schema_takes one choice files final f sound roots fine is_final h =
       subst (λ (fs : Files). AreSound fs → HaveRoots fs → IsLeast (BadFeatures fs) None → IsFinal choice fs final → BadNumberedSchema choice fs f)
@@ -89,14 +89,14 @@ module _ (left_is_schema : (files : Files) → LeftIsSchema files) (are_items : 
       sound roots fine is_final
 
 -- what is refused from the expansion on, by numbered items, and by the tree
-abbrev pub Later : Selected → Files → (limit : ℕ) → Refusal → Type 0
+abbrev pub Later : ModuleChoice → Files → (limit : ℕ) → Refusal → Type 0
 Later choice files limit f = BadExpansion choice files limit f ⊎ (BadTyping choice files f ⊎ BadNumberedSchema choice files f)
 
-abbrev pub TreeLater : Selected → Files → (limit : ℕ) → Refusal → Type 0
+abbrev pub TreeLater : ModuleChoice → Files → (limit : ℕ) → Refusal → Type 0
 TreeLater choice files limit f = RefusesExpansion choice files limit f ⊎ (BadTyping choice files f ⊎ BadSchema choice files f)
 
 -- the same refusals, with those before the expansion together
-together : (choice : Selected) (files : Files) (limit : ℕ) (f : Refusal) → RefusesByNumber choice files limit f
+together : (choice : ModuleChoice) (files : Files) (limit : ℕ) (f : Refusal) → RefusesByNumber choice files limit f
     → RefusesBeforeExpansion files f ⊎ Later choice files limit f
 together choice files limit f (inl (inl h)) = inl (inl h)
 together choice files limit f (inl (inr (inl h))) = inl (inr (inl h))
@@ -104,7 +104,7 @@ together choice files limit f (inl (inr (inr (inl h)))) = inl (inr (inr h))
 together choice files limit f (inl (inr (inr (inr h)))) = inr (inl h)
 together choice files limit f (inr h) = inr (inr h)
 
-apart : (choice : Selected) (files : Files) (limit : ℕ) (f : Refusal) → RefusesBeforeExpansion files f ⊎ Later choice files limit f
+apart : (choice : ModuleChoice) (files : Files) (limit : ℕ) (f : Refusal) → RefusesBeforeExpansion files f ⊎ Later choice files limit f
     → RefusesByNumber choice files limit f
 apart choice files limit f (inl (inl h)) = inl (inl h)
 apart choice files limit f (inl (inr (inl h))) = inl (inr (inl h))
@@ -121,7 +121,7 @@ pub record Laws : Type 0 where
   pub roots : (files : Files) → NoFileIsBad files → HaveRoots files
   pub refusals : (files : Files) → ConformingRefusalsAreOne files
 
-module _ (laws : Laws) (choice : Selected) (files : Files) (limit : ℕ) where
+module _ (laws : Laws) (choice : ModuleChoice) (files : Files) (limit : ℕ) where
   module _ (f : Final) (accepted : AreAccepted files) (fine : IsLeast (BadFeatures files) None) (final : IsFinal choice files f) where
     later_to : (r : Refusal) → Later choice files limit r → TreeLater choice files limit r
     later_to r (inl (inl h)) = inl (inl h)

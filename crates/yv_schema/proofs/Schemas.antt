@@ -2,7 +2,7 @@
 use Rattle.std.proofs.Common.{◌≡◌, ℕ, Bool, List, length, map, refl, sym, ap, subst, Option, Some, None}
 use Rattle.std.specs.List.{slice_get}
 use Rattle.yv_statement.specs.Order.{IsLeast}
-use Rattle.yv_statement.specs.Selection.{Selected}
+use Rattle.yv_statement.specs.Selection.{ModuleChoice}
 use Rattle.yv_link_scopes.specs.Files.{Files, brief_of}
 use Rattle.yv_link_scopes.specs.RowList.{rows_of}
 use Rattle.yv_link_features.specs.Refusals.{BadFeatures}
@@ -40,22 +40,22 @@ use Rattle.yv_schema.proofs.Trees.{AreSame, same_item, same_leafrefs, same_state
 -- what is left are numbered items that are there
 abbrev pub LeftAreItems : Type 0
 LeftAreItems =
-    (choice : Selected) (files : Files) (truth : Truth) (f : Final) (nodes : Nodes) (place : ℕ) (x : Node)
+    (choice : ModuleChoice) (files : Files) (truth : Truth) (f : Final) (nodes : Nodes) (place : ℕ) (x : Node)
     → IsFinal choice files f → AreLeft truth files f nodes → slice_get (item_list None 0 nodes) place ≡ Some x
     → (s : Spot) × (item : Item) × (slice_get (spots_of files f) x.origin ≡ Some s) × (slice_get f.items x.origin ≡ Some item)
 
 -- files have one list of nodes
 abbrev pub OneNodes : Type 0
-OneNodes = (choice : Selected) (files : Files) (first second : Forest) → AreNodes choice files first → AreNodes choice files second → first ≡ second
+OneNodes = (choice : ModuleChoice) (files : Files) (first second : Forest) → AreNodes choice files first → AreNodes choice files second → first ≡ second
 
 -- the items of a final tree come behind their parents
-pub items_follow : (choice : Selected) (files : Files) (f : Final) → IsFinal choice files f → Follow 0 f.items
+pub items_follow : (choice : ModuleChoice) (files : Files) (f : Final) → IsFinal choice files f → Follow 0 f.items
 items_follow choice files f final =
     subst (Follow 0) (sym final.expanded.listed)
     (listed_follow None 0 (join (all_of final.expanded.trees) (all_of final.expanded.added)) (λ p none. absurd (not_none none)))
 
 -- something is left of each final tree, whatever conditions hold
-pub what_is_left : (choice : Selected) (files : Files) (truth : Truth) (f : Final) → IsFinal choice files f → (nodes : Nodes) × AreLeft truth files f nodes
+pub what_is_left : (choice : ModuleChoice) (files : Files) (truth : Truth) (f : Final) → IsFinal choice files f → (nodes : Nodes) × AreLeft truth files f nodes
 what_is_left choice files truth f final =
     let on = are_on (rows_of files) (spots_of files f) (is_marked (statement_marks truth files))
     (is_marked (item_marks (statement_marks truth files) (spots_of files f) (changes_of files f))) f.items (items_follow choice files f final) in
@@ -67,7 +67,7 @@ with_nodes t nodes = record { files = t.files; truth = t.truth; typing = t.typin
 
 module _ (left_is_schema : (files : Files) → LeftIsSchema files) (are_items : LeftAreItems) where
   -- what the numbered items of the nodes of a basis show
-  pub shown_same : (choice : Selected) (b : NumberedBasis) (its : Items) → IsNumberedBasis choice b → ShowFiles b.files (marks_of choice b.files) b.final.items its
+  pub shown_same : (choice : ModuleChoice) (b : NumberedBasis) (its : Items) → IsNumberedBasis choice b → ShowFiles b.files (marks_of choice b.files) b.final.items its
       → AreSame its b
   shown_same choice b its is tells k x at =
       let marks : List Bool = marks_of choice b.files in
@@ -78,19 +78,19 @@ module _ (left_is_schema : (files : Files) → LeftIsSchema files) (are_items : 
       same_item b.files b.final its giver_at told x.origin r.0 r.1 r.2 r.3
 
   -- what a basis by numbered items shows is the basis of a tree
-  pub record Shown (choice : Selected) (b : NumberedBasis) : Type 0 where
+  pub record Shown (choice : ModuleChoice) (b : NumberedBasis) : Type 0 where
     pub its : Items
     pub told : ShowFiles b.files (marks_of choice b.files) b.final.items its
     pub is_basis : IsBasis choice (shown_basis its b)
 
-  pub shown : (choice : Selected) (b : NumberedBasis) → AreSound b.files → HaveRoots b.files → IsLeast (BadFeatures b.files) None → IsNumberedBasis choice b
+  pub shown : (choice : ModuleChoice) (b : NumberedBasis) → AreSound b.files → HaveRoots b.files → IsLeast (BadFeatures b.files) None → IsNumberedBasis choice b
       → Shown choice b
   shown choice b sound roots fine is =
       let r = left_is_schema b.files choice b.truth b.final b.nodes sound roots fine is.truth is.final is.nodes in
       record { its = r.0; told = r.1; is_basis = record { truth = is.truth; typing = is.typing; nodes = r.2 } }
 
   -- the basis of a tree is what one by numbered items shows
-  pub record Shows (choice : Selected) (t : Basis) : Type 0 where
+  pub record Shows (choice : ModuleChoice) (t : Basis) : Type 0 where
     pub basis : NumberedBasis
     pub of_files : basis.files ≡ t.files
     pub is_basis : IsNumberedBasis choice basis
@@ -98,7 +98,7 @@ module _ (left_is_schema : (files : Files) → LeftIsSchema files) (are_items : 
     pub told : ShowFiles basis.files (marks_of choice basis.files) basis.final.items its
     pub same : t ≡ shown_basis its basis
 
-  pub shows : OneNodes → (choice : Selected) (t : Basis) (f : Final) → AreSound t.files → HaveRoots t.files
+  pub shows : OneNodes → (choice : ModuleChoice) (t : Basis) (f : Final) → AreSound t.files → HaveRoots t.files
       → IsLeast (BadFeatures t.files) None → IsFinal choice t.files f → IsBasis choice t → Shows choice t
   shows one choice t f sound roots fine final is =
       let left = what_is_left choice t.files t.truth f final in
@@ -112,7 +112,7 @@ module _ (left_is_schema : (files : Files) → LeftIsSchema files) (are_items : 
         same = ap (with_nodes t) (one choice t.files t.nodes (shown_nodes r.0 left.0) is.nodes r.2);
       }
 
-  gives_of : (choice : Selected) (b : NumberedBasis) (nodes : schema.Forest) → AreSound b.files → HaveRoots b.files
+  gives_of : (choice : ModuleChoice) (b : NumberedBasis) (nodes : schema.Forest) → AreSound b.files → HaveRoots b.files
       → IsLeast (BadFeatures b.files) None → IsNumberedBasis choice b → IsTyped (by_number.leafrefs_of b) (by_number.stated_of b) nodes
       → IsSchema choice b.files nodes
   gives_of choice b nodes sound roots fine is typed =
@@ -128,13 +128,13 @@ module _ (left_is_schema : (files : Files) → LeftIsSchema files) (are_items : 
       }
 
   -- a schema by numbered items is one by the tree
-  pub gives : (choice : Selected) (files : Files) (nodes : schema.Forest) → AreSound files → HaveRoots files
+  pub gives : (choice : ModuleChoice) (files : Files) (nodes : schema.Forest) → AreSound files → HaveRoots files
       → IsLeast (BadFeatures files) None → IsNumberedSchema choice files nodes → IsSchema choice files nodes
   gives choice files nodes sound roots fine s =
       subst (λ (fs : Files). AreSound fs → HaveRoots fs → IsLeast (BadFeatures fs) None → IsSchema choice fs nodes) s.of_files
       (λ sound roots fine. gives_of choice s.basis nodes sound roots fine s.is_basis s.is) sound roots fine
 
-  takes_of : OneNodes → (choice : Selected) (t : Basis) (nodes : schema.Forest) (f : Final) → AreSound t.files → HaveRoots t.files
+  takes_of : OneNodes → (choice : ModuleChoice) (t : Basis) (nodes : schema.Forest) (f : Final) → AreSound t.files → HaveRoots t.files
       → IsLeast (BadFeatures t.files) None → IsFinal choice t.files f → IsBasis choice t
       → IsTyped (by_tree.leafrefs_of t) (by_tree.stated_of t) nodes → IsNumberedSchema choice t.files nodes
   takes_of one choice t nodes f sound roots fine final is typed =
@@ -151,14 +151,14 @@ module _ (left_is_schema : (files : Files) → LeftIsSchema files) (are_items : 
       }
 
   -- a schema by the tree is one by numbered items, where there is a final tree by number
-  pub takes : OneNodes → (choice : Selected) (files : Files) (nodes : schema.Forest) (f : Final) → AreSound files → HaveRoots files
+  pub takes : OneNodes → (choice : ModuleChoice) (files : Files) (nodes : schema.Forest) (f : Final) → AreSound files → HaveRoots files
       → IsLeast (BadFeatures files) None → IsFinal choice files f → IsSchema choice files nodes → IsNumberedSchema choice files nodes
   takes one choice files nodes f sound roots fine final s =
       subst (λ (fs : Files). AreSound fs → HaveRoots fs → IsLeast (BadFeatures fs) None → IsFinal choice fs f → IsNumberedSchema choice fs nodes) s.of_files
       (λ sound roots fine final. takes_of one choice s.basis nodes f sound roots fine final s.is_basis s.is) sound roots fine final
 
   -- links by numbered items are links by the tree
-  pub gives_links : (choice : Selected) (files : Files) (links : List (Option Link)) → AreSound files → HaveRoots files
+  pub gives_links : (choice : ModuleChoice) (files : Files) (links : List (Option Link)) → AreSound files → HaveRoots files
       → IsLeast (BadFeatures files) None → AreNumberedReferences choice files links → AreReferences choice files links
   gives_links choice files links sound roots fine r =
       subst (λ (fs : Files). AreSound fs → HaveRoots fs → IsLeast (BadFeatures fs) None → AreReferences choice fs links) r.of_files
@@ -170,7 +170,7 @@ module _ (left_is_schema : (files : Files) → LeftIsSchema files) (are_items : 
       }) sound roots fine
 
   -- links by the tree are links by numbered items, where there is a final tree by number
-  pub takes_links : OneNodes → (choice : Selected) (files : Files) (links : List (Option Link)) (f : Final) → AreSound files → HaveRoots files
+  pub takes_links : OneNodes → (choice : ModuleChoice) (files : Files) (links : List (Option Link)) (f : Final) → AreSound files → HaveRoots files
       → IsLeast (BadFeatures files) None → IsFinal choice files f → AreReferences choice files links → AreNumberedReferences choice files links
   takes_links one choice files links f sound roots fine final r =
       subst (λ (fs : Files). AreSound fs → HaveRoots fs → IsLeast (BadFeatures fs) None → IsFinal choice fs f → AreNumberedReferences choice fs links) r.of_files

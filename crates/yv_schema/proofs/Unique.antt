@@ -1,7 +1,7 @@
 -- Files have one basis by the tree, and so one schema, one list of augments and one of links.
 use Rattle.std.proofs.Common.{◌≡◌, ℕ, List, refl, sym, ap, ◌∙◌, subst, Bool, Option, None}
 use Rattle.yv_statement.specs.Order.{IsLeast}
-use Rattle.yv_statement.specs.Selection.{Selected}
+use Rattle.yv_statement.specs.Selection.{ModuleChoice}
 use Rattle.yv_link_scopes.specs.Files.{Files}
 use Rattle.yv_link_features.specs.On.{Holds}
 use Rattle.yv_link_features.specs.Refusals.{BadFeatures}
@@ -21,12 +21,12 @@ use Rattle.yv_schema.proofs.Schemas.{OneNodes}
 
 -- an expression in files has one truth, where nothing is wrong with their features
 abbrev pub HasOneTruth : Type 0
-HasOneTruth = (files : Files) (choice : Selected) (file : ℕ) (text : List ℕ) (a b : Bool) → IsLeast (BadFeatures files) None
+HasOneTruth = (files : Files) (choice : ModuleChoice) (file : ℕ) (text : List ℕ) (a b : Bool) → IsLeast (BadFeatures files) None
     → Holds files choice file text a → Holds files choice file text b → a ≡ b
 
 -- the types of files are told in one way
 abbrev pub HaveOneTyping : Type 0
-HaveOneTyping = (files : Files) (choice : Selected) (truth : Truth) (a b : TypeMeanings) → AreTyped files choice truth a → AreTyped files choice truth b → a ≡ b
+HaveOneTyping = (files : Files) (choice : ModuleChoice) (truth : Truth) (a b : TypeMeanings) → AreTyped files choice truth a → AreTyped files choice truth b → a ≡ b
 
 -- a schema comes to one tree, and its leafrefs lead one way
 abbrev pub IsTypedOnce : Type 0
@@ -42,7 +42,7 @@ same_truth t u h = λ i file text. h file text i
 abbrev basis_of : Files → Truth → TypeMeanings → expanded.Forest → Basis
 basis_of files truth typing nodes = record { files = files; truth = truth; typing = typing; nodes = nodes }
 
-module _ (one_truth : HasOneTruth) (one_typing : HaveOneTyping) (one_nodes : OneNodes) (choice : Selected) (files : Files)
+module _ (one_truth : HasOneTruth) (one_typing : HaveOneTyping) (one_nodes : OneNodes) (choice : ModuleChoice) (files : Files)
     (fine : IsLeast (BadFeatures files) None) where
   -- whichever truth, types and nodes these are
   pub one_basis : (p q : Basis) → p.files ≡ files → q.files ≡ files → IsBasis choice p → IsBasis choice q → p ≡ q

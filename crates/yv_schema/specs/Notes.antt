@@ -1,7 +1,7 @@
 -- The augments of modules that add nodes, as nodes of the tree to which files expand (RFC 7950,
 -- section 7.17).
 use Rattle.std.specs.Prelude.{◌≡◌, ℕ, ◌+◌, List, [], ◌∷◌, ◌++◌, map, Option, Some, None, slice_get, slice_index_or}
-use Rattle.yv_statement.specs.Selection.{Selected}
+use Rattle.yv_statement.specs.Selection.{ModuleChoice}
 use Rattle.yv_base_tables.specs.Families.{numbers_at}
 use Rattle.yv_link_scopes.specs.Files.{Files, brief_of, module_file_at}
 use Rattle.yv_link_scopes.specs.RowList.{rows_of}
@@ -56,12 +56,12 @@ notes_from b (a ∷ others) =
 
 -- the augments at the tops of the implemented modules and their submodules of which a node is left,
 -- by file and statement
-abbrev pub notes_of : Selected → Basis → List Note
+abbrev pub notes_of : ModuleChoice → Basis → List Note
 notes_of choice b =
     notes_from b (augments_of (map brief_of b.files) (rows_of b.files) (marks_of choice b.files))
 
 -- these are the augments of the files' modules that add nodes to the tree to which files expand
-pub record AreNotes (choice : Selected) (files : Files) (notes : List Note) : Type 0 where
+pub record AreNotes (choice : ModuleChoice) (files : Files) (notes : List Note) : Type 0 where
   pub basis : Basis
   pub of_files : basis.files ≡ files
   pub is_basis : IsBasis choice basis

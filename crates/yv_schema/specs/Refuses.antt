@@ -2,7 +2,7 @@
 -- 7.5 to 7.17, and 9.9).
 use Rattle.std.specs.Prelude.{◌⊎◌, ℕ}
 use Rattle.yv_statement.specs.declared.refusal.Refusal.{Refusal}
-use Rattle.yv_statement.specs.Selection.{Selected}
+use Rattle.yv_statement.specs.Selection.{ModuleChoice}
 use Rattle.yv_link_scopes.specs.Files.{Files}
 use Rattle.yv_expand.specs.Limit.{TooMany}
 use Rattle.yv_expand_tree.specs.FileOrder.{marks_of}
@@ -20,24 +20,24 @@ abbrev pub BadNodes : Basis → Forest → Refusal → Type 0
 BadNodes b top f = BadRows top f ⊎ (BadTree top f ⊎ BadLeafrefs (leafrefs_of b) f)
 
 -- f is in the schema tree of the files
-pub record BadSchema (choice : Selected) (files : Files) (f : Refusal) : Type 0 where
+pub record BadSchema (choice : ModuleChoice) (files : Files) (f : Refusal) : Type 0 where
   pub tree : Forest
   pub schema : IsSchema choice files tree
   pub stands : BadNodes schema.basis tree f
 
 -- the expansion passes the limit, or something is wrong with what the files expand to
-abbrev pub RefusesExpansion : Selected → Files → (limit : ℕ) → Refusal → Type 0
+abbrev pub RefusesExpansion : ModuleChoice → Files → (limit : ℕ) → Refusal → Type 0
 RefusesExpansion choice files limit f =
     TooMany files (marks_of choice files) limit f ⊎ BadExpanded choice files f
 
 -- what is refused before types are read
-abbrev pub RefusesBeforeTypes : Selected → Files → (limit : ℕ) → Refusal → Type 0
+abbrev pub RefusesBeforeTypes : ModuleChoice → Files → (limit : ℕ) → Refusal → Type 0
 RefusesBeforeTypes choice files limit f =
     RefusesBeforeExpansion files f ⊎ RefusesExpansion choice files limit f
 
 -- the refusals of files: those before the expansion, those of the tree to which they expand, those
 -- of the types of every file, and those of the schema tree
-abbrev pub Refuses : Selected → Files → (limit : ℕ) → Refusal → Type 0
+abbrev pub Refuses : ModuleChoice → Files → (limit : ℕ) → Refusal → Type 0
 Refuses choice files limit f =
     RefusesBeforeExpansion files f
     ⊎ (RefusesExpansion choice files limit f

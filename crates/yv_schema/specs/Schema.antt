@@ -2,7 +2,7 @@
 -- 7.17, and 9.9).
 use Rattle.std.specs.Prelude.{◌≡◌, List, [], ◌∷◌, ◌++◌, Option, slice_get}
 use Rattle.std.specs.Option.{option_and_then}
-use Rattle.yv_statement.specs.Selection.{Selected}
+use Rattle.yv_statement.specs.Selection.{ModuleChoice}
 use Rattle.yv_link_scopes.specs.Files.{Files}
 use Rattle.yv_node_statements.specs.Kinds.{AreTyped, TypeMeanings}
 use Rattle.yv_node_statements.specs.Definitions.{refined_definition}
@@ -65,14 +65,14 @@ leafrefs_of b = record {
 -- a basis is that of files under a choice: their conditions hold so, their `type` statements stand
 -- for this, and these nodes are left of the tree to which the files of the implemented modules
 -- expand
-pub record IsBasis (choice : Selected) (b : Basis) : Type 0 where
+pub record IsBasis (choice : ModuleChoice) (b : Basis) : Type 0 where
   pub truth : IsTruth b.files choice b.truth
   pub typing : AreTyped b.files choice b.truth b.typing
   pub nodes : AreNodes choice b.files b.nodes
 
 -- this is the schema tree of the files: the nodes to which they expand, as their statements say
 -- them, with the leafrefs resolved (section 9.9)
-pub record IsSchema (choice : Selected) (files : Files) (tree : Forest) : Type 0 where
+pub record IsSchema (choice : ModuleChoice) (files : Files) (tree : Forest) : Type 0 where
   pub basis : Basis
   pub of_files : basis.files ≡ files
   pub is_basis : IsBasis choice basis
@@ -80,7 +80,7 @@ pub record IsSchema (choice : Selected) (files : Files) (tree : Forest) : Type 0
 
 -- this is where the paths of its leafrefs lead that require an instance, each at the number of its
 -- node (sections 9.9.2 and 9.9.3)
-pub record AreReferences (choice : Selected) (files : Files)
+pub record AreReferences (choice : ModuleChoice) (files : Files)
     (links : List (Option Link)) : Type 0 where
   pub basis : Basis
   pub of_files : basis.files ≡ files

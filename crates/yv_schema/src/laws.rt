@@ -1,6 +1,6 @@
 //! Laws about the definitions only. These functions do nothing: the contract of each is the law.
 ghost use Rattle.std.specs.Prelude.{◌≡◌, ◌≤◌, ◌↔◌, ℕ, List, None, Option, Some, length};
-ghost use Rattle.yv_statement.specs.{Order.{IsLeast}, declared.refusal.Refusal.{Refusal}, Selection.{Selected}};
+ghost use Rattle.yv_statement.specs.{Order.{IsLeast}, declared.refusal.Refusal.{Refusal}, Selection.{ModuleChoice}};
 ghost use Rattle.yv_link_scopes.specs.{Files.{Files}, RowList.{rows_of}};
 ghost use Rattle.yv_link_features.specs.Refusals.{BadFeatures};
 ghost use Rattle.yv_expand.specs.Limit.{TooMany};
@@ -14,15 +14,15 @@ ghost use Rattle.yv_schema.specs.{Schema.{AreReferences, IsSchema}, Notes.{AreNo
 /// one way, and its leafrefs lead one way.
 pub fn files_have_one_schema()
     // There is one schema tree.
-    ensures tree { (choice : Selected) (files : Files) (limit : ℕ) (a b : Forest)
+    ensures tree { (choice : ModuleChoice) (files : Files) (limit : ℕ) (a b : Forest)
         → IsLeast (Refuses choice files limit) None → IsSchema choice files a
         → IsSchema choice files b → a ≡ b }
     // There is one list of augments.
-    ensures augments { (choice : Selected) (files : Files) (limit : ℕ) (a b : List Note)
+    ensures augments { (choice : ModuleChoice) (files : Files) (limit : ℕ) (a b : List Note)
         → IsLeast (Refuses choice files limit) None → AreNotes choice files a
         → AreNotes choice files b → a ≡ b }
     // There is one list of links.
-    ensures references { (choice : Selected) (files : Files) (limit : ℕ) (a b : List (Option Link))
+    ensures references { (choice : ModuleChoice) (files : Files) (limit : ℕ) (a b : List (Option Link))
         → IsLeast (Refuses choice files limit) None → AreReferences choice files a
         → AreReferences choice files b → a ≡ b }
 {
@@ -39,11 +39,11 @@ pub fn files_have_one_schema()
 /// by number (RFC 7950, sections 5.6.5, 7.12 to 7.17, and 7.20.2).
 pub fn a_schema_is_that_of_the_tree()
     // A schema tree by numbered items is one by the tree.
-    ensures gives { (choice : Selected) (files : Files) (tree : Forest) → AreSound files
+    ensures gives { (choice : ModuleChoice) (files : Files) (tree : Forest) → AreSound files
         → HaveRoots files → IsLeast (BadFeatures files) None → IsNumberedSchema choice files tree
         → IsSchema choice files tree }
     // One by the tree is one by numbered items, where the files have a final tree.
-    ensures takes { (choice : Selected) (files : Files) (tree : Forest) (f : Final)
+    ensures takes { (choice : ModuleChoice) (files : Files) (tree : Forest) (f : Final)
         → AreSound files → HaveRoots files → IsLeast (BadFeatures files) None
         → IsFinal choice files f → IsSchema choice files tree → IsNumberedSchema choice files tree }
 {
@@ -56,11 +56,11 @@ pub fn a_schema_is_that_of_the_tree()
 /// sections 9.9.2 and 9.9.3).
 pub fn references_are_those_of_the_tree()
     // Links by numbered items are links by the tree.
-    ensures gives { (choice : Selected) (files : Files) (links : List (Option Link))
+    ensures gives { (choice : ModuleChoice) (files : Files) (links : List (Option Link))
         → AreSound files → HaveRoots files → IsLeast (BadFeatures files) None
         → AreNumberedReferences choice files links → AreReferences choice files links }
     // Those by the tree are those by numbered items, where the files have a final tree.
-    ensures takes { (choice : Selected) (files : Files) (links : List (Option Link)) (f : Final)
+    ensures takes { (choice : ModuleChoice) (files : Files) (links : List (Option Link)) (f : Final)
         → AreSound files → HaveRoots files → IsLeast (BadFeatures files) None
         → IsFinal choice files f → AreReferences choice files links
         → AreNumberedReferences choice files links }
@@ -75,11 +75,11 @@ pub fn references_are_those_of_the_tree()
 /// these as its target (RFC 7950, section 7.17).
 pub fn notes_are_those_of_the_tree()
     // Notes by numbered items are notes by the tree.
-    ensures gives { (choice : Selected) (files : Files) (notes : List Note) → AreSound files
+    ensures gives { (choice : ModuleChoice) (files : Files) (notes : List Note) → AreSound files
         → HaveRoots files → IsLeast (BadFeatures files) None → AreNumberedNotes choice files notes
         → AreNotes choice files notes }
     // Those by the tree are those by numbered items, where the files have a final tree.
-    ensures takes { (choice : Selected) (files : Files) (notes : List Note) (f : Final)
+    ensures takes { (choice : ModuleChoice) (files : Files) (notes : List Note) (f : Final)
         → AreSound files → HaveRoots files → IsLeast (BadFeatures files) None
         → IsFinal choice files f → AreNotes choice files notes
         → AreNumberedNotes choice files notes }
@@ -95,7 +95,7 @@ pub fn notes_are_those_of_the_tree()
 /// their features, and they have a final tree by number, their compilation is refused for exactly
 /// what is refused by the tree to which they expand (RFC 7950, sections 3, 7.5 to 7.17, and 9.9).
 pub fn refusals_are_those_of_the_tree()
-    ensures { (choice : Selected) (files : Files) (limit : ℕ) (f : Final) (r : Refusal)
+    ensures { (choice : ModuleChoice) (files : Files) (limit : ℕ) (f : Final) (r : Refusal)
         → AreAccepted files → IsLeast (BadFeatures files) None → IsFinal choice files f
         → RefusesByNumber choice files limit r ↔ Refuses choice files limit r }
 {
@@ -113,17 +113,17 @@ pub fn refusals_are_those_of_the_tree()
 /// 3, 7.5 to 7.17, and 9.9).
 pub fn least_refusals_are_those_of_the_tree()
     // Where the files have a final tree and at most 2^32 - 3 statements.
-    ensures with_final_tree { (choice : Selected) (files : Files) (limit : ℕ)
+    ensures with_final_tree { (choice : ModuleChoice) (files : Files) (limit : ℕ)
         (f : Final) (o : Option Refusal)
         → length (rows_of files) ≤ 4294967293 → IsFinal choice files f
         → IsLeast (RefusesByNumber choice files limit) o ↔ IsLeast (Refuses choice files limit) o }
     // Where something is refused before they are expanded.
-    ensures with_early_refusal { (choice : Selected) (files : Files) (limit : ℕ)
+    ensures with_early_refusal { (choice : ModuleChoice) (files : Files) (limit : ℕ)
         (r : Refusal) (o : Option Refusal)
         → RefusesBeforeExpansion files r
         → IsLeast (RefusesByNumber choice files limit) o ↔ IsLeast (Refuses choice files limit) o }
     // Where they pass the limit.
-    ensures past_the_limit { (choice : Selected) (files : Files) (limit : ℕ)
+    ensures past_the_limit { (choice : ModuleChoice) (files : Files) (limit : ℕ)
         (r : Refusal) (o : Option Refusal)
         → IsLeast (TooMany files (marks_of choice files) limit) (Some r)
         → IsLeast (RefusesByNumber choice files limit) o ↔ IsLeast (Refuses choice files limit) o }

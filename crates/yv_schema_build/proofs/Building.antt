@@ -2,7 +2,7 @@
 use Rattle.std.proofs.Common.{◌≡◌, ℕ, List, [], refl, sym, ap, ◌∙◌, subst, map, false, true, Option, Some, None, All}
 use Rattle.std.specs.List.{slice_get}
 use Rattle.yv_statement.specs.Tree.{Tree}
-use Rattle.yv_statement.specs.Selection.{Selected}
+use Rattle.yv_statement.specs.Selection.{ModuleChoice}
 use Rattle.yv_link_scopes.specs.Files.{Files}
 use Rattle.yv_link_scopes.specs.RowList.{rows_of, statements_of}
 use Rattle.yv_expand.specs.Tree.{Item, Node, Nodes, item_list}
@@ -35,12 +35,12 @@ use Rattle.yv_schema_build.proofs.Telling.{NoneTwice, StandBelow, final_is, foll
 
 -- an item belongs to a module that is implemented
 abbrev pub AreOfModules : Type 0
-AreOfModules = (choice : Selected) (files : Files) (f : Final) (item : ℕ) (s : Spot) → HaveModuleFiles choice files → IsFinal choice files f → slice_get (spots_of files f) item ≡ Some s
+AreOfModules = (choice : ModuleChoice) (files : Files) (f : Final) (item : ℕ) (s : Spot) → HaveModuleFiles choice files → IsFinal choice files f → slice_get (spots_of files f) item ≡ Some s
     → (module_file : Tree) × (slice_get files s.module_file ≡ Some module_file) × (is_given choice module_file ≡ true)
 
 -- what is left are items that are no uses
 abbrev pub AreNodes : Type 0
-AreNodes = (choice : Selected) (files : Files) (truth : Truth) (f : Final) (nodes : Nodes) (place : ℕ) (x : Node) → IsFinal choice files f → AreLeft truth files f nodes
+AreNodes = (choice : ModuleChoice) (files : Files) (truth : Truth) (f : Final) (nodes : Nodes) (place : ℕ) (x : Node) → IsFinal choice files f → AreLeft truth files f nodes
     → slice_get (item_list None 0 nodes) place ≡ Some x → (s : Spot) × (item : Item) × (slice_get (spots_of files f) x.origin ≡ Some s) × (slice_get f.items x.origin ≡ Some item)
     × (is_uses (kind_of (rows_of files) item.origin) ≡ false)
 
@@ -48,10 +48,10 @@ AreNodes = (choice : Selected) (files : Files) (truth : Truth) (f : Final) (node
 abbrev pub HaveRows : Type 0
 HaveRows = (files : Files) → map (λ t. t.head) (statements_of files) ≡ map (λ r. r.head) (rows_of files)
 
-pub modules_in_order : (choice : Selected) (files : Files) (modules : List Module) → AreNames choice files → modules ≡ modules_of choice files → AreModules modules
+pub modules_in_order : (choice : ModuleChoice) (files : Files) (modules : List Module) → AreNames choice files → modules ≡ modules_of choice files → AreModules modules
 modules_in_order choice files modules names are = subst AreModules (sym are) (are_modules choice files names.plain names.differ)
 
-module _ (choice : Selected) (files : Files) (c : Context) (names : AreNames choice files) (told : TellsOf choice files c) where
+module _ (choice : ModuleChoice) (files : Files) (c : Context) (names : AreNames choice files) (told : TellsOf choice files c) where
   abbrev b : NumberedBasis
   b = told.basis
 
@@ -59,7 +59,7 @@ module _ (choice : Selected) (files : Files) (c : Context) (names : AreNames cho
   own_names = subst (AreNames choice) (sym told.of_files) names
 
   own_final : IsFinal choice b.files b.final
-  own_final = subst (λ (x : Selected). IsFinal x b.files b.final) told.chosen (final_is b c told.tells)
+  own_final = subst (λ (x : ModuleChoice). IsFinal x b.files b.final) told.chosen (final_is b c told.tells)
 
   pub formed : AreOfModules → AreNodes → HaveRows → AreFormed (modules_of choice b.files) [] (stated_of b)
   formed of_modules nodes rows =

@@ -10,7 +10,7 @@ use Rattle.std.proofs.lemmas.List.{at_drop_all}
 use Rattle.std.proofs.lemmas.Option.{slice_get-map, slice_get_past, slice_get_read}
 use Rattle.yv_statement.specs.Tree as statement
 use Rattle.yv_statement.specs.declared.keyword.Keyword.TheVariants as word
-use Rattle.yv_statement.specs.Selection.{Selected}
+use Rattle.yv_statement.specs.Selection.{ModuleChoice}
 use Rattle.yv_link_scopes.specs.Files.{Files, tree_name}
 use Rattle.yv_node_properties.specs.Statements.{argument_of, first_of}
 use Rattle.yv_nodes.specs.Rows.{Module}
@@ -42,7 +42,7 @@ pub named_past : (files : Files) (names : List (RcStr Global)) (module_file : �
 named_past files names module_file same past =
     named_at files names module_file same ∙ ap (λ o. unwrap_or (option_map (λ n. rc_str_bytes n) o) []) (slice_get_past names module_file past)
 
-module _ (choice : Selected) (roots : Files) (i : ℕ) (t : statement.Tree) (lt : i < length roots) (is : t ≡ get_or roots i t) where
+module _ (choice : ModuleChoice) (roots : Files) (i : ℕ) (t : statement.Tree) (lt : i < length roots) (is : t ≡ get_or roots i t) where
   next_root : drop i roots ≡ t ∷ drop (i + 1) roots
   next_root = drop-cons roots i t lt ∙ ap (λ (x : statement.Tree). x ∷ drop (suc i) roots) (sym is) ∙ ap (λ (n : ℕ). t ∷ drop n roots) (sym (add-one i))
 
@@ -74,7 +74,7 @@ module _ (choice : Selected) (roots : Files) (i : ℕ) (t : statement.Tree) (lt 
       ap (λ (ms : List Module). old ++ ms) (sym first) ∙ so_far
 
 -- behind the last file no module is left
-pub given_all : (choice : Selected) (roots : Files) (i : ℕ) (found all : List Module) → length roots ≤ i → found ++ given_from choice i (drop i roots) ≡ all → found ≡ all
+pub given_all : (choice : ModuleChoice) (roots : Files) (i : ℕ) (found all : List Module) → length roots ≤ i → found ++ given_from choice i (drop i roots) ≡ all → found ≡ all
 given_all choice roots i found all over h =
     let none : given_from choice i (drop i roots) ≡ [] = at_drop_all (given_from choice i) roots i over in
     sym (append-nil found) ∙ ap (λ (ms : List Module). found ++ ms) (sym none) ∙ h

@@ -3,7 +3,7 @@ use Rattle.std.proofs.Common.{◌≡◌, ◌≢◌, ℕ, zero, suc, ◌+◌, ◌
 use Rattle.std.specs.List.{slice_get, slice_index_or}
 use Rattle.std.proofs.lemmas.Option.{get_or_from_slice_get, same_Some, slice_get-get_or}
 use Rattle.yv_statement.specs.Tree.{Tree as Root}
-use Rattle.yv_statement.specs.Selection.{Selected}
+use Rattle.yv_statement.specs.Selection.{ModuleChoice}
 use Rattle.yv_link_scopes.specs.Files.{Files, tree_name}
 use Rattle.yv_expand.specs.Tree.{Item, Node, Nodes, count, item, item_list, none}
 use Rattle.yv_statement.specs.declared.keyword.Keyword.TheVariants as word
@@ -24,7 +24,7 @@ use Rattle.yv_schema_build.specs.InnerBasis.{NumberedBasis, module_file_of, labe
 use Rattle.yv_schema_build.specs.Module.{given_from, module_name, modules_of, name_of_root}
 
 -- of the implemented modules each has the file, the name and the place of a root
-pub record IsOf (choice : Selected) (start : ℕ) (ts : Files) (m : Module) : Type 0 where
+pub record IsOf (choice : ModuleChoice) (start : ℕ) (ts : Files) (m : Module) : Type 0 where
   pub number : ℕ
   pub root : Root
   pub at : slice_get ts number ≡ Some root
@@ -32,7 +32,7 @@ pub record IsOf (choice : Selected) (start : ℕ) (ts : Files) (m : Module) : Ty
   pub module_file : m.module_file ≡ start + number
   pub name : m.name ≡ tree_name root
 
-later : (choice : Selected) (start : ℕ) (t : Root) (ts : Files) (m : Module) → IsOf choice (start + 1) ts m → IsOf choice start (t ∷ ts) m
+later : (choice : ModuleChoice) (start : ℕ) (t : Root) (ts : Files) (m : Module) → IsOf choice (start + 1) ts m → IsOf choice start (t ∷ ts) m
 later choice start t ts m is = record {
   number = suc is.number;
   root = is.root;
@@ -45,7 +45,7 @@ later choice start t ts m is = record {
 abbrev entry : ℕ → Root → Module
 entry start t = record { name = tree_name t; prefix = argument_of (first_of word.Prefix t.children); module_file = start }
 
-module _ (choice : Selected) where
+module _ (choice : ModuleChoice) where
   module_of : (start : ℕ) (ts : Files) (k : ℕ) (m : Module) → slice_get (given_from choice start ts) k ≡ Some m → IsOf choice start ts m
   module_of start [] k m at = cc
   module_of start (t ∷ ts) k m at = by (is_given choice t) refl k at (λ i there. later choice start t ts m (module_of (start + 1) ts i m there))
@@ -146,7 +146,7 @@ from_list P parent first (item i below behind) all =
       from_list P parent (first + 1 + count below) behind (λ k x at. let there = back inner others k x at in all (suc there.0) x there.1),
     )
 
-module _ (choice : Selected) (b : NumberedBasis) (fine : Fine b.files)
+module _ (choice : ModuleChoice) (b : NumberedBasis) (fine : Fine b.files)
     (module_files : (i : ℕ) (s : Spot) → slice_get (spots_of b.files b.final) i ≡ Some s → (module_file : Root) × (slice_get b.files s.module_file ≡ Some module_file) × (is_given choice module_file ≡ true)) where
   -- an item that is left is no uses, and was known
   abbrev Known : ℕ → Type 0

@@ -8,7 +8,7 @@ use Rattle.std.proofs.lemmas.List.{map-append}
 use Rattle.std.proofs.lemmas.Option.{get_or_from_slice_get, same_Some, slice_get_cases, slice_get_within, slice_get-map}
 use Rattle.std.proofs.lemmas.Slice.Eq.{bytes_eq-Decides}
 use Rattle.yv_statement.specs.Tree as statement
-use Rattle.yv_statement.specs.Selection.{Selected}
+use Rattle.yv_statement.specs.Selection.{ModuleChoice}
 use Rattle.yv_text_grammar.specs.Bytes.{colon}
 use Rattle.yv_text_grammar.specs.Refusals.{keyword_at}
 use Rattle.yv_statement.specs.Keywords.{keyword_in, keyword_of, names}
@@ -144,7 +144,7 @@ refined_kind typing files headed (origin.Input k) refines high = refl
 refined_kind typing files headed (origin.Output k) refines high = refl
 
 abbrev pub NothingBelow : Type 0
-NothingBelow = (choice : Selected) (files : Files) (truth : Truth) (f : Final) (nodes : Nodes) (place p : ℕ) (x : Node) → Conform files
+NothingBelow = (choice : ModuleChoice) (files : Files) (truth : Truth) (f : Final) (nodes : Nodes) (place p : ℕ) (x : Node) → Conform files
     → IsFinal choice files f → AreLeft truth files f nodes → slice_get (items.item_list None 0 nodes) place ≡ Some x → x.parent ≡ Some p
     → (above : Node) × (item : Item) × (slice_get (items.item_list None 0 nodes) p ≡ Some above) × (slice_get f.items above.origin ≡ Some item)
     × (is_lowest (item_kind (rows_of files) item.origin) ≡ false)
@@ -200,7 +200,7 @@ module _ (b : NumberedBasis) where
       by true h = absurd (let bad : None ≡ Some p = h in cc)
       by false h = h
 
-  pub basis_inner : (choice : Selected) → IsNumberedBasis choice b → Conform b.files → Headed b.files → NothingBelow → OnlyInnerHold (rows_from 0 (stated_of b))
+  pub basis_inner : (choice : ModuleChoice) → IsNumberedBasis choice b → Conform b.files → Headed b.files → NothingBelow → OnlyInnerHold (rows_from 0 (stated_of b))
   basis_inner choice is fine headed below =
       only_inner (rows_from 0 (stated_of b)) (λ k p q r at up there.
       let (x, node, parent) = node_at k q at in

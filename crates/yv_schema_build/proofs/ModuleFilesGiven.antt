@@ -21,7 +21,7 @@ use Rattle.yv_text_grammar.specs.Table.{is_one}
 use Rattle.yv_text_grammar.specs.Table.{rows_of as table_of}
 use Rattle.yv_link.specs.Links.{BadLinks}
 use Rattle.yv_link_modules.specs.Links.{is_link, is_wrong, is_wrong_link, wrong_at}
-use Rattle.yv_statement.specs.Selection.{Selected, is_implemented}
+use Rattle.yv_statement.specs.Selection.{ModuleChoice, is_implemented}
 use Rattle.yv_link_scopes.specs.Files.{Brief, Briefs, Files, brief_of, first_name, has_word, module_file_at, module_file_in, is_module, module_name, file_named, tree_name}
 use Rattle.yv_link_scopes.specs.Rows.{Row, is_extended, row_list, name_in}
 use Rattle.yv_link_scopes.specs.RowList.{bodies, body_of, roots_from, rows_of}
@@ -184,7 +184,7 @@ no_include : (h : Head) → has_word (codes "belongs-to") h ≡ true → has_wor
 no_include h e = ap (λ w. bytes_eq w (codes "include")) ((bytes_eq-Decides h.keyword (codes "belongs-to")).0 e)
 
 -- a submodule's module is one of the files
-module _ (choice : Selected) (files : Files) (fine : (n : ℕ) (t : Tree) (f : Refusal) → slice_get files n ≡ Some t → Bad t f → ⊥)
+module _ (choice : ModuleChoice) (files : Files) (fine : (n : ℕ) (t : Tree) (f : Refusal) → slice_get files n ≡ Some t → Bad t f → ⊥)
     (linked : (f : Refusal) → BadLinks files f → ⊥) where
   link_named : (r : Row) → IsIn r (rows_of files) → has_word (codes "belongs-to") r.head ≡ true → (m : ℕ) × (file_named (map brief_of files) (name_in r) ≡ Some m)
   link_named r (j, at) belongs =

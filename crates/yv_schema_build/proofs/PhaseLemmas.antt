@@ -20,7 +20,7 @@ use Rattle.yv_text_grammar.specs.Argument.{ArgumentFits, argument_has}
 use Rattle.yv_text_grammar.specs.Refusals.{Bad, keyword_at, own}
 use Rattle.yv_text_grammar.specs.Forms.{form_of}
 use Rattle.yv_text_grammar.specs.Texts.{is_identifier, is_part, is_start}
-use Rattle.yv_statement.specs.Selection.{Selected, is_implemented}
+use Rattle.yv_statement.specs.Selection.{ModuleChoice, is_implemented}
 use Rattle.yv_link_scopes.specs.Files.{Brief, Briefs, Files, brief_of, is_module, file_named, tree_name}
 use Rattle.yv_link_modules.specs.Links.{is_at}
 use Rattle.yv_link_features.specs.Refusals.{BadFeatures}
@@ -137,7 +137,7 @@ own_name briefs n g h = by (file_named briefs g.name) refl (not_false (is_at n (
         let same : i ≡ n = grind (arith, nat_tests) in
         e ∙ ap Some same
 
-module _ (choice : Selected) (files : Files) (fine : (f : Refusal) → Among files BadFile (length files) f → ⊥) (linked : (f : Refusal) → BadLinks files f → ⊥) where
+module _ (choice : ModuleChoice) (files : Files) (fine : (f : Refusal) → Among files BadFile (length files) f → ⊥) (linked : (f : Refusal) → BadLinks files f → ⊥) where
   fine_at : (n : ℕ) (t : Tree) (f : Refusal) → slice_get files n ≡ Some t → Bad t f → ⊥
   fine_at n t f at bad =
       fine (record { code = f.code; file = n; offset = f.offset; line = f.line }) (n, slice_get_within files n t at, t, at, record { own = f; stands = bad; is = refl })
@@ -209,14 +209,14 @@ tree_phase top f h = elim h [ inl x ↦ below_phase x.2 f x.4 | inr x ↦ defaul
 leafrefs_phase : (s : Schema) (f : Refusal) → BadLeafrefs s f → phase_of f.code ≡ 10
 leafrefs_phase s f h = elim h.4 [ inl x ↦ of_phase f _ x.1 refl | inr x ↦ of_phase f _ x.1 refl ]
 
-schema_phase : (choice : Selected) (files : Files) (f : Refusal) → BadNumberedSchema choice files f → phase_of f.code ≡ 10
+schema_phase : (choice : ModuleChoice) (files : Files) (f : Refusal) → BadNumberedSchema choice files f → phase_of f.code ≡ 10
 schema_phase choice files f h = elim h.stands [
   | inl x ↦ rows_phase h.tree f x
   | inr x ↦ elim x [ inl y ↦ tree_phase h.tree f y | inr y ↦ leafrefs_phase (leafrefs_of h.schema.basis) f y ]
 ]
 
 -- what is refused only with types or with the schema tree comes late
-pub comes_late : (choice : Selected) (files : Files) (limit : ℕ) (f : Refusal) → RefusesByNumber choice files limit f → RefusesBeforeTypesByNumber choice files limit f ⊎ (9 ≤ phase_of f.code)
+pub comes_late : (choice : ModuleChoice) (files : Files) (limit : ℕ) (f : Refusal) → RefusesByNumber choice files limit f → RefusesBeforeTypesByNumber choice files limit f ⊎ (9 ≤ phase_of f.code)
 comes_late choice files limit f (inl early) = inl early
 comes_late choice files limit f (inr (inl typing)) = inr (omega (arith, types_phase files typing.truth f typing.bad))
 comes_late choice files limit f (inr (inr schema)) = inr (omega (arith, schema_phase choice files f schema))
@@ -226,24 +226,24 @@ comes_late choice files limit f (inr (inr schema)) = inr (omega (arith, schema_p
 pub record HavePhases : Type 0 where
   pub first : (files : Files) (f : Refusal) → BadLinks files f → 3 ≤ phase_of f.code
   pub last : (files : Files) (f : Refusal) → BadLinks files f → phase_of f.code ≤ 5
-  pub expansion : (choice : Selected) (files : Files) (limit : ℕ) (f : Refusal) → BadExpansion choice files limit f
+  pub expansion : (choice : ModuleChoice) (files : Files) (limit : ℕ) (f : Refusal) → BadExpansion choice files limit f
       → (6 < phase_of f.code) × (phase_of f.code ≤ 8)
 
 -- an expression in files has one truth, where nothing is wrong with their features
 abbrev pub HasOneTruth : Type 0
-HasOneTruth = (files : Files) (choice : Selected) (file : ℕ) (text : List ℕ) (a b : Bool) → IsLeast (BadFeatures files) None
+HasOneTruth = (files : Files) (choice : ModuleChoice) (file : ℕ) (text : List ℕ) (a b : Bool) → IsLeast (BadFeatures files) None
     → Holds files choice file text a → Holds files choice file text b → a ≡ b
 
 -- the types of files are told in one way
 abbrev pub HaveOneTyping : Type 0
-HaveOneTyping = (files : Files) (choice : Selected) (truth : Truth) (a b : TypeMeanings) → AreTyped files choice truth a → AreTyped files choice truth b → a ≡ b
+HaveOneTyping = (files : Files) (choice : ModuleChoice) (truth : Truth) (a b : TypeMeanings) → AreTyped files choice truth a → AreTyped files choice truth b → a ≡ b
 
 -- files have one final tree, and one list of nodes is left of it
 abbrev pub HaveOneFinal : Type 0
-HaveOneFinal = (choice : Selected) (files : Files) (a b : Final) → IsFinal choice files a → IsFinal choice files b → a ≡ b
+HaveOneFinal = (choice : ModuleChoice) (files : Files) (a b : Final) → IsFinal choice files a → IsFinal choice files b → a ≡ b
 
 abbrev pub IsOneLeft : Type 0
-IsOneLeft = (choice : Selected) (files : Files) (truth : Truth) (f : Final) (a b : Nodes) → IsFinal choice files f → AreLeft truth files f a → AreLeft truth files f b → a ≡ b
+IsOneLeft = (choice : ModuleChoice) (files : Files) (truth : Truth) (f : Final) (a b : Nodes) → IsFinal choice files f → AreLeft truth files f a → AreLeft truth files f b → a ≡ b
 
 -- a schema comes to one tree, and its leafrefs lead one way
 abbrev pub IsTypedOnce : Type 0
@@ -252,7 +252,7 @@ IsTypedOnce = (s t : Schema) (stated a b : Forest) → AreAlike s t → IsTyped 
 abbrev pub HasOneList : Type 0
 HasOneList = (s t : Schema) (a b : List (Option Link)) → AreAlike s t → AreLinks s a → AreLinks t b → a ≡ b
 
-module _ (choice : Selected) (files : Files) (limit : ℕ) where
+module _ (choice : ModuleChoice) (files : Files) (limit : ℕ) where
   abbrev Own : Refusal → Type 0
   Own f = Among files BadFile (length files) f
 
@@ -328,7 +328,7 @@ module _ (choice : Selected) (files : Files) (limit : ℕ) where
       → IsLeast (BadExpansion choice files limit) o → IsLeast (RefusesBeforeTypesByNumber choice files limit) o
   least_expanded o p q h e = behind Own (λ f. BadLinks files f ⊎ Names f) o p (behind (BadLinks files) Names o q (behind (BadNames files) Expansion o h e))
 
-module _ (choice : Selected) (files : Files) (limit : ℕ) (one : HasOneTruth) (before : IsLeast (RefusesBeforeTypesByNumber choice files limit) None) where
+module _ (choice : ModuleChoice) (files : Files) (limit : ℕ) (one : HasOneTruth) (before : IsLeast (RefusesBeforeTypesByNumber choice files limit) None) where
   pub one_truth : (a b : Truth) → IsTruth files choice a → IsTruth files choice b → a ≡ b
   one_truth a b p q = same_truth a b (λ n text. one files choice n text (a n text) (b n text) (λ f h. links_clear choice files limit before f (inr (inl h))) (p n text) (q n text))
 

@@ -9,7 +9,7 @@ use Rattle.yv_statement.specs.declared.refusal.Refusal.{Refusal}
 use Rattle.yv_statement.specs.declared.refusal.Code.TheVariants as code
 use Rattle.yv_text_grammar.specs.Refusals.{Bad}
 use Rattle.yv_text_grammar.specs.Fits.{Fits}
-use Rattle.yv_statement.specs.Selection.{Selected}
+use Rattle.yv_statement.specs.Selection.{ModuleChoice}
 use Rattle.yv_link_scopes.specs.Files.{Files}
 use Rattle.yv_expand.specs.Tree.{Node}
 use Rattle.yv_nodes.specs.Link.{Link, link_in, reference_in}
@@ -30,7 +30,7 @@ use Rattle.yv_node_leafrefs.proofs.Required.{has_link, has_reference}
 use Rattle.yv_schema_build.proofs.Beginning.{Conform, Headed, Origins, begins, no_value}
 use Rattle.yv_schema_build.proofs.Interior.{NothingBelow, basis_inner}
 
-module _ (choice : Selected) (b : NumberedBasis) (is : IsNumberedBasis choice b) (fine : Conform b.files) (headed : Headed b.files) (origins : Origins) where
+module _ (choice : ModuleChoice) (b : NumberedBasis) (is : IsNumberedBasis choice b) (fine : Conform b.files) (headed : Headed b.files) (origins : Origins) where
   at_node : (x : Option Node) (ref : Referral) → option_and_then (said_of b) x ≡ Some ref → ref.climbs ≢ Some 0
   at_node None ref says = absurd (no_value ref says)
   at_node (Some x) ref says = begins b.files b.typing fine headed origins is.typing.referrals (origin_at b.final.items x.origin) ref says
@@ -42,7 +42,7 @@ module _ (choice : Selected) (b : NumberedBasis) (is : IsNumberedBasis choice b)
 abbrev pub Spared : Type 0
 Spared = (t : Tree) → ((f : Refusal) → Bad t f → ⊥) → Fits t
 
-conform_of : Spared → (choice : Selected) (files : Files) (limit : ℕ) → IsLeast (RefusesByNumber choice files limit) None → Conform files
+conform_of : Spared → (choice : ModuleChoice) (files : Files) (limit : ℕ) → IsLeast (RefusesByNumber choice files limit) None → Conform files
 conform_of spared choice files limit clear n root at =
     spared root (λ f bad. clear (in_file n f) (inl (inl (n, slice_get_within files n root at, root, at, record { own = f; stands = bad; is = refl }))))
 
@@ -60,7 +60,7 @@ refers_of s stated tree (with_targets least is) clear n row ref leafref =
     (n, within, row, leafref.at, inl (record { ref = ref; is_leafref = leafref; lost = lost }, refl)))
 refers_of s stated tree (with_refusal {f = f} bad) clear n row ref leafref = absurd (clear f bad)
 
-module _ (headed : (files : Files) → Headed files) (origins : Origins) (spared : Spared) (below : NothingBelow) (choice : Selected) (files : Files) (limit : ℕ)
+module _ (headed : (files : Files) → Headed files) (origins : Origins) (spared : Spared) (below : NothingBelow) (choice : ModuleChoice) (files : Files) (limit : ℕ)
     (clear : IsLeast (RefusesByNumber choice files limit) None) where
   pub all_led : (links : List (Option Link)) (are : AreNumberedReferences choice files links) (n target : ℕ) (refers : RefersTo (leafrefs_of are.basis) n target)
       → (link : Link) × (reference_in links n ≡ Some link) × (link.target ≡ target) × (link.is_required ≡ refers.ref.is_required)

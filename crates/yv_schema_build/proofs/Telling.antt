@@ -1,7 +1,7 @@
 -- What a context tells of its basis.
 use Rattle.std.proofs.Common.{◌≡◌, ℕ, List, [], ap, sym, ◌∙◌, subst, Option, Some, None}
 use Rattle.std.specs.List.{slice_get, slice_index_or}
-use Rattle.yv_statement.specs.Selection.{Selected}
+use Rattle.yv_statement.specs.Selection.{ModuleChoice}
 use Rattle.yv_link_scopes.specs.Files.{Files}
 use Rattle.yv_expand.specs.Tree.{Item, Node, Nodes, item_list}
 use Rattle.yv_expand_refines.specs.Changes.{each, sequence_at}
@@ -18,13 +18,13 @@ use Rattle.yv_schema_build.proofs.Noting.{Follows, Kept}
 
 -- a node that an augment gives stands below its target
 abbrev pub StandBelow : Type 0
-StandBelow = (choice : Selected) (files : Files) (truth : Truth) (f : Final) (nodes : Nodes) (place giver : ℕ) (x : Node) → IsFinal choice files f → AreLeft truth files f nodes
+StandBelow = (choice : ModuleChoice) (files : Files) (truth : Truth) (f : Final) (nodes : Nodes) (place giver : ℕ) (x : Node) → IsFinal choice files f → AreLeft truth files f nodes
     → slice_get (item_list None 0 nodes) place ≡ Some x → source_at (spots_of files f) f.augments x.origin ≡ Some giver
     → (target : ℕ) × (node : Node) × (x.parent ≡ Some target) × (slice_get (item_list None 0 nodes) target ≡ Some node) × (slice_index_or (targets_of files f) giver None ≡ Some node.origin)
 
 -- no item is left twice
 abbrev pub NoneTwice : Type 0
-NoneTwice = (choice : Selected) (files : Files) (truth : Truth) (f : Final) (nodes : Nodes) (i k : ℕ) (x y : Node) → IsFinal choice files f → AreLeft truth files f nodes
+NoneTwice = (choice : ModuleChoice) (files : Files) (truth : Truth) (f : Final) (nodes : Nodes) (i k : ℕ) (x y : Node) → IsFinal choice files f → AreLeft truth files f nodes
     → slice_get (item_list None 0 nodes) i ≡ Some x → slice_get (item_list None 0 nodes) k ≡ Some y → x.origin ≡ y.origin → i ≡ k
 
 module _ (b : NumberedBasis) (c : Context) (tells : Tells b c) where

@@ -3,7 +3,7 @@
 use Rattle.std.specs.Prelude.{◌≡◌, ◌≢◌, ◌<◌, ℕ, true, slice_get, Some}
 use Rattle.yv_statement.specs.Tree as statement
 use Rattle.yv_text_grammar.specs.Refusals.{Bad}
-use Rattle.yv_statement.specs.Selection.{Selected}
+use Rattle.yv_statement.specs.Selection.{ModuleChoice}
 use Rattle.yv_link_scopes.specs.Files.{Files, tree_name}
 use Rattle.yv_expand_tree.specs.FileOrder.{HaveModuleFiles, is_given}
 use Rattle.std.specs.declared.option.Option.{Option}
@@ -22,7 +22,7 @@ use Rattle.yv_schema_build.specs.InnerRefuses.{BadNumberedNodes}
 
 -- the modules of files: nothing is wrong with a file as such, the names of modules have no colon
 -- and differ, and the files of those that are implemented have these
-pub record AreNames (choice : Selected) (files : Files) : Type 0 where
+pub record AreNames (choice : ModuleChoice) (files : Files) : Type 0 where
   pub fine : (n : ℕ) (t : statement.Tree) (f : Refusal) → slice_get files n ≡ Some t → Bad t f → ⊥
   pub plain : (n : ℕ) (t : statement.Tree) → slice_get files n ≡ Some t → is_given choice t ≡ true
       → HasNoColon (tree_name t)

@@ -1,6 +1,6 @@
 -- Only private clauses cite this: what is known of files before their nodes are built.
 use Rattle.std.specs.Prelude.{◌≡◌}
-use Rattle.yv_statement.specs.Selection.{Selected}
+use Rattle.yv_statement.specs.Selection.{ModuleChoice}
 use Rattle.yv_link_scopes.specs.Files.{Files}
 use Rattle.yv_node_statements.specs.Context.{files_in, typing_in}
 use Rattle.yv_node_statements.specs.declared.definitions.Definitions.{Definitions}
@@ -22,7 +22,7 @@ pub record Tells (b : NumberedBasis) (c : Context) : Type 0 where
   pub files : files_in c.definitions.now ≡ b.files
   pub typing : typing_in c.definitions.now ≡ b.typing
   pub refined : IsRefinedOf c.definitions.now c.tree.now c.refined.now
-  pub choice : Selected
+  pub choice : ModuleChoice
   pub kept : AreKept choice b.files b.truth c.tree.now
   pub final : kept.final ≡ b.final
   pub nodes : kept.nodes ≡ b.nodes
@@ -33,7 +33,7 @@ pub record IsTold (c : Context) : Type 0 where
   pub tells : Tells basis c
 
 -- the context tells of a basis with these files, of which this was chosen
-pub record TellsOf (choice : Selected) (files : Files) (c : Context) : Type 0 where
+pub record TellsOf (choice : ModuleChoice) (files : Files) (c : Context) : Type 0 where
   pub basis : NumberedBasis
   pub of_files : basis.files ≡ files
   pub tells : Tells basis c

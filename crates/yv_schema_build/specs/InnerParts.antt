@@ -1,7 +1,7 @@
 -- Only private clauses cite this: what a schema is made of.
 use Rattle.std.specs.Prelude.{◌≡◌, ◌⊎◌, None, All}
 use Rattle.yv_statement.specs.Order.{IsLeast}
-use Rattle.yv_statement.specs.Selection.{Selected}
+use Rattle.yv_statement.specs.Selection.{ModuleChoice}
 use Rattle.yv_statement.specs.declared.refusal.Refusal.{Refusal}
 use Rattle.yv_link_scopes.specs.Files.{Files}
 use Rattle.yv_types.specs.declared.type_table.Types.{Types}
@@ -21,7 +21,7 @@ use Rattle.yv_schema_build.specs.declared.parts.SchemaParts.{SchemaParts}
 
 -- these files, what their types mean, and the nodes that are left of what they come to are those of
 -- a basis
-pub record IsBasisOf (choice : Selected) (files : Files) (types : Types) (tree : FinalTreeView)
+pub record IsBasisOf (choice : ModuleChoice) (files : Files) (types : Types) (tree : FinalTreeView)
     (b : NumberedBasis) : Type 0 where
   pub of_files : b.files ≡ files
   pub typing : typing_of types ≡ b.typing
@@ -30,7 +30,7 @@ pub record IsBasisOf (choice : Selected) (files : Files) (types : Types) (tree :
   pub nodes : kept.nodes ≡ b.nodes
 
 -- there is such a basis
-pub record HaveBasis (choice : Selected) (files : Files) (types : Types)
+pub record HaveBasis (choice : ModuleChoice) (files : Files) (types : Types)
     (tree : FinalTreeView) : Type 0 where
   pub basis : NumberedBasis
   pub is : IsBasisOf choice files types tree basis

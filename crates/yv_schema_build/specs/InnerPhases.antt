@@ -1,7 +1,7 @@
 -- Only private clauses cite this: what is known of files between the phases of their compilation.
 use Rattle.std.specs.Prelude.{ℕ, ◌≤◌, None, length}
 use Rattle.yv_statement.specs.Order.{Among, IsLeast}
-use Rattle.yv_statement.specs.Selection.{Selected}
+use Rattle.yv_statement.specs.Selection.{ModuleChoice}
 use Rattle.yv_link_scopes.specs.Files.{Files}
 use Rattle.yv_link.specs.LinkedFiles.{AreLinked, truth_in}
 use Rattle.yv_link.specs.Links.{BadLinks}
@@ -13,19 +13,19 @@ use Rattle.yv_schema_build.specs.Refusals.{BadFile}
 use Rattle.yv_schema_build.specs.InnerRefuses.{RefusesBeforeTypesByNumber}
 
 -- files are linked, and nothing is refused so far
-pub record AreClear (choice : Selected) (files : Files) (linked : Linked) : Type 0 where
+pub record AreClear (choice : ModuleChoice) (files : Files) (linked : Linked) : Type 0 where
   pub few : length files ≤ 4294967296
   pub own : IsLeast (Among files BadFile (length files)) None
   pub links : IsLeast (BadLinks files) None
   pub are : AreLinked files choice linked
 
 -- there are such files
-pub record SomeClear (choice : Selected) (linked : Linked) : Type 0 where
+pub record SomeClear (choice : ModuleChoice) (linked : Linked) : Type 0 where
   pub files : Files
   pub clear : AreClear choice files linked
 
 -- this is their final tree besides, and nothing is refused before their types
-pub record AreExpanded (choice : Selected) (files : Files) (limit : ℕ) (linked : Linked)
+pub record AreExpanded (choice : ModuleChoice) (files : Files) (limit : ℕ) (linked : Linked)
     (names : Names) (tree : FinalTreeView) : Type 0 where
   pub clear : AreClear choice files linked
   pub are_names : AreNames files names
@@ -33,7 +33,7 @@ pub record AreExpanded (choice : Selected) (files : Files) (limit : ℕ) (linked
   pub before : IsLeast (RefusesBeforeTypesByNumber choice files limit) None
 
 -- there are such files
-pub record SomeExpanded (choice : Selected) (limit : ℕ) (linked : Linked) (names : Names)
+pub record SomeExpanded (choice : ModuleChoice) (limit : ℕ) (linked : Linked) (names : Names)
     (tree : FinalTreeView) : Type 0 where
   pub files : Files
   pub expanded : AreExpanded choice files limit linked names tree

@@ -1,7 +1,7 @@
 -- The schema tree that the statements of files give (RFC 7950, sections 5.6.5, 7.5 to 7.17).
 use Rattle.std.specs.Prelude.{ℕ, ◌+◌, List, [], ◌∷◌, Option, Some, None, if◌then◌else◌, slice_get}
 use Rattle.yv_statement.specs.Tree as statement
-use Rattle.yv_statement.specs.Selection.{Selected}
+use Rattle.yv_statement.specs.Selection.{ModuleChoice}
 use Rattle.yv_link_scopes.specs.Files.{Files, tree_name}
 use Rattle.yv_expand_tree.specs.FileOrder.{is_given}
 use Rattle.yv_statement.specs.declared.keyword.Keyword.TheVariants as word
@@ -19,7 +19,7 @@ module_name files module_file = name_of_root (slice_get files module_file)
 
 -- of the files from number m on, the modules that are implemented, each with its prefix and the
 -- number of its file
-abbrev pub given_from : Selected → ℕ → Files → List Module
+abbrev pub given_from : ModuleChoice → ℕ → Files → List Module
 given_from choice m [] = []
 given_from choice m (t ∷ ts) =
     let behind : List Module = given_from choice (m + 1) ts in
@@ -30,5 +30,5 @@ given_from choice m (t ∷ ts) =
     } ∷ behind else behind
 
 -- the implemented modules of files, by file (section 5.6.5)
-abbrev pub modules_of : Selected → Files → List Module
+abbrev pub modules_of : ModuleChoice → Files → List Module
 modules_of choice files = given_from choice 0 files

@@ -4,7 +4,7 @@ use Rattle.yv_statement.specs.Tree.{Tree}
 use Rattle.yv_statement.specs.declared.refusal.Refusal.{Refusal}
 use Rattle.yv_text_grammar.specs.Refusals.{Bad}
 use Rattle.yv_statement.specs.Order.{Among}
-use Rattle.yv_statement.specs.Selection.{Selected}
+use Rattle.yv_statement.specs.Selection.{ModuleChoice}
 use Rattle.yv_link_scopes.specs.Files.{Files}
 use Rattle.yv_link.specs.Links.{BadLinks}
 use Rattle.yv_link_definitions.specs.Refusals.{BadNames}
@@ -22,7 +22,7 @@ pub record BadFile (n : ℕ) (t : Tree) (f : Refusal) : Type 0 where
   pub is : f ≡ in_file n own
 
 -- f is at a type of the files, by the truth of their conditions
-pub record BadTyping (choice : Selected) (files : Files) (f : Refusal) : Type 0 where
+pub record BadTyping (choice : ModuleChoice) (files : Files) (f : Refusal) : Type 0 where
   pub truth : Truth
   pub is_truth : IsTruth files choice truth
   pub bad : BadTypes files truth f

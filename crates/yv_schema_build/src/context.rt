@@ -1,7 +1,7 @@
 //! What is known of files before their nodes are built.
 ghost use Rattle.std.specs.Prelude.{◌≡◌, true, None, IfOk};
 ghost use Rattle.yv_expand.specs.Tree.{item_list};
-ghost use Rattle.yv_statement.specs.Selection.{Selected};
+ghost use Rattle.yv_statement.specs.Selection.{ModuleChoice};
 ghost use Rattle.yv_node_statements.specs.Context.{files_in, typing_in};
 ghost use Rattle.yv_expand_tree.specs.FinalTree.{AreKept};
 ghost use Rattle.yv_schema_build.specs.{InnerBasis.{NumberedBasis, module_file_of}, InnerContext.{IsRefinedOf, Tells}, InnerRows.{said_at}};
@@ -49,7 +49,7 @@ impl<'c, 'a, 'b> Context<'c, 'a, 'b> {
         tree: &'c FinalTree,
     ) -> Context<'c, 'a, 'b>
         ensures tree { result.tree.now ≡ tree.now }
-        ensures tells { (b : NumberedBasis) (choice : Selected) → files_in definitions.now ≡ b.files
+        ensures tells { (b : NumberedBasis) (choice : ModuleChoice) → files_in definitions.now ≡ b.files
             → typing_in definitions.now ≡ b.typing
             → IsRefinedOf definitions.now tree.now refined.now
             → (k : AreKept choice b.files b.truth tree.now) → k.final ≡ b.final → k.nodes ≡ b.nodes

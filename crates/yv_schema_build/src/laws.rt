@@ -1,6 +1,6 @@
 //! Laws about the definitions only. These functions do nothing: the contract of each is the law.
 ghost use Rattle.std.specs.Prelude.{◌≡◌, ◌≤◌, ◌⊎◌, ℕ, List, Option, None, Some, true};
-ghost use Rattle.yv_statement.specs.{Codes.{phase_of}, Order.{IsLeast}, declared.refusal.Refusal.{Refusal}, Selection.{Selected}};
+ghost use Rattle.yv_statement.specs.{Codes.{phase_of}, Order.{IsLeast}, declared.refusal.Refusal.{Refusal}, Selection.{ModuleChoice}};
 ghost use Rattle.yv_link_scopes.specs.Files.{Files};
 ghost use Rattle.yv_schema_build.specs.{InnerRefuses.{RefusesByNumber, RefusesBeforeTypesByNumber}, InnerSchema.{AreNumberedNotes, AreNumberedReferences, IsNumberedSchema}, Units.{TakeUnits}, InnerBasis.{leafrefs_of}};
 ghost use Rattle.yv_node_leafrefs.specs.{Schema.{Referral}, Targets.{IsLeafref, RefersTo}};
@@ -10,15 +10,15 @@ ghost use Rattle.yv_nodes.specs.{Link.{Link, link_in, reference_in}, Rows.{Note,
 /// one way, and its leafrefs lead one way.
 pub fn files_have_one_schema()
     // There is one schema tree.
-    ensures tree { (choice : Selected) (files : Files) (limit : ℕ) (a b : Forest)
+    ensures tree { (choice : ModuleChoice) (files : Files) (limit : ℕ) (a b : Forest)
         → IsLeast (RefusesByNumber choice files limit) None
         → IsNumberedSchema choice files a → IsNumberedSchema choice files b → a ≡ b }
     // There is one list of augments.
-    ensures augments { (choice : Selected) (files : Files) (limit : ℕ) (a b : List Note)
+    ensures augments { (choice : ModuleChoice) (files : Files) (limit : ℕ) (a b : List Note)
         → IsLeast (RefusesByNumber choice files limit) None
         → AreNumberedNotes choice files a → AreNumberedNotes choice files b → a ≡ b }
     // There is one list of links.
-    ensures references { (choice : Selected) (files : Files) (limit : ℕ) (a b : List (Option Link))
+    ensures references { (choice : ModuleChoice) (files : Files) (limit : ℕ) (a b : List (Option Link))
         → IsLeast (RefusesByNumber choice files limit) None
         → AreNumberedReferences choice files a → AreNumberedReferences choice files b → a ≡ b }
 {
@@ -32,7 +32,7 @@ pub fn files_have_one_schema()
 
 /// A schema tree has no more nodes than the files of the implemented modules take units.
 pub fn nodes_are_within_units()
-    ensures { (choice : Selected) (files : Files) (tree : Forest) (units : ℕ)
+    ensures { (choice : ModuleChoice) (files : Files) (tree : Forest) (units : ℕ)
         → IsNumberedSchema choice files tree
         → TakeUnits choice files units → count tree ≤ units }
 {
@@ -41,7 +41,7 @@ pub fn nodes_are_within_units()
 
 /// What is refused only with types, or with the schema tree, comes in phase 9 or later.
 pub fn types_and_trees_come_late()
-    ensures { (choice : Selected) (files : Files) (limit : ℕ) (f : Refusal)
+    ensures { (choice : ModuleChoice) (files : Files) (limit : ℕ) (f : Refusal)
         → RefusesByNumber choice files limit f
         → RefusesBeforeTypesByNumber choice files limit f ⊎ (9 ≤ phase_of f.code) }
 {}
@@ -49,7 +49,7 @@ pub fn types_and_trees_come_late()
 /// Where nothing is refused, a leafref has its link to what it refers to, and the link says whether
 /// an instance is required (RFC 7950, sections 9.9.2 and 9.9.3).
 pub fn leafrefs_have_links()
-    ensures { (choice : Selected) (files : Files) (limit : ℕ) (links : List (Option Link))
+    ensures { (choice : ModuleChoice) (files : Files) (limit : ℕ) (links : List (Option Link))
         → IsLeast (RefusesByNumber choice files limit) None
         → (are : AreNumberedReferences choice files links) → (n target : ℕ)
         → (refers : RefersTo (leafrefs_of are.basis) n target)
@@ -65,7 +65,7 @@ pub fn leafrefs_have_links()
 /// Where nothing is refused, a leafref that requires an instance has its link to what it refers to
 /// (RFC 7950, sections 9.9.2 and 9.9.3).
 pub fn required_leafrefs_have_links()
-    ensures { (choice : Selected) (files : Files) (limit : ℕ) (links : List (Option Link))
+    ensures { (choice : ModuleChoice) (files : Files) (limit : ℕ) (links : List (Option Link))
         → IsLeast (RefusesByNumber choice files limit) None
         → (are : AreNumberedReferences choice files links) → (n target : ℕ)
         → (refers : RefersTo (leafrefs_of are.basis) n target)
@@ -81,7 +81,7 @@ pub fn required_leafrefs_have_links()
 /// Where nothing is refused, each leafref outside operations and notifications refers to a node,
 /// and its link leads there and says whether an instance is required.
 pub fn each_leafref_has_its_link()
-    ensures { (choice : Selected) (files : Files) (limit : ℕ) (tree : Forest)
+    ensures { (choice : ModuleChoice) (files : Files) (limit : ℕ) (tree : Forest)
         (links : List (Option Link))
         → IsLeast (RefusesByNumber choice files limit) None
         → (schema : IsNumberedSchema choice files tree) → AreNumberedReferences choice files links

@@ -1,6 +1,6 @@
 //! The compilation of linked files, phase by phase.
 ghost use Rattle.std.specs.Prelude.{◌≡◌, ◌≤◌, length, IfOk, OnOk, Some, None, Err};
-ghost use Rattle.yv_statement.specs.{declared.refusal.Refusal.{Refusal}, declared.refusal.Stop.TheVariants.{Fault, PatternBuild}, Order.{IsLeast}, Selection.{Selected, selected_of}};
+ghost use Rattle.yv_statement.specs.{declared.refusal.Refusal.{Refusal}, declared.refusal.Stop.TheVariants.{Fault, PatternBuild}, Order.{IsLeast}, Selection.{ModuleChoice, selected_of}};
 ghost use Rattle.yv_link_scopes.specs.Files.{Files};
 ghost use Rattle.yv_type_restrictions.specs.Types.{HasTypePattern};
 ghost use Rattle.yv_link_definitions.specs.Meanings.{AreNames};
@@ -137,19 +137,19 @@ fn of_expanded(
 // is given back before nodes are built.
 fn last_types(alloc: Global, linked: &Linked<'_, '_>, names: Names) -> Result<Types, Stop>
     ensures makes { IfOk result
-        (λ types. (files : Files) (choice : Selected) → AreLinked files choice linked.now
+        (λ types. (files : Files) (choice : ModuleChoice) → AreLinked files choice linked.now
         → AreNames files names
         → AreTypes files choice (truth_in linked.now) types) }
     ensures clear { OnOk result
-        ((files : Files) (choice : Selected) → AreLinked files choice linked.now
+        ((files : Files) (choice : ModuleChoice) → AreLinked files choice linked.now
         → AreNames files names
         → IsLeast (BadTypes files (truth_in linked.now)) None) }
     ensures refusal { (r : Refusal) → result ≡ Err (Fault r)
-        → (files : Files) (choice : Selected) → AreLinked files choice linked.now
+        → (files : Files) (choice : ModuleChoice) → AreLinked files choice linked.now
         → AreNames files names
         → IsLeast (BadTypes files (truth_in linked.now)) (Some r) }
     ensures builds { result ≡ Err PatternBuild
-        → (files : Files) (choice : Selected) → AreLinked files choice linked.now
+        → (files : Files) (choice : ModuleChoice) → AreLinked files choice linked.now
         → HasTypePattern files }
 {
     types(alloc, linked, &names)

@@ -15,7 +15,7 @@ pub record Entry : Type 0 where
 
 -- a selection, as clauses see it: modules with the features of them that are supported, and modules
 -- that are there for their definitions only
-pub record Selected : Type 0 where
+pub record ModuleChoice : Type 0 where
   pub support : List Entry
   pub imports : List (List ℕ)
 
@@ -24,14 +24,14 @@ abbrev pub entry_of : String Global × Vec (String Global) Global → Entry
 entry_of p = record { «module» = string_bytes p.0; features = map string_bytes p.1.items }
 
 -- what a selection names
-abbrev pub selected_of : Selection → Selected
+abbrev pub selected_of : Selection → ModuleChoice
 selected_of s = record {
   support = map entry_of s.support.items;
   imports = map string_bytes s.import_only.items;
 }
 
 -- every module is implemented but those that are there for their definitions only
-abbrev pub is_implemented : Selected → List ℕ → Bool
+abbrev pub is_implemented : ModuleChoice → List ℕ → Bool
 is_implemented c «module» = not (is_among c.imports «module»)
 
 -- the entry is of this module
@@ -44,6 +44,6 @@ is_listed «module» feature e = is_of «module» e && is_among e.features featu
 
 -- every feature is supported, but of a module that has an entry those only that one of its entries
 -- lists
-abbrev pub is_supported : Selected → List ℕ → List ℕ → Bool
+abbrev pub is_supported : ModuleChoice → List ℕ → List ℕ → Bool
 is_supported c «module» feature =
     not (list_any (is_of «module») c.support) || list_any (is_listed «module» feature) c.support

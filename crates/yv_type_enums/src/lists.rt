@@ -1,6 +1,6 @@
 //! The names of types, and what readers ask of them.
 ghost use Rattle.std.specs.{Prelude.{◌≡◌, ◌↔◌, ℕ, Some, IfOk}, Option.{option_map, option_copied}};
-ghost use Rattle.yv_statement.specs.{Order.{IsLeast}, Selection.{Selected}};
+ghost use Rattle.yv_statement.specs.{Order.{IsLeast}, Selection.{ModuleChoice}};
 ghost use Rattle.yv_link_scopes.specs.Files.{Files};
 ghost use Rattle.yv_type_chains.specs.Bases.{AreBases};
 ghost use Rattle.yv_link.specs.LinkedFiles.{AreLinked, truth_in};
@@ -33,7 +33,7 @@ impl<'a> Lists<'a> {
         bases: &Bases,
     ) -> Result<Lists<'a>, AllocError>
         ensures { IfOk result
-            (λ lists. (files : Files) (choice : Selected) → AreLinked files choice linked.now
+            (λ lists. (files : Files) (choice : ModuleChoice) → AreLinked files choice linked.now
             → AreBases files bases.now
             → AreLists files (truth_in linked.now) lists) }
     {

@@ -4,7 +4,7 @@ use Rattle.std.specs.List.{slice_get}
 use Rattle.std.proofs.lemmas.Bool.{cases_eq}
 use Rattle.std.proofs.lemmas.Option.{same_Some, slice_get_within}
 use Rattle.std.specs.BTreeSet.{BTreeSet}
-use Rattle.yv_statement.specs.Selection.{Selected}
+use Rattle.yv_statement.specs.Selection.{ModuleChoice}
 use Rattle.yv_link_scopes.specs.Files.{Files, Briefs, brief_of}
 use Rattle.yv_link_scopes.specs.RowList.{rows_of}
 use Rattle.yv_link_scopes.specs.Rows.{Row}
@@ -76,7 +76,7 @@ module _ (files : Briefs) (rows : List Row) (test : ℕ → Row → Bool) where
   )
 
 -- all of them
-pub all_candidates : (truth : Truth) (choice : Selected) (files : Files) (off : BTreeSet ℕ) → AreOff truth (rows_of files) off → (n : ℕ) (cs : List Candidate) → n ≡ length (rows_of files)
+pub all_candidates : (truth : Truth) (choice : ModuleChoice) (files : Files) (off : BTreeSet ℕ) → AreOff truth (rows_of files) off → (n : ℕ) (cs : List Candidate) → n ≡ length (rows_of files)
     → Gathered (map brief_of files) (rows_of files) (passes choice (map brief_of files) off) n cs → AreCandidates truth choice files cs
 all_candidates truth choice files off are n cs e g = record {
   sound = λ k c at. let p = g.0 k c at in (p.0, p.1, p.3, passes_candidate truth choice files off are p.0 p.1 p.4, p.5);

@@ -3,7 +3,7 @@ use Rattle.std.proofs.Common.{◌≡◌, ◌↔◌, ℕ, ◌++◌, ◌∷◌, []
 use Rattle.std.specs.Bool.{Decides}
 use Rattle.std.specs.List.{slice_get, list_any}
 use Rattle.std.proofs.lemmas.Option.{slice_get_read}
-use Rattle.yv_statement.specs.Selection.{Selected}
+use Rattle.yv_statement.specs.Selection.{ModuleChoice}
 use Rattle.yv_link_scopes.specs.Files.{Files, brief_of}
 use Rattle.yv_link_scopes.specs.RowList.{rows_of}
 use Rattle.yv_link_identities.specs.declared.references.IdentityRef.{IdentityRef}
@@ -48,7 +48,7 @@ again_found linked fs own f k key other copy same within at is one copied all =
 
 -- a list that is made for a key
 pub new_found : (linked : Linked) (ids : IdentityLists) → AreIdentities linked ids → (left : Option References) (key own : List (ℕ × ℕ)) (members : List Id) → own ≡ key
-    → ((files : Files) (choice : Selected) → AreLinked files choice linked → (place : IdentityRef) → IsTrue (is_left left place) ↔ IsBelowKey (map brief_of files) (rows_of files) own place)
+    → ((files : Files) (choice : ModuleChoice) → AreLinked files choice linked → (place : IdentityRef) → IsTrue (is_left left place) ↔ IsBelowKey (map brief_of files) (rows_of files) own place)
     → ((module_name called : List ℕ) → IsTrue (list_any (is_identity module_name called) members)
     ↔ ((k : ℕ) × (c : Candidate) × (slice_get ids.candidates.list.items k ≡ Some c) × (is_left left c.identity ≡ true) × (id_of c.member ≡ record { module_name = module_name; name = called })))
     → IsFound linked key members

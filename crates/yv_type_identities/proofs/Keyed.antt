@@ -1,7 +1,7 @@
 -- The values of a type, by the key of its bases.
 use Rattle.std.proofs.Common.{◌≡◌, ℕ, ◌↔◌, true, IsTrue, List, Option, Some, map, sym, ◌∙◌, subst}
 use Rattle.std.specs.List.{slice_get, list_any}
-use Rattle.yv_statement.specs.Selection.{Selected}
+use Rattle.yv_statement.specs.Selection.{ModuleChoice}
 use Rattle.yv_link_scopes.specs.Files.{Files, brief_of}
 use Rattle.yv_link_scopes.specs.RowList.{rows_of}
 use Rattle.yv_link_identities.specs.References.{is_at}
@@ -15,7 +15,7 @@ use Rattle.yv_type_identities.specs.InnerSets.{is_key, is_left}
 use Rattle.yv_type_identities.specs.declared.candidates.Candidate.{Candidate}
 use Rattle.yv_type_identities.specs.declared.sets.References.{References}
 
-module _ (truth : Truth) (choice : Selected) (files : Files) where
+module _ (truth : Truth) (choice : ModuleChoice) (files : Files) where
   -- the candidates that are left are the values of the key
   pub key_values : (cs : List Candidate) (key : List (ℕ × ℕ)) (left : Option References) (module_name called : List ℕ) → AreCandidates truth choice files cs
       → ((place : IdentityRef) → IsTrue (is_left left place) ↔ IsBelowKey (map brief_of files) (rows_of files) key place)

@@ -6,7 +6,7 @@ use Rattle.std.specs.Str.{bytes_eq}
 use Rattle.std.proofs.lemmas.Option.{same_Some, slice_get_within, slice_get-get_or, slice_get-map}
 use Rattle.std.proofs.lemmas.Slice.Eq.{bytes_eq-Decides}
 use Rattle.yv_base_graph.specs.Graph.{Graph, ArePlaces, LeadsTo}
-use Rattle.yv_statement.specs.Selection.{Selected}
+use Rattle.yv_statement.specs.Selection.{ModuleChoice}
 use Rattle.yv_link_scopes.specs.Files.{Files, Briefs, brief_of}
 use Rattle.yv_link_scopes.specs.RowList.{rows_of}
 use Rattle.yv_link_scopes.specs.Rows.{Row}
@@ -104,14 +104,14 @@ id_is module_name called i h =
 some_run : (o : Option Run) (run : Run) (n : ℕ) → o ≡ Some run → in_run o n ≡ is_in run n
 some_run o run n e = ap (λ x. in_run x n) e
 
-module _ (linked : Linked) (cs : List Candidate) (shared : SharedMembers) (are : AreShared linked cs shared) (all : (files : Files) (choice : Selected) → AreLinked files choice linked → AreCandidates (truth_in linked) choice files cs) where
+module _ (linked : Linked) (cs : List Candidate) (shared : SharedMembers) (are : AreShared linked cs shared) (all : (files : Files) (choice : ModuleChoice) → AreLinked files choice linked → AreCandidates (truth_in linked) choice files cs) where
   abbrev entry : Candidate → NumberedId
   entry = numbered_by shared.places shared.ranks.items
 
   module _ (key : List (ℕ × ℕ)) (run : Run) (known : (c : ℕ) (k : ℕ × ℕ) → slice_get key c ≡ Some k → HasRun shared k)
       (met : (n : ℕ) → IsTrue (is_in run n) ↔ ((c : ℕ) (k : ℕ × ℕ) → slice_get key c ≡ Some k → IsTrue (in_run (run_of shared (ref_at k)) n))) where
     -- a candidate is in the part where it is derived from each base
-    in_part : (files : Files) (choice : Selected) → AreLinked files choice linked → (i : ℕ) (r : Row) (c : Candidate) → slice_get (rows_of files) i ≡ Some r → is_identity_row r ≡ true → c.identity ≡ ref_of r
+    in_part : (files : Files) (choice : ModuleChoice) → AreLinked files choice linked → (i : ℕ) (r : Row) (c : Candidate) → slice_get (rows_of files) i ≡ Some r → is_identity_row r ≡ true → c.identity ≡ ref_of r
         → IsTrue (is_in run (entry c).number) ↔ IsBelowKey (map brief_of files) (rows_of files) key (ref_of r)
     in_part files choice t i r c at is place =
         let n : ℕ = (entry c).number in

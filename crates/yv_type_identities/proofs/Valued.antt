@@ -5,7 +5,7 @@ use Rattle.std.proofs.lemmas.Bool.{cases_Bool}
 use Rattle.std.specs.List.{list_any}
 use Rattle.std.specs.BTreeSet.{BTreeSet, contains}
 use Rattle.std.specs.Ordering.{nat_cmp}
-use Rattle.yv_statement.specs.Selection.{Selected}
+use Rattle.yv_statement.specs.Selection.{ModuleChoice}
 use Rattle.yv_link_scopes.specs.Files.{Files, brief_of}
 use Rattle.yv_link_scopes.specs.RowList.{rows_of}
 use Rattle.yv_link_scopes.specs.Rows.{Row, name_in}
@@ -47,7 +47,7 @@ module _ (truth : Truth) (rows : List Row) (number : ℕ) where
 abbrev pub AreOff : Truth → List Row → BTreeSet ℕ → Type 0
 AreOff truth rows off = (number : ℕ) → contains nat_cmp off number ≡ list_any (fails truth number) rows
 
-module _ (truth : Truth) (choice : Selected) (files : Files) (off : BTreeSet ℕ) (are : AreOff truth (rows_of files) off) where
+module _ (truth : Truth) (choice : ModuleChoice) (files : Files) (off : BTreeSet ℕ) (are : AreOff truth (rows_of files) off) where
   pub candidate_passes : (number : ℕ) (r : Row) → IsCandidate truth choice files number r → passes choice (map brief_of files) off number r ≡ true
   candidate_passes number r v =
       both_true (is_identity r) _ v.identity

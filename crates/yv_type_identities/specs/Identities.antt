@@ -1,7 +1,7 @@
 -- What is known of what was read for identityref types.
 use Rattle.std.specs.Prelude.{◌≡◌, ◌↔◌, ℕ, List, IsTrue, Some, map, slice_get}
 use Rattle.std.specs.List.{list_any}
-use Rattle.yv_statement.specs.Selection.{Selected}
+use Rattle.yv_statement.specs.Selection.{ModuleChoice}
 use Rattle.yv_link_scopes.specs.Files.{Files, brief_of}
 use Rattle.yv_link_scopes.specs.RowList.{rows_of}
 use Rattle.yv_link_identities.specs.References.{is_at}
@@ -19,17 +19,17 @@ use Rattle.yv_type_identities.specs.declared.identities.IdentityLists.{IdentityL
 
 -- these are the identities that are values of a type with these bases
 abbrev pub IsFound : Linked → List (ℕ × ℕ) → List Id → Type 0
-IsFound linked key members = (files : Files) (choice : Selected) → AreLinked files choice linked
+IsFound linked key members = (files : Files) (choice : ModuleChoice) → AreLinked files choice linked
     → (module_name called : List ℕ) → IsTrue (list_any (is_identity module_name called) members)
     ↔ HasKeyValue (truth_in linked) choice files key module_name called
 
 -- this was read of these linked files; how, only the readers ask
 pub record AreIdentities (linked : Linked) (identities : IdentityLists) : Type 0 where
-  pub bases : (files : Files) (choice : Selected) → AreLinked files choice linked
+  pub bases : (files : Files) (choice : ModuleChoice) → AreLinked files choice linked
       → (block : ℕ) (base : IdentityRef)
       → IsTrue (list_any (is_at base) (bases_at identities.bases.items block))
       ↔ NamesBase (map brief_of files) (rows_of files) block base
-  pub candidates : (files : Files) (choice : Selected) → AreLinked files choice linked
+  pub candidates : (files : Files) (choice : ModuleChoice) → AreLinked files choice linked
       → AreCandidates (truth_in linked) choice files identities.candidates.list.items
   pub shared : (s : SharedMembers) → identities.shared ≡ Some s
       → AreShared linked identities.candidates.list.items s

@@ -6,7 +6,7 @@ use Rattle.std.specs.Ordering.{nat_cmp}
 use Rattle.std.specs.Rc.{rc_str_bytes}
 use Rattle.std.specs.declared.alloc.Global.{Global}
 use Rattle.std.specs.declared.rc.RcStr.{RcStr}
-use Rattle.yv_statement.specs.Selection.{Selected}
+use Rattle.yv_statement.specs.Selection.{ModuleChoice}
 use Rattle.yv_link_scopes.specs.Files.{Files, Briefs, brief_of}
 use Rattle.yv_link_scopes.specs.RowList.{rows_of}
 use Rattle.yv_link_scopes.specs.Rows.{Row, name_in}
@@ -28,13 +28,13 @@ AreModuleNames files module_files = (k : ℕ) (h : RcStr Global) → slice_get m
     → rc_str_bytes h ≡ module_name_in (slice_get files k)
 
 -- all that is asked of a numbered statement
-abbrev pub passes : Selected → Briefs → BTreeSet ℕ → ℕ → Row → Bool
+abbrev pub passes : ModuleChoice → Briefs → BTreeSet ℕ → ℕ → Row → Bool
 passes choice files off number r =
     is_identity r && (names_implemented choice files (id_at files r).module_name
     && not (contains nat_cmp off number))
 
 -- the numbered statement r is an identity of an implemented module, and on
-pub record IsCandidate (truth : Truth) (choice : Selected) (files : Files) (number : ℕ)
+pub record IsCandidate (truth : Truth) (choice : ModuleChoice) (files : Files) (number : ℕ)
     (r : Row) : Type 0 where
   pub identity : is_identity r ≡ true
   pub implemented : names_implemented choice (map brief_of files)
@@ -47,7 +47,7 @@ pub record IsOf (files : Briefs) (r : Row) (c : Candidate) : Type 0 where
   pub name : id_of c.member ≡ id_at files r
 
 -- these are all such statements
-pub record AreCandidates (truth : Truth) (choice : Selected) (files : Files)
+pub record AreCandidates (truth : Truth) (choice : ModuleChoice) (files : Files)
     (cs : List Candidate) : Type 0 where
   pub sound : (k : ℕ) (c : Candidate) → slice_get cs k ≡ Some c
       → (number : ℕ) × (r : Row) × (slice_get (rows_of files) number ≡ Some r)
@@ -57,7 +57,7 @@ pub record AreCandidates (truth : Truth) (choice : Selected) (files : Files)
       → (k : ℕ) × (c : Candidate) × (slice_get cs k ≡ Some c) × IsOf (map brief_of files) r c
 
 -- this module has an identity of this name that is a value of a type with these bases
-abbrev pub HasKeyValue : Truth → Selected → Files → List (ℕ × ℕ) → List ℕ → List ℕ → Type 0
+abbrev pub HasKeyValue : Truth → ModuleChoice → Files → List (ℕ × ℕ) → List ℕ → List ℕ → Type 0
 HasKeyValue truth choice files key module_name called =
     (number : ℕ) × (r : Row) × (slice_get (rows_of files) number ≡ Some r)
     × IsCandidate truth choice files number r

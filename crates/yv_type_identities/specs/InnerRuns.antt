@@ -5,7 +5,7 @@ use Rattle.std.specs.List.{list_any}
 use Rattle.std.specs.Option.{option_map, option_and_then, unwrap_or}
 use Rattle.std.specs.Ordering.{nat_cmp, ordering_then}
 use Rattle.yv_base_graph.specs.Graph.{Graph, HasEdge, LeadsTo}
-use Rattle.yv_statement.specs.Selection.{Selected}
+use Rattle.yv_statement.specs.Selection.{ModuleChoice}
 use Rattle.yv_link_scopes.specs.Files.{Files, Briefs, brief_of}
 use Rattle.yv_link_scopes.specs.RowList.{rows_of}
 use Rattle.yv_link_scopes.specs.Rows.{Row}
@@ -111,7 +111,7 @@ is_met (Some run) n = is_in run n
 pub record AreShared (linked : Linked) (cs : List Candidate) (shared : SharedMembers) : Type 0 where
   pub listed : (p : NumberedId → Bool)
       → list_any p shared.all ≡ list_any p (map (numbered_by shared.places shared.ranks.items) cs)
-  pub exact : (files : Files) (choice : Selected) → AreLinked files choice linked
+  pub exact : (files : Files) (choice : ModuleChoice) → AreLinked files choice linked
       → (base : IdentityRef) (run : Run) → run_of shared base ≡ Some run
       → (i : ℕ) (r : Row) → slice_get (rows_of files) i ≡ Some r → is_identity r ≡ true
       → IsTrue (is_in run (unwrap_or (rank_by shared.places shared.ranks.items (ref_of r)) 0))

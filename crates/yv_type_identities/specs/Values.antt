@@ -1,7 +1,7 @@
 -- The values of an identityref type (RFC 7950, section 9.10).
 use Rattle.std.specs.Prelude.{◌≡◌, ℕ, Bool, true, false, List, map, Some, slice_get}
 use Rattle.std.specs.Option.{option_map, unwrap_or}
-use Rattle.yv_statement.specs.Selection.{Selected}
+use Rattle.yv_statement.specs.Selection.{ModuleChoice}
 use Rattle.yv_link_scopes.specs.Files.{Files, Briefs, brief_of}
 use Rattle.yv_link_scopes.specs.RowList.{rows_of}
 use Rattle.yv_link_scopes.specs.Rows.{Row, name_in}
@@ -22,7 +22,7 @@ abbrev pub IsOn : Truth → List Row → ℕ → Type 0
 IsOn truth = AllHoldBy (λ file text. truth file text ≡ true)
 
 -- the module of a name is there, and it is implemented (section 5.6.5)
-abbrev pub names_implemented : Selected → Briefs → List ℕ → Bool
+abbrev pub names_implemented : ModuleChoice → Briefs → List ℕ → Bool
 names_implemented choice files name =
     unwrap_or (option_map (λ (m : ModuleRef). m.implemented) (named_module choice files name)) false
 
@@ -32,7 +32,7 @@ id_at files r = record { module_name = module_name_in (slice_get files r.file); 
 
 -- the numbered statement r is an identity that is derived from every base of the type, of an
 -- implemented module, and none of its conditions is false (section 9.10.2)
-pub record IsValue (truth : Truth) (choice : Selected) (files : Files) (kind number : ℕ)
+pub record IsValue (truth : Truth) (choice : ModuleChoice) (files : Files) (kind number : ℕ)
     (r : Row) : Type 0 where
   pub identity : is_identity r ≡ true
   pub derived : IsBelowAll (map brief_of files) (rows_of files) kind (ref_of r)
@@ -41,7 +41,7 @@ pub record IsValue (truth : Truth) (choice : Selected) (files : Files) (kind num
   pub on : IsOn truth (rows_of files) number
 
 -- this module has an identity of this name that is a value
-abbrev pub HasValue : Truth → Selected → Files → ℕ → List ℕ → List ℕ → Type 0
+abbrev pub HasValue : Truth → ModuleChoice → Files → ℕ → List ℕ → List ℕ → Type 0
 HasValue truth choice files kind module_name called =
     (number : ℕ) × (r : Row) × (slice_get (rows_of files) number ≡ Some r)
     × IsValue truth choice files kind number r

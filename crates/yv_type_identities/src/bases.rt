@@ -1,6 +1,6 @@
 //! What is derived from all of some bases.
 ghost use Rattle.std.specs.Prelude.{◌↔◌, IsTrue, IfOk, map};
-ghost use Rattle.yv_statement.specs.Selection.{Selected};
+ghost use Rattle.yv_statement.specs.Selection.{ModuleChoice};
 ghost use Rattle.yv_link_scopes.specs.{Files.{Files, brief_of}, RowList.{rows_of}};
 ghost use Rattle.yv_link_identities.specs.declared.references.IdentityRef.{IdentityRef};
 ghost use Rattle.yv_link.specs.LinkedFiles.{AreLinked};
@@ -18,7 +18,7 @@ pub(crate) fn below(
     key: &[(u32, u64)],
 ) -> Result<Option<References>, AllocError>
     ensures { IfOk result
-        (λ left. (files : Files) (choice : Selected) → AreLinked files choice linked.now
+        (λ left. (files : Files) (choice : ModuleChoice) → AreLinked files choice linked.now
         → (place : IdentityRef)
         → IsTrue (is_left left place)
         ↔ IsBelowKey (map brief_of files) (rows_of files) key.now place) }

@@ -1,6 +1,6 @@
 //! The identities that are values wherever they are derived from the bases.
 ghost use Rattle.std.specs.{Prelude.{◌≡◌, map, slice_get, IfOk}, Rc.{rc_str_bytes}};
-ghost use Rattle.yv_statement.specs.Selection.{Selected};
+ghost use Rattle.yv_statement.specs.Selection.{ModuleChoice};
 ghost use Rattle.yv_link_scopes.specs.{Files.{Files, brief_of}, RowList.{rows_of}, Rows.{row}};
 ghost use Rattle.yv_link_features.specs.On.{module_name_in};
 ghost use Rattle.yv_link_identities.specs.{Names.{is_identity}, References.{ref_of}};
@@ -51,7 +51,7 @@ pub(crate) fn reference(entry: &Entry<'_, '_>) -> IdentityRef
 
 // The name of the module to which a file belongs.
 fn module_name_of<'a>(linked: &Linked<'a, '_>, file: u32) -> &'a str
-    ensures { (files : Files) (choice : Selected) → AreLinked files choice linked.now
+    ensures { (files : Files) (choice : ModuleChoice) → AreLinked files choice linked.now
         → result.now ≡ module_name_in (slice_get (map brief_of files) file) }
 {
     match linked.rows().files().get(file as usize) {
@@ -62,7 +62,7 @@ fn module_name_of<'a>(linked: &Linked<'a, '_>, file: u32) -> &'a str
 
 // Whether the module of a name is there and implemented.
 fn names_implemented<'a>(linked: &Linked<'a, '_>, name: &'a str) -> bool
-    ensures { (files : Files) (choice : Selected) → AreLinked files choice linked.now
+    ensures { (files : Files) (choice : ModuleChoice) → AreLinked files choice linked.now
         → result ≡ names_implemented choice (map brief_of files) name.now }
 {
     match linked.module(name) {
@@ -74,7 +74,7 @@ fn names_implemented<'a>(linked: &Linked<'a, '_>, name: &'a str) -> bool
 // The names of the modules to which the files belong, once for each file.
 fn module_names(alloc: Global, linked: &Linked<'_, '_>) -> Result<Vec<RcStr>, AllocError>
     ensures { IfOk result
-        (λ module_files. (files : Files) (choice : Selected) → AreLinked files choice linked.now
+        (λ module_files. (files : Files) (choice : ModuleChoice) → AreLinked files choice linked.now
         → AreModuleNames (map brief_of files) module_files.items) }
 {
     let mut module_files = Vec::new(alloc);
@@ -92,7 +92,7 @@ fn count(linked: &Linked<'_, '_>) -> u32 {
 impl<'a, 'b> Draft<'_, 'a, 'b> {
     // Whether a numbered statement is an identity of an implemented module, and on.
     fn passes(&self, number: usize, entry: &Entry<'a, 'b>) -> bool
-        ensures { (files : Files) (choice : Selected) → AreLinked files choice self.now.linked.now
+        ensures { (files : Files) (choice : ModuleChoice) → AreLinked files choice self.now.linked.now
             → result ≡ passes choice (map brief_of files) self.now.off number (row entry.now) }
     {
         is_identity(entry)
@@ -103,7 +103,7 @@ impl<'a, 'b> Draft<'_, 'a, 'b> {
     // The name of the module to which a file belongs, shared by all that ask.
     fn module_name(&self, alloc: Global, file: u32) -> Result<RcStr, AllocError>
         ensures { IfOk result
-            (λ module_name. (files : Files) (choice : Selected)
+            (λ module_name. (files : Files) (choice : ModuleChoice)
             → AreLinked files choice self.now.linked.now
             → AreModuleNames (map brief_of files) self.now.module_files.items
             → rc_str_bytes module_name ≡ module_name_in (slice_get (map brief_of files) file)) }
@@ -117,7 +117,7 @@ impl<'a, 'b> Draft<'_, 'a, 'b> {
     // The identity of a statement, with its module.
     fn candidate(&self, alloc: Global, entry: &Entry<'a, 'b>) -> Result<Candidate, AllocError>
         ensures { IfOk result
-            (λ c. (files : Files) (choice : Selected) → AreLinked files choice self.now.linked.now
+            (λ c. (files : Files) (choice : ModuleChoice) → AreLinked files choice self.now.linked.now
             → AreModuleNames (map brief_of files) self.now.module_files.items
             → IsOf (map brief_of files) (row entry.now) c) }
     {
@@ -136,7 +136,7 @@ pub(crate) fn candidates(
     linked: &Linked<'_, '_>,
 ) -> Result<Vec<Candidate>, AllocError>
     ensures { IfOk result
-        (λ candidates. (files : Files) (choice : Selected) → AreLinked files choice linked.now
+        (λ candidates. (files : Files) (choice : ModuleChoice) → AreLinked files choice linked.now
         → AreCandidates (truth_in linked.now) choice files candidates.items) }
 {
     let module_files = module_names(alloc, linked)?;

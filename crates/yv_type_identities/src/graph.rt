@@ -1,7 +1,7 @@
 //! What is directly derived from each identity.
 ghost use Rattle.std.specs.Prelude.{◌≡◌, ◌↔◌, ◌<◌, ℕ, None, Some, true, length, map, IfOk, IfSome};
 ghost use Rattle.yv_base_graph.specs.Graph.{IsGraph};
-ghost use Rattle.yv_statement.specs.Selection.{Selected};
+ghost use Rattle.yv_statement.specs.Selection.{ModuleChoice};
 ghost use Rattle.yv_link_scopes.specs.{Files.{Files, brief_of}, RowList.{rows_of}, Rows.{row}};
 ghost use Rattle.yv_link_identities.specs.InnerPairs.{HasNoEdge};
 ghost use Rattle.yv_link.specs.LinkedFiles.{AreLinked};
@@ -34,7 +34,7 @@ fn pair<'a, 'b>(
 ) -> Option<(usize, usize)>
     ensures within { IfSome result
         (λ p. (p.0 < length entries.now) × (p.1 < length entries.now)) }
-    ensures gives { (files : Files) (choice : Selected) → AreLinked files choice linked.now
+    ensures gives { (files : Files) (choice : ModuleChoice) → AreLinked files choice linked.now
         → result
         ≡ pair_of (map brief_of files) (rows_of files) (map row entries.now) places.now
         (row entry.now) }
@@ -61,13 +61,13 @@ fn edge<'a, 'b>(
     requires { number < length entries.now }
     ensures within { IfSome result
         (λ p. (p.0 < length entries.now) × (p.1 < length entries.now)) }
-    ensures sound { (files : Files) (choice : Selected) → AreLinked files choice linked.now
+    ensures sound { (files : Files) (choice : ModuleChoice) → AreLinked files choice linked.now
         → (base own : ℕ) → result ≡ Some (base, own)
         → is_identity_in (map row entries.now) base ≡ true
         → pair_of (map brief_of files) (rows_of files) (map row entries.now) places.now
         (row entry.now)
         ≡ Some (base, own) }
-    ensures full { (files : Files) (choice : Selected) → AreLinked files choice linked.now
+    ensures full { (files : Files) (choice : ModuleChoice) → AreLinked files choice linked.now
         → (base own : ℕ)
         → pair_of (map brief_of files) (rows_of files) (map row entries.now) places.now
         (row entry.now)
@@ -105,7 +105,7 @@ pub(crate) fn read_graph(
 ) -> Result<Vec<Vec<usize>>, AllocError>
     ensures graph { IfOk result (λ graph. IsGraph graph.items) }
     ensures exact { IfOk result
-        (λ graph. (files : Files) (choice : Selected) → AreLinked files choice linked.now
+        (λ graph. (files : Files) (choice : ModuleChoice) → AreLinked files choice linked.now
         → AreIdentityPlaces (rows_of files) places.now
         → AreDerived (map brief_of files) (rows_of files) graph.items) }
 {

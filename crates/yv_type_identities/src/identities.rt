@@ -1,6 +1,6 @@
 //! The values of identityref types.
 ghost use Rattle.std.specs.{Prelude.{◌≡◌, ◌↔◌, ℕ, List, IsTrue, IfOk, IfSome, OnOk}, List.{list_any}};
-ghost use Rattle.yv_statement.specs.Selection.{Selected};
+ghost use Rattle.yv_statement.specs.Selection.{ModuleChoice};
 ghost use Rattle.yv_link_scopes.specs.Files.{Files};
 ghost use Rattle.yv_link.specs.LinkedFiles.{AreLinked, truth_in};
 ghost use Rattle.yv_values.specs.Identities.{RiseById, is_identity};
@@ -86,7 +86,7 @@ impl IdentityLists {
         // identityref type of this number: derived from each of its bases, of an implemented
         // module, and with conditions that hold.
         ensures same { AreIdentities linked.now self.old
-            → IfOk result (λ members. (files : Files) (choice : Selected)
+            → IfOk result (λ members. (files : Files) (choice : ModuleChoice)
             → AreLinked files choice linked.now → (module_name called : List ℕ)
             → IsTrue (list_any (is_identity module_name called) members)
             ↔ HasValue (truth_in linked.now) choice files number module_name called) }

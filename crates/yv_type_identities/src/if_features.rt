@@ -1,6 +1,6 @@
 //! Which statements have a condition that doesn't hold.
 ghost use Rattle.std.specs.{Prelude.{◌≡◌, ◌&&◌, not, ℕ, IfOk}, BTreeSet.{contains}, List.{list_any}, Ordering.{nat_cmp}};
-ghost use Rattle.yv_statement.specs.Selection.{Selected};
+ghost use Rattle.yv_statement.specs.Selection.{ModuleChoice};
 ghost use Rattle.yv_link_scopes.specs.{Files.{Files}, RowList.{rows_of}, Rows.{row, name_in}};
 ghost use Rattle.yv_link_features.specs.Meaning.{is_if_feature};
 ghost use Rattle.yv_link.specs.LinkedFiles.{AreLinked, truth_in};
@@ -24,7 +24,7 @@ fn is_false<'a, 'b>(linked: &Linked<'a, 'b>, entry: &Entry<'a, 'b>) -> bool
 /// The numbers of the statements that have a false `if-feature` in their block.
 pub(crate) fn off(alloc: Global, linked: &Linked<'_, '_>) -> Result<BTreeSet<usize>, AllocError>
     ensures { IfOk result
-        (λ numbers. (files : Files) (choice : Selected) → AreLinked files choice linked.now
+        (λ numbers. (files : Files) (choice : ModuleChoice) → AreLinked files choice linked.now
         → (number : ℕ)
         → contains nat_cmp numbers number
         ≡ list_any (fails (truth_in linked.now) number) (rows_of files)) }

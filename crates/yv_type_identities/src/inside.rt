@@ -1,6 +1,6 @@
 //! The bases in each block.
 ghost use Rattle.std.specs.{Prelude.{◌≡◌, ◌≢◌, ◌↔◌, ◌∷◌, ◌++◌, ◌<◌, ℕ, [], length, map, IsTrue, IfOk, OnOk}, List.{list_any}};
-ghost use Rattle.yv_statement.specs.Selection.{Selected};
+ghost use Rattle.yv_statement.specs.Selection.{ModuleChoice};
 ghost use Rattle.yv_link_scopes.specs.{Files.{Files, brief_of}, RowList.{rows_of}, Rows.{row}};
 ghost use Rattle.yv_link_identities.specs.{References.{is_at}, declared.references.IdentityRef.{IdentityRef}};
 ghost use Rattle.yv_link.specs.LinkedFiles.{AreLinked};
@@ -13,7 +13,7 @@ use yv_statement::Keyword;
 
 /// The base that a statement gives the type or the identity in whose block it is.
 pub(crate) fn base_of<'a, 'b>(linked: &Linked<'a, 'b>, entry: &Entry<'a, 'b>) -> Option<IdentityRef>
-    ensures { (files : Files) (choice : Selected) → AreLinked files choice linked.now
+    ensures { (files : Files) (choice : ModuleChoice) → AreLinked files choice linked.now
         → result ≡ base_of (map brief_of files) (rows_of files) (row entry.now) }
 {
     if entry.is(Keyword::Base) {
@@ -71,7 +71,7 @@ pub(crate) fn bases_inside(
     linked: &Linked<'_, '_>,
 ) -> Result<Vec<Vec<IdentityRef>>, AllocError>
     ensures { IfOk result
-        (λ inside. (files : Files) (choice : Selected) → AreLinked files choice linked.now
+        (λ inside. (files : Files) (choice : ModuleChoice) → AreLinked files choice linked.now
         → (block : ℕ) (base : IdentityRef)
         → IsTrue (list_any (is_at base) (bases_at inside.items block))
         ↔ NamesBase (map brief_of files) (rows_of files) block base) }

@@ -1,6 +1,6 @@
 //! Laws about the definitions only. These functions do nothing: the contract of each is the law.
 ghost use Rattle.std.specs.Prelude.{◌≡◌, ◌↔◌, ℕ, List, Some, None, slice_get};
-ghost use Rattle.yv_statement.specs.{Order.{IsLeast}, Selection.{Selected}};
+ghost use Rattle.yv_statement.specs.{Order.{IsLeast}, Selection.{ModuleChoice}};
 ghost use Rattle.yv_link_scopes.specs.{Files.{Files, Briefs}, Rows.{Row}};
 ghost use Rattle.yv_link_features.specs.{Refusals.{BadFeatures}, On.{Holds}};
 ghost use Rattle.yv_link_identities.specs.{References.{IsDerived, ref_of}, declared.references.IdentityRef.{IdentityRef}};
@@ -9,7 +9,7 @@ ghost use Rattle.yv_type_identities.specs.{Bases.{IsBelow}, Values.{Truth, HasVa
 /// Where nothing is refused of the features, a type has the same values whatever decides the truth
 /// of conditions.
 pub fn a_type_has_its_values()
-    ensures { (files : Files) (choice : Selected) (t u : Truth) → IsLeast (BadFeatures files) None
+    ensures { (files : Files) (choice : ModuleChoice) (t u : Truth) → IsLeast (BadFeatures files) None
         → ((file : ℕ) (text : List ℕ) → Holds files choice file text (t file text))
         → ((file : ℕ) (text : List ℕ) → Holds files choice file text (u file text))
         → (number : ℕ) (module_name called : List ℕ)

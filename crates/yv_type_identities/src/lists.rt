@@ -1,6 +1,6 @@
 //! The identities of a type, of those that might be.
 ghost use Rattle.std.specs.{Prelude.{◌≡◌, ◌↔◌, ℕ, List, true, Some, nat_eq, nat_lt, slice_get, IsTrue, IfOk}, List.{list_any}};
-ghost use Rattle.yv_statement.specs.Selection.{Selected};
+ghost use Rattle.yv_statement.specs.Selection.{ModuleChoice};
 ghost use Rattle.yv_link_scopes.specs.Files.{Files};
 ghost use Rattle.yv_link.specs.LinkedFiles.{AreLinked, truth_in};
 ghost use Rattle.yv_values.specs.Identities.{RiseById, id_of, is_identity};
@@ -37,7 +37,7 @@ impl Candidates {
     /// Reads them, in time n log n in the statements.
     pub(crate) fn read(alloc: Global, linked: &Linked<'_, '_>) -> Result<Candidates, AllocError>
         ensures { IfOk result
-            (λ all. (files : Files) (choice : Selected) → AreLinked files choice linked.now
+            (λ all. (files : Files) (choice : ModuleChoice) → AreLinked files choice linked.now
             → AreCandidates (truth_in linked.now) choice files all.list.items) }
     {
         let list = candidates(alloc, linked)?;

@@ -1,6 +1,6 @@
 //! The identities that may be values as one list, which types share.
 ghost use Rattle.std.specs.{Prelude.{◌≡◌, ◌↔◌, ◌&&◌, ℕ, List, Some, map, slice_get, IsTrue, IfOk, IfSome}, Option.{option_and_then}};
-ghost use Rattle.yv_statement.specs.Selection.{Selected};
+ghost use Rattle.yv_statement.specs.Selection.{ModuleChoice};
 ghost use Rattle.yv_link_scopes.specs.Files.{Files};
 ghost use Rattle.yv_link.specs.{LinkedFiles.{AreLinked, truth_in}, declared.linked_files.Linked.{Linked}};
 ghost use Rattle.yv_values.specs.Identities.{RiseById, numbered_of};
@@ -122,7 +122,7 @@ impl SharedMembers {
     pub(crate) fn members(&self, key: &[(u32, u64)]) -> Result<Option<Members>, AllocError>
         ensures rises { IfOk result (λ found. IfSome found RiseById) }
         ensures right { (linked : Linked) (cs : List Candidate) → AreShared linked cs self.now
-            → ((files : Files) (choice : Selected) → AreLinked files choice linked
+            → ((files : Files) (choice : ModuleChoice) → AreLinked files choice linked
             → AreCandidates (truth_in linked) choice files cs)
             → IfOk result (λ found. IfSome found (IsFound linked key.now)) }
     {

@@ -6,7 +6,7 @@ use Rattle.std.proofs.lemmas.List.{append-nil, append_assoc}
 use Rattle.std.proofs.lemmas.List.Elements.{Contains-append_cases}
 use Rattle.std.proofs.lemmas.Option.{same_Some}
 use Rattle.yv_base_tables.specs.declared.table.Table.{Table}
-use Rattle.yv_statement.specs.Selection.{Selected}
+use Rattle.yv_statement.specs.Selection.{ModuleChoice}
 use Rattle.yv_link_scopes.specs.Files.{Files}
 use Rattle.yv_link_scopes.specs.Rows.{Row}
 use Rattle.yv_type_chains.specs.Types.{IsMember, is_type_in, is_union, types_from, types_in}
@@ -44,7 +44,7 @@ no_list rs e = cc
 some_list : (rs : List Plain) → Some rs ≡ None → ⊥
 some_list rs e = cc
 
-module _ (files : Files) (truth : Truth) (choice : Selected) (spaces : Table SharedTypes) where
+module _ (files : Files) (truth : Truth) (choice : ModuleChoice) (spaces : Table SharedTypes) where
   -- the table has the plain types of these
   abbrev pub HasAll : List ℕ → Type 0
   HasAll ms = (m : ℕ) → Contains ms m → IsSpace files truth choice m (plains_at spaces m)

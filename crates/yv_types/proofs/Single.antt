@@ -3,7 +3,7 @@ use Rattle.std.proofs.Common.{◌≡◌, ◌↔◌, ℕ, true, IsTrue, List, [],
 use Rattle.std.specs.Bool.{one_answer}
 use Rattle.std.specs.List.{list_any, slice_get}
 use Rattle.std.proofs.lemmas.Option.{same_Some}
-use Rattle.yv_statement.specs.Selection.{Selected}
+use Rattle.yv_statement.specs.Selection.{ModuleChoice}
 use Rattle.yv_link_scopes.specs.Files.{Files, brief_of}
 use Rattle.yv_link_scopes.specs.Rows.{Row}
 use Rattle.yv_link_scopes.specs.RowList.{rows_of}
@@ -28,7 +28,7 @@ IdsAreOne =
     (xs ys : List Id) → RiseById xs → RiseById ys
     → ((module_name called : List ℕ) → list_any (is_identity module_name called) xs ≡ list_any (is_identity module_name called) ys) → xs ≡ ys
 
-module _ (texts_one : TextsAreOne) (ids_one : IdsAreOne) (heads : HaveRows) (files : Files) (truth : Truth) (choice : Selected) (once : (k i j : ℕ) → Follows (map brief_of files) (rows_of files) k i → Follows (map brief_of files) (rows_of files) k j → i ≡ j) (plain_one : (k : ℕ) (p q : Plain) → HasPlainType files k p → HasPlainType files k q → p ≡ q) where
+module _ (texts_one : TextsAreOne) (ids_one : IdsAreOne) (heads : HaveRows) (files : Files) (truth : Truth) (choice : ModuleChoice) (once : (k i j : ℕ) → Follows (map brief_of files) (rows_of files) k i → Follows (map brief_of files) (rows_of files) k j → i ≡ j) (plain_one : (k : ℕ) (p q : Plain) → HasPlainType files k p → HasPlainType files k q → p ≡ q) where
   of_faceted : (k : ℕ) (p : Plain) → HasPlainType files k p → (qs : List Plain) → Space files truth choice k qs → p ∷ [] ≡ qs
   of_faceted k p h qs (plain_type {p = q} g) = ap (λ x. x ∷ []) (plain_one k p q h g)
   of_faceted k p h qs (names_type told ns g up same) = absurd (plain_unnamed files truth once heads told h g)

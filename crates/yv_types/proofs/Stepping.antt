@@ -8,7 +8,7 @@ use Rattle.std.specs.Option.{option_map}
 use Rattle.std.proofs.lemmas.Option.{same_Some, slice_get-map, slice_get_read}
 use Rattle.std.proofs.lemmas.Slice.Eq.{bytes_eq-Decides}
 use Rattle.yv_base_tables.specs.declared.table.Table.{Table}
-use Rattle.yv_statement.specs.Selection.{Selected}
+use Rattle.yv_statement.specs.Selection.{ModuleChoice}
 use Rattle.yv_link_scopes.specs.Files.{Files, brief_of}
 use Rattle.yv_link_scopes.specs.Rows.{Row, name_in}
 use Rattle.yv_link_scopes.specs.RowList.{rows_of}
@@ -91,7 +91,7 @@ apart files k j r word known at is f =
     let built : is_built_in (name_in f.refers.statement) ≡ true = subst (λ (x : Row). is_built_in (name_in x) ≡ true) (sym same) (named_is word r known is) in
     not_both (is_built_in (name_in f.refers.statement)) built (both_true (is_type f.refers.statement) (not (is_built_in (name_in f.refers.statement))) f.refers.names)
 
-module _ (files : Files) (truth : Truth) (choice : Selected) (k : ℕ) where
+module _ (files : Files) (truth : Truth) (choice : ModuleChoice) (k : ℕ) where
   -- what it has is known
   pub has_some : (o : Option (List Plain)) (ps : List Plain) → o ≡ Some ps → Space files truth choice k ps → IsSpace files truth choice k o
   has_some o ps is s = record {

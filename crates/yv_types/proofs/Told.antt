@@ -2,7 +2,7 @@
 use Rattle.std.proofs.Common.{◌≡◌, ℕ, List, Option, Some, None, refl, sym, ◌∙◌, subst, codes}
 use Rattle.std.specs.Option.{option_and_then}
 use Rattle.yv_base_tables.specs.declared.table.Table.{Table}
-use Rattle.yv_statement.specs.Selection.{Selected}
+use Rattle.yv_statement.specs.Selection.{ModuleChoice}
 use Rattle.yv_link_scopes.specs.Files.{Files}
 use Rattle.yv_link_scopes.specs.RowList.{rows_of}
 use Rattle.yv_link_definitions.specs.References.{number_at}
@@ -16,7 +16,7 @@ use Rattle.yv_types.specs.declared.type_table.Types.{Types}
 use Rattle.yv_types.specs.declared.table.SharedTypes.{SharedTypes}
 use Rattle.yv_types.proofs.Placing.{type_there}
 
-module _ (files : Files) (choice : Selected) (truth : Truth) where
+module _ (files : Files) (choice : ModuleChoice) (truth : Truth) where
   told_of : (spaces : Table SharedTypes) (number : Option ℕ) → AreSpaces files truth choice spaces → ((k : ℕ) → number ≡ Some k → IsTypeAt (rows_of files) k)
       → IsTold files choice truth number (option_and_then (plains_at spaces) number)
   told_of spaces None are types = tt

@@ -6,7 +6,7 @@ use Rattle.std.specs.List.{find}
 use Rattle.std.specs.Option.{is_some, option_map, option_copied}
 use Rattle.std.proofs.lemmas.Bool.{false≢true}
 use Rattle.yv_statement.specs.Tree.{Tree, trees}
-use Rattle.yv_statement.specs.Selection.{Selected}
+use Rattle.yv_statement.specs.Selection.{ModuleChoice}
 use Rattle.yv_link_scopes.specs.Files.{Files, brief_of}
 use Rattle.yv_link_scopes.specs.RowList.{rows_of}
 use Rattle.yv_type_chains.specs.Types.{Follows}
@@ -36,7 +36,7 @@ narrows_nothing t none (identities ids) = refl
 narrows_nothing t none empties = refl
 
 -- such a type has the list of the type that it follows, if that has a plain type
-pub followed_space : (files : Files) (truth : Truth) (choice : Selected) (k j : ℕ) → IsUnrestricted files k → Follows (map brief_of files) (rows_of files) k j
+pub followed_space : (files : Files) (truth : Truth) (choice : ModuleChoice) (k j : ℕ) → IsUnrestricted files k → Follows (map brief_of files) (rows_of files) k j
     → (p : Plain) → HasPlainType files j p → ((qs rs : List Plain) → Space files truth choice j qs → Space files truth choice j rs → qs ≡ rs)
     → (ps : List Plain) → Space files truth choice j ps → Space files truth choice k ps
 followed_space files truth choice k j is f p h one ps s =

@@ -4,7 +4,7 @@ use Rattle.std.specs.Option.{option_and_then, option_map}
 use Rattle.std.specs.Rc.{rc_slice_items}
 use Rattle.yv_base_tables.specs.Table.{item_of}
 use Rattle.yv_base_tables.specs.declared.table.Table.{Table}
-use Rattle.yv_statement.specs.Selection.{Selected}
+use Rattle.yv_statement.specs.Selection.{ModuleChoice}
 use Rattle.yv_link_scopes.specs.Files.{Files, brief_of}
 use Rattle.yv_link_scopes.specs.RowList.{rows_of}
 use Rattle.yv_values.specs.Types.{Plain, plain_of}
@@ -53,13 +53,13 @@ joined_from spaces all (m ∷ ms) =
     option_and_then (λ ps. joined_from spaces (all ++ ps) ms) (plains_at spaces m)
 
 -- these are the plain types of the numbered statement, or it has none
-pub record IsSpace (files : Files) (truth : Truth) (choice : Selected) (k : ℕ)
+pub record IsSpace (files : Files) (truth : Truth) (choice : ModuleChoice) (k : ℕ)
     (space : Option (List Plain)) : Type 0 where
   pub sound : (ps : List Plain) → space ≡ Some ps → Space files truth choice k ps
   pub full : space ≡ None → (ps : List Plain) → Space files truth choice k ps → ⊥
 
 -- the table has the plain types of those
-abbrev pub AreKnown : Files → Truth → Selected → (ℕ → Type 0) → Table SharedTypes → Type 0
+abbrev pub AreKnown : Files → Truth → ModuleChoice → (ℕ → Type 0) → Table SharedTypes → Type 0
 AreKnown files truth choice Those spaces =
     (k : ℕ) → Those k → IsSpace files truth choice k (plains_at spaces k)
 
@@ -82,7 +82,7 @@ abbrev pub IsUnrestricted : Files → ℕ → Type 0
 IsUnrestricted files k = (t : Tree) × IsType files k t × (trees t.children ≡ [])
 
 -- the table has the plain types of all types, and of nothing else
-pub record AreSpaces (files : Files) (truth : Truth) (choice : Selected)
+pub record AreSpaces (files : Files) (truth : Truth) (choice : ModuleChoice)
     (spaces : Table SharedTypes) : Type 0 where
   pub sound : (k : ℕ) (ps : List Plain) → plains_at spaces k ≡ Some ps
       → Space files truth choice k ps

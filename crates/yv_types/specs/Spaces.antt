@@ -3,7 +3,7 @@
 -- 9.10 and 9.12).
 use Rattle.std.specs.Prelude.{◌≡◌, ◌↔◌, ℕ, true, IsTrue, List, [], ◌∷◌, ◌++◌, Some, map, codes, slice_get}
 use Rattle.std.specs.List.{list_any}
-use Rattle.yv_statement.specs.Selection.{Selected}
+use Rattle.yv_statement.specs.Selection.{ModuleChoice}
 use Rattle.yv_link_scopes.specs.Files.{Files, brief_of}
 use Rattle.yv_link_scopes.specs.Rows.{Row}
 use Rattle.yv_link_scopes.specs.RowList.{rows_of}
@@ -26,7 +26,7 @@ mutual
   -- The plain types of type k, where a type that has no plain type of its own and no names has
   -- those of the type that it follows. Names and identities stand in their order, each once, so
   -- that a type has one list. An instance-identifier has none, nor has a union with one in it.
-  pub data Space (files : Files) (truth : Truth) (choice : Selected) : ℕ → List Plain → Type 0 where
+  pub data Space (files : Files) (truth : Truth) (choice : ModuleChoice) : ℕ → List Plain → Type 0 where
     plain_type : {k : ℕ} {p : Plain} → HasPlainType files k p → Space files truth choice k (p ∷ [])
     names_type : {k : ℕ} (told : NamesView) (ns : List (List ℕ)) → HasNames files truth k told
         → Rises ns
@@ -49,7 +49,7 @@ mutual
         → Space files truth choice k ps
 
   -- those of several types, one after the other
-  pub data Spaces (files : Files) (truth : Truth) (choice : Selected) : List ℕ → List Plain
+  pub data Spaces (files : Files) (truth : Truth) (choice : ModuleChoice) : List ℕ → List Plain
       → Type 0 where
     none : Spaces files truth choice [] []
     more : {m : ℕ} {ms : List ℕ} {ps qs rs : List Plain} → Space files truth choice m ps

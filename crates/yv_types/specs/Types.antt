@@ -1,7 +1,7 @@
 -- What is known of types that were read.
 use Rattle.std.specs.Prelude.{◌≡◌, ℕ, List, Option, Some, None, codes}
 use Rattle.std.specs.Option.{option_and_then, option_map}
-use Rattle.yv_statement.specs.Selection.{Selected}
+use Rattle.yv_statement.specs.Selection.{ModuleChoice}
 use Rattle.yv_link_scopes.specs.Files.{Files}
 use Rattle.yv_link_scopes.specs.RowList.{rows_of}
 use Rattle.yv_link_definitions.specs.References.{number_at}
@@ -32,7 +32,7 @@ pub record AreLayers (files : Files) (truth : Truth) (layers : Layers) : Type 0 
 
 -- these are the plain types and the defaults of the types of these files, what these say as
 -- leafrefs, and their places; how, only the readers ask
-pub record AreTypes (files : Files) (choice : Selected) (truth : Truth)
+pub record AreTypes (files : Files) (choice : ModuleChoice) (truth : Truth)
     (types : Types) : Type 0 where
   pub spaces : AreSpaces files truth choice types.spaces
   pub defaults : AreDefaults files types.defaults
@@ -46,7 +46,7 @@ space_at types file offset =
     option_and_then (plains_at types.spaces) (placed_in types.places file offset)
 
 -- what is known of the plain types of the statement of this number, where there is one, is so
-abbrev pub IsTold : Files → Selected → Truth → Option ℕ → Option (List Plain) → Type 0
+abbrev pub IsTold : Files → ModuleChoice → Truth → Option ℕ → Option (List Plain) → Type 0
 IsTold files choice truth None None = Unit {0}
 IsTold files choice truth None (Some ps) = ⊥
 IsTold files choice truth (Some k) None = (ps : List Plain) → Space files truth choice k ps → ⊥

@@ -1,6 +1,6 @@
 //! Reading the types of files.
 ghost use Rattle.std.specs.Prelude.{◌≡◌, ◌⊎◌, Err, None, Some, IfOk, OnOk};
-ghost use Rattle.yv_statement.specs.{Order.{IsLeast}, declared.refusal.Refusal.{Refusal}, declared.refusal.Stop.TheVariants.{Fault, PatternBuild}, Selection.{Selected}};
+ghost use Rattle.yv_statement.specs.{Order.{IsLeast}, declared.refusal.Refusal.{Refusal}, declared.refusal.Stop.TheVariants.{Fault, PatternBuild}, Selection.{ModuleChoice}};
 ghost use Rattle.yv_link_scopes.specs.Files.{Files};
 ghost use Rattle.yv_link_definitions.specs.{Meanings.{AreNames}, Refusals.{BadNames}};
 ghost use Rattle.yv_type_restrictions.specs.Types.{HasTypePattern};
@@ -24,22 +24,22 @@ use yv_statement::Stop;
 pub fn types(alloc: Global, linked: &Linked<'_, '_>, names: &Names) -> Result<Types, Stop>
     // They are the plain types of these files under their selection.
     ensures makes { IfOk result
-        (λ types. (files : Files) (choice : Selected) → AreLinked files choice linked.now
+        (λ types. (files : Files) (choice : ModuleChoice) → AreLinked files choice linked.now
         → AreNames files names.now
         → AreTypes files choice (truth_in linked.now) types) }
     // Types are returned only if nothing is refused of them.
     ensures clear { OnOk result
-        ((files : Files) (choice : Selected) → AreLinked files choice linked.now
+        ((files : Files) (choice : ModuleChoice) → AreLinked files choice linked.now
         → AreNames files names.now
         → IsLeast (BadTypes files (truth_in linked.now)) None) }
     // A refusal is the least that applies to them.
     ensures refusal { (r : Refusal) → result ≡ Err (Fault r)
-        → (files : Files) (choice : Selected) → AreLinked files choice linked.now
+        → (files : Files) (choice : ModuleChoice) → AreLinked files choice linked.now
         → AreNames files names.now
         → IsLeast (BadTypes files (truth_in linked.now)) (Some r) }
     // `PatternBuild` is returned only if a type has a pattern.
     ensures builds { result ≡ Err PatternBuild
-        → (files : Files) (choice : Selected) → AreLinked files choice linked.now
+        → (files : Files) (choice : ModuleChoice) → AreLinked files choice linked.now
         → HasTypePattern files }
 {
     let layers = match Layers::read(alloc, linked, names) {
@@ -66,25 +66,25 @@ pub fn types(alloc: Global, linked: &Linked<'_, '_>, names: &Names) -> Result<Ty
 pub fn resolve_types(alloc: Global, linked: &Linked<'_, '_>) -> Result<Types, Stop>
     // They are the plain types of these files under their selection.
     ensures makes { IfOk result
-        (λ types. (files : Files) (choice : Selected) → AreLinked files choice linked.now
+        (λ types. (files : Files) (choice : ModuleChoice) → AreLinked files choice linked.now
         → AreTypes files choice (truth_in linked.now) types) }
     // Types are returned only if nothing is refused of the names.
     ensures names { OnOk result
-        ((files : Files) (choice : Selected) → AreLinked files choice linked.now
+        ((files : Files) (choice : ModuleChoice) → AreLinked files choice linked.now
         → IsLeast (BadNames files) None) }
     // Nor is anything refused of the types.
     ensures clear { OnOk result
-        ((files : Files) (choice : Selected) → AreLinked files choice linked.now
+        ((files : Files) (choice : ModuleChoice) → AreLinked files choice linked.now
         → IsLeast (BadTypes files (truth_in linked.now)) None) }
     // A refusal is the least of the names, or, if nothing is refused of these, of the types.
     ensures refusal { (r : Refusal) → result ≡ Err (Fault r)
-        → (files : Files) (choice : Selected) → AreLinked files choice linked.now
+        → (files : Files) (choice : ModuleChoice) → AreLinked files choice linked.now
         → IsLeast (BadNames files) (Some r)
         ⊎ (IsLeast (BadNames files) None
         × IsLeast (BadTypes files (truth_in linked.now)) (Some r)) }
     // `PatternBuild` is returned only if a type has a pattern.
     ensures builds { result ≡ Err PatternBuild
-        → (files : Files) (choice : Selected) → AreLinked files choice linked.now
+        → (files : Files) (choice : ModuleChoice) → AreLinked files choice linked.now
         → HasTypePattern files }
 {
     match names(alloc, linked.rows()) {

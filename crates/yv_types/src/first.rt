@@ -1,6 +1,6 @@
 //! The first of all that is wrong with types.
 ghost use Rattle.std.specs.Prelude.{◌≡◌, ◌≢◌, Err, IfOk};
-ghost use Rattle.yv_statement.specs.{Order.{IsLeast}, declared.refusal.Refusal.{Refusal}, declared.refusal.Stop.TheVariants.{Fault, PatternBuild}, Selection.{Selected}};
+ghost use Rattle.yv_statement.specs.{Order.{IsLeast}, declared.refusal.Refusal.{Refusal}, declared.refusal.Stop.TheVariants.{Fault, PatternBuild}, Selection.{ModuleChoice}};
 ghost use Rattle.yv_link_scopes.specs.Files.{Files};
 ghost use Rattle.yv_link_definitions.specs.Meanings.{AreNames};
 ghost use Rattle.yv_type_restrictions.specs.Types.{HasTypePattern};
@@ -29,14 +29,14 @@ pub fn first_bad_type(
 ) -> Result<Option<Refusal>, Stop>
     // Only that least refusal, or none.
     ensures least { IfOk result
-        (λ fault. (files : Files) (choice : Selected) → AreLinked files choice linked.now
+        (λ fault. (files : Files) (choice : ModuleChoice) → AreLinked files choice linked.now
         → AreNames files names.now
         → IsLeast (BadTypes files (truth_in linked.now)) fault) }
     // No refusal is an error here.
     ensures faultless { (r : Refusal) → result ≢ Err (Fault r) }
     // `PatternBuild` is returned only if a type has a pattern.
     ensures builds { result ≡ Err PatternBuild
-        → (files : Files) (choice : Selected) → AreLinked files choice linked.now
+        → (files : Files) (choice : ModuleChoice) → AreLinked files choice linked.now
         → HasTypePattern files }
 {
     match Layers::read(alloc, linked, names) {

@@ -1,6 +1,6 @@
 //! Laws about the definitions only. These functions do nothing: the contract of each is the law.
 ghost use Rattle.std.specs.Prelude.{◌≡◌, ℕ, List, codes};
-ghost use Rattle.yv_statement.specs.Selection.{Selected};
+ghost use Rattle.yv_statement.specs.Selection.{ModuleChoice};
 ghost use Rattle.yv_link_scopes.specs.{Files.{Files}, RowList.{rows_of}};
 ghost use Rattle.yv_link_definitions.specs.References.{number_at};
 ghost use Rattle.yv_type_enums.specs.Types.{Truth};
@@ -9,7 +9,7 @@ ghost use Rattle.yv_types.specs.{Spaces.{Space}, Types.{AreTypes, IsDefault, IsR
 
 /// A type has one list of plain types.
 pub fn a_type_has_one_space()
-    ensures { (files : Files) (choice : Selected) (truth : Truth) (k : ℕ) (ps qs : List Plain)
+    ensures { (files : Files) (choice : ModuleChoice) (truth : Truth) (k : ℕ) (ps qs : List Plain)
         → Space files truth choice k ps → Space files truth choice k qs → ps ≡ qs }
 {
     yv_link_scopes::laws::statements_have_their_rows();
@@ -22,7 +22,7 @@ pub fn a_type_has_one_space()
 /// What is answered for the type statement at an offset of a file is its plain types, and none
 /// where it has none.
 pub fn types_tell_spaces()
-    ensures { (files : Files) (choice : Selected) (truth : Truth) (types : Types)
+    ensures { (files : Files) (choice : ModuleChoice) (truth : Truth) (types : Types)
         → AreTypes files choice truth types
         → (file offset : ℕ)
         → IsTold files choice truth (number_at (rows_of files) (codes "type") file offset)
@@ -32,7 +32,7 @@ pub fn types_tell_spaces()
 /// What is answered for the default of the type statement at an offset of a file is the one that it
 /// has by its typedefs.
 pub fn types_tell_defaults()
-    ensures { (files : Files) (choice : Selected) (truth : Truth) (types : Types)
+    ensures { (files : Files) (choice : ModuleChoice) (truth : Truth) (types : Types)
         → AreTypes files choice truth types
         → (file offset : ℕ) → IsDefault files (number_at (rows_of files) (codes "type") file offset)
         (default_at types file offset) }
@@ -41,7 +41,7 @@ pub fn types_tell_defaults()
 /// What is answered for the type statement at an offset of a file as a leafref is what it says by
 /// itself or along its typedefs.
 pub fn types_tell_leafrefs()
-    ensures { (files : Files) (choice : Selected) (truth : Truth) (types : Types)
+    ensures { (files : Files) (choice : ModuleChoice) (truth : Truth) (types : Types)
         → AreTypes files choice truth types
         → (file offset : ℕ)
         → IsReferring files (number_at (rows_of files) (codes "type") file offset)

@@ -1,6 +1,6 @@
 //! The types of files in layers.
 ghost use Rattle.std.specs.Prelude.{◌≡◌, ◌≢◌, Err, IfOk};
-ghost use Rattle.yv_statement.specs.{Order.{IsLeast}, declared.refusal.Refusal.{Refusal}, declared.refusal.Stop.TheVariants.{Fault, PatternBuild}, Selection.{Selected}};
+ghost use Rattle.yv_statement.specs.{Order.{IsLeast}, declared.refusal.Refusal.{Refusal}, declared.refusal.Stop.TheVariants.{Fault, PatternBuild}, Selection.{ModuleChoice}};
 ghost use Rattle.yv_link_scopes.specs.Files.{Files};
 ghost use Rattle.yv_link_definitions.specs.Meanings.{AreNames};
 ghost use Rattle.yv_type_restrictions.specs.Types.{HasTypePattern};
@@ -34,12 +34,12 @@ impl<'a> Layers<'a> {
         names: &Names,
     ) -> Result<Layers<'a>, Stop>
         ensures makes { IfOk result
-            (λ layers. (files : Files) (choice : Selected) → AreLinked files choice linked.now
+            (λ layers. (files : Files) (choice : ModuleChoice) → AreLinked files choice linked.now
             → AreNames files names.now
             → AreLayers files (truth_in linked.now) layers) }
         ensures faultless { (r : Refusal) → result ≢ Err (Fault r) }
         ensures builds { result ≡ Err PatternBuild
-            → (files : Files) (choice : Selected) → AreLinked files choice linked.now
+            → (files : Files) (choice : ModuleChoice) → AreLinked files choice linked.now
             → HasTypePattern files }
     {
         let rows = linked.rows();

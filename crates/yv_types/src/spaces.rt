@@ -1,6 +1,6 @@
 //! The plain types of all types.
 ghost use Rattle.std.specs.Prelude.{◌≡◌, IfOk};
-ghost use Rattle.yv_statement.specs.Selection.{Selected};
+ghost use Rattle.yv_statement.specs.Selection.{ModuleChoice};
 ghost use Rattle.yv_link_scopes.specs.Files.{Files};
 ghost use Rattle.yv_link.specs.LinkedFiles.{AreLinked, truth_in};
 ghost use Rattle.yv_types.specs.{Types.{AreLayers}, InnerTables.{AreNumbered, AreSpaces}};
@@ -25,7 +25,7 @@ impl Layers<'_> {
         linked: &Linked<'_, '_>,
     ) -> Result<Table<SharedTypes>, AllocError>
         ensures makes { IfOk result
-            (λ spaces. (files : Files) (choice : Selected) → AreLinked files choice linked.now
+            (λ spaces. (files : Files) (choice : ModuleChoice) → AreLinked files choice linked.now
             → AreLayers files (truth_in linked.now) self.now
             → AreSpaces files (truth_in linked.now) choice spaces) }
         ensures numbers { IfOk result (λ spaces. AreNumbered spaces) }

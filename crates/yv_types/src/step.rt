@@ -1,6 +1,6 @@
 //! The plain types of one type.
 ghost use Rattle.std.specs.{Prelude.{◌≡◌, ℕ, List, [], Some, true, map, slice_get, slice_index_or, IfOk, IfSome}, Option.{option_map}};
-ghost use Rattle.yv_statement.specs.Selection.{Selected};
+ghost use Rattle.yv_statement.specs.Selection.{ModuleChoice};
 ghost use Rattle.yv_link_scopes.specs.{Files.{Files, brief_of}, Rows.{row}, RowList.{rows_of}};
 ghost use Rattle.yv_type_chains.specs.Types.{RestsOn, is_kind, types_in};
 ghost use Rattle.yv_type_enums.specs.TypeNames.{told_of};
@@ -60,7 +60,7 @@ fn built_in(
     entry: &Entry<'_, '_>,
 ) -> Result<Option<SharedTypes>, AllocError>
     ensures space { AreIdentities linked.now identities.old
-        → IfOk result (λ s. (files : Files) (choice : Selected) → AreLinked files choice linked.now
+        → IfOk result (λ s. (files : Files) (choice : ModuleChoice) → AreLinked files choice linked.now
         → slice_get (rows_of files) number ≡ Some (row entry.now) → members.now
         ≡ types_in (rows_of files) number
         → IsBare files (truth_in linked.now) number → FollowsNone files number
@@ -87,7 +87,7 @@ fn built_in(
 
 // Whether the numbered statement is a type that says nothing but a name.
 fn is_unrestricted(linked: &Linked<'_, '_>, number: usize) -> bool
-    ensures { (files : Files) (choice : Selected) → AreLinked files choice linked.now → result
+    ensures { (files : Files) (choice : ModuleChoice) → AreLinked files choice linked.now → result
         ≡ true → IsUnrestricted files number }
 {
     match linked.rows().statement(number) {
@@ -106,7 +106,7 @@ impl Layers<'_> {
         number: usize,
     ) -> Result<Option<SharedTypes>, AllocError>
         ensures space { IfOk result
-            (λ s. (files : Files) (choice : Selected) → AreLinked files choice linked.now
+            (λ s. (files : Files) (choice : ModuleChoice) → AreLinked files choice linked.now
             → AreLayers files (truth_in linked.now) self.now
             → AreKnown files (truth_in linked.now) choice
             (RestsOn (map brief_of files) (rows_of files) number) spaces.now
@@ -142,7 +142,7 @@ impl Layers<'_> {
     ) -> Result<Option<SharedTypes>, AllocError>
         ensures space { AreIdentities linked.now identities.old
             → IfOk result
-            (λ s. (files : Files) (choice : Selected) → AreLinked files choice linked.now
+            (λ s. (files : Files) (choice : ModuleChoice) → AreLinked files choice linked.now
             → AreLayers files (truth_in linked.now) self.now
             → ((block : ℕ) → slice_index_or inside.now block [] ≡ types_in (rows_of files) block)
             → AreKnown files (truth_in linked.now) choice

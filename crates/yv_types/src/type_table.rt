@@ -1,6 +1,6 @@
 //! The plain types of types, and what readers ask of them.
 ghost use Rattle.std.specs.{Prelude.{◌≡◌, ℕ, List, None, Some, codes, map, IfOk, IfSome}, Option.{option_copied, option_map}, Rc.{rc_slice_items}};
-ghost use Rattle.yv_statement.specs.Selection.{Selected};
+ghost use Rattle.yv_statement.specs.Selection.{ModuleChoice};
 ghost use Rattle.yv_link_scopes.specs.{Files.{Files}, RowList.{rows_of}};
 ghost use Rattle.yv_link_definitions.specs.References.{number_at};
 ghost use Rattle.yv_type_enums.specs.Types.{Truth};
@@ -40,12 +40,12 @@ impl Types {
     pub fn plain(&self, file: u32, offset: u64) -> Option<&[PlainType]>
         // The plain types of the type statement at an offset of a file, unions opened in order;
         // none only if it has none.
-        ensures tells { (files : Files) (choice : Selected) (truth : Truth)
+        ensures tells { (files : Files) (choice : ModuleChoice) (truth : Truth)
             → AreTypes files choice truth self.now
             → IfSome result
             (λ types. (k : ℕ) × (number_at (rows_of files) (codes "type") file offset ≡ Some k)
             × Space files truth choice k (map plain_of types.now)) }
-        ensures none { (files : Files) (choice : Selected) (truth : Truth)
+        ensures none { (files : Files) (choice : ModuleChoice) (truth : Truth)
             → AreTypes files choice truth self.now
             → result ≡ None → (k : ℕ) → number_at (rows_of files) (codes "type") file offset
             ≡ Some k
@@ -60,14 +60,14 @@ impl Types {
     /// The same for a type statement of a file, by the place of its keyword.
     pub fn plain_of(&self, file: u32, statement: &Statement<'_>) -> Option<&[PlainType]>
         // The plain types of the type statement of the file that begins where this one does.
-        ensures tells { (files : Files) (choice : Selected) (truth : Truth)
+        ensures tells { (files : Files) (choice : ModuleChoice) (truth : Truth)
             → AreTypes files choice truth self.now
             → IfSome result
             (λ types. (k : ℕ)
             × (number_at (rows_of files) (codes "type") file statement.now.head.offset ≡ Some k)
             × Space files truth choice k (map plain_of types.now)) }
         // Without an answer the statement has no plain types.
-        ensures none { (files : Files) (choice : Selected) (truth : Truth)
+        ensures none { (files : Files) (choice : ModuleChoice) (truth : Truth)
             → AreTypes files choice truth self.now
             → result ≡ None → (k : ℕ)
             → number_at (rows_of files) (codes "type") file statement.now.head.offset ≡ Some k
@@ -83,14 +83,14 @@ impl Types {
     pub fn at(&self, file: u32, offset: u64) -> Result<Option<RcSlice<PlainType>>, AllocError>
         // The plain types of the type statement at this place, as a shared list.
         ensures tells { IfOk result
-            (λ found. (files : Files) (choice : Selected) (truth : Truth)
+            (λ found. (files : Files) (choice : ModuleChoice) (truth : Truth)
             → AreTypes files choice truth self.now
             → IfSome found
             (λ types. (k : ℕ) × (number_at (rows_of files) (codes "type") file offset ≡ Some k)
             × Space files truth choice k (map plain_of (rc_slice_items types)))) }
         // Without an answer the statement has no plain types.
         ensures none { IfOk result
-            (λ found. (files : Files) (choice : Selected) (truth : Truth)
+            (λ found. (files : Files) (choice : ModuleChoice) (truth : Truth)
             → AreTypes files choice truth self.now
             → found ≡ None → (k : ℕ) → number_at (rows_of files) (codes "type") file offset ≡ Some k
             → (types : List Plain) → Space files truth choice k types → ⊥) }

@@ -1,6 +1,6 @@
 use Rattle.std.proofs.Common.{◌∙◌, ◌<◌, arith, ap, sym, subst, length, map}
 use Rattle.std.proofs.lemmas.List.{take_all}
-use Rattle.yv_node_keys.specs.InnerShifts.{AreInside, moved}
+use Rattle.yv_node_keys.specs.InnerShifts.{AreInside, moved_id}
 use Rattle.yv_node_keys.proofs.Shifting.{next_inside, next_moved}
 use Rattle.yv_node_keys.proofs.shift.are_moved_to.Goals as goal
 
@@ -20,4 +20,4 @@ returns-clause-inside c = λ e. subst (AreInside c.args.shift) (take_all c.loop-
 pub returns-clause-are : goal.returns-clause-are
 returns-clause-are c = λ e.
     sym (take_all c.loop-place.place c.args.others.now (omega (arith, c.loop-place.invariant.each, c.loop-place-test.false)))
-    ∙ c.loop-place.invariant.are ∙ ap (map (moved c.args.shift.by)) (take_all c.loop-place.place c.args.ones.now c.loop-place-test.false)
+    ∙ c.loop-place.invariant.are ∙ ap (map (moved_id c.args.shift.by)) (take_all c.loop-place.place c.args.ones.now c.loop-place-test.false)

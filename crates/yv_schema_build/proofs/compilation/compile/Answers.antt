@@ -6,7 +6,7 @@ use Rattle.yv_link_scopes.specs.RowList.{rows_of}
 use Rattle.yv_statement.specs.declared.refusal.Stop.TheVariants.{NoMemory}
 use Rattle.yv_statement.specs.declared.refusal.Refusal.{Refusal}
 use Rattle.yv_statement.specs.Order.{IsLeast}
-use Rattle.yv_statement.specs.Selection.{Selected, selected_of}
+use Rattle.yv_statement.specs.Selection.{ModuleChoice, selected_of}
 use Rattle.yv_statement.specs.declared.refusal.Stop.{Stop}
 use Rattle.yv_link.proofs.Phases.{err_again}
 use Rattle.yv_schema_build.specs.InnerRefuses.{RefusesByNumber}
@@ -115,7 +115,7 @@ few_of files linked a is many = elim (cases_lt 4294967293 (length (rows_of files
   | inr at_most ↦ at_most
 ]
 
-stops_of : (choice : Selected) (files : Files) (limit : ℕ) (r : Refusal) → AreFew files
+stops_of : (choice : ModuleChoice) (files : Files) (limit : ℕ) (r : Refusal) → AreFew files
     → StopsLinked choice files limit r → Stops choice files limit r
 stops_of choice files limit r few (inl h) = inl (inr (inr h))
 stops_of choice files limit r few (inr h) = inr (few, h)

@@ -1,5 +1,5 @@
 use Rattle.std.proofs.Common.{map}
-use Rattle.yv_statement.specs.Selection.{Selected}
+use Rattle.yv_statement.specs.Selection.{ModuleChoice}
 use Rattle.yv_link_scopes.specs.Files.{Files, brief_of}
 use Rattle.yv_link_scopes.specs.RowList.{rows_of}
 use Rattle.yv_link.specs.LinkedFiles.{AreLinked}
@@ -9,5 +9,5 @@ use Rattle.yv_type_identities.proofs.candidates.candidates.Given as goal
 
 abbrev pub invariant-loop-at : goal.invariant-loop-at
 invariant-loop-at l =
-    (files : Files) (choice : Selected) → AreLinked files choice l.linked
+    (files : Files) (choice : ModuleChoice) → AreLinked files choice l.linked
     → Gathered (map brief_of files) (rows_of files) (passes choice (map brief_of files) l.draft.off) l.at l.candidates.items

@@ -1,5 +1,5 @@
 use Rattle.std.proofs.Common.{◌≡◌, length, map}
-use Rattle.yv_statement.specs.Selection.{Selected}
+use Rattle.yv_statement.specs.Selection.{ModuleChoice}
 use Rattle.yv_link_scopes.specs.Files.{Files, brief_of}
 use Rattle.yv_link_scopes.specs.RowList.{rows_of}
 use Rattle.yv_link_scopes.specs.Rows.{row}
@@ -12,5 +12,5 @@ abbrev pub invariant-loop-number : goal.invariant-loop-number
 invariant-loop-number l = record {
   each : length l.graph.items ≡ length l.entries;
   ends : Ends l.graph.items;
-  edges : (files : Files) (choice : Selected) → AreLinked files choice l.linked → Edges (rows_of files) (pair_of (map brief_of files) (rows_of files) (map row l.entries) l.places) l.number l.graph.items;
+  edges : (files : Files) (choice : ModuleChoice) → AreLinked files choice l.linked → Edges (rows_of files) (pair_of (map brief_of files) (rows_of files) (map row l.entries) l.places) l.number l.graph.items;
 }

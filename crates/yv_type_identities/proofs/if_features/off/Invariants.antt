@@ -1,4 +1,4 @@
-use Rattle.yv_statement.specs.Selection.{Selected}
+use Rattle.yv_statement.specs.Selection.{ModuleChoice}
 use Rattle.yv_link_scopes.specs.Files.{Files}
 use Rattle.yv_link_scopes.specs.RowList.{rows_of}
 use Rattle.yv_link.specs.LinkedFiles.{AreLinked, truth_in}
@@ -6,4 +6,4 @@ use Rattle.yv_type_identities.proofs.Standing.{Failing}
 use Rattle.yv_type_identities.proofs.if_features.off.Given as goal
 
 abbrev pub invariant-loop-entry : goal.invariant-loop-entry
-invariant-loop-entry l = (files : Files) (choice : Selected) → AreLinked files choice l.linked → Failing (truth_in l.linked) (rows_of files) l.entry-index l.numbers
+invariant-loop-entry l = (files : Files) (choice : ModuleChoice) → AreLinked files choice l.linked → Failing (truth_in l.linked) (rows_of files) l.entry-index l.numbers

@@ -3,7 +3,7 @@ use Rattle.std.specs.BTreeSet.{contains}
 use Rattle.std.specs.declared.option.Option.{Option}
 use Rattle.std.specs.Ordering.{nat_cmp}
 use Rattle.yv_nodes.specs.Link.{is_target, Link}
-use Rattle.yv_nodes.specs.InnerLinks.{padded}
+use Rattle.yv_nodes.specs.InnerLinks.{links_with_rest}
 use Rattle.yv_nodes.proofs.link.Links.blank.Goals as goal
 
 none_leads : (count n : ℕ) → is_target (replicate count None) n ≡ false
@@ -13,4 +13,4 @@ none_leads (suc count) n = none_leads count n
 pub invariant_of-result : goal.invariant_of-result
 invariant_of-result c = λ n.
     let none : contains nat_cmp c.new-2.result n ≡ false = search rules in
-    none ∙ sym (none_leads c.args.count n) ∙ ap (λ (ls : List (Option Link)). is_target (padded ls c.args.count) n) (sym c.new.ensures.items)
+    none ∙ sym (none_leads c.args.count n) ∙ ap (λ (ls : List (Option Link)). is_target (links_with_rest ls c.args.count) n) (sym c.new.ensures.items)

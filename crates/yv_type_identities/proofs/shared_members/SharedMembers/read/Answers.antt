@@ -4,7 +4,7 @@ use Rattle.std.specs.Prelude.{IfSome}
 use Rattle.yv_base_graph.specs.Graph.{Graph, AreRanks, ArePlaces}
 use Rattle.yv_base_graph.specs.Ranks.{IfRanks}
 use Rattle.yv_base_graph.specs.declared.cycles.Ranking.{Ranking}
-use Rattle.yv_statement.specs.Selection.{Selected}
+use Rattle.yv_statement.specs.Selection.{ModuleChoice}
 use Rattle.yv_link_scopes.specs.Files.{Files, brief_of}
 use Rattle.yv_link_scopes.specs.RowList.{rows_of}
 use Rattle.yv_link.specs.LinkedFiles.{AreLinked}
@@ -25,7 +25,7 @@ returns c = record {
       let ranks : List ℕ = c.in-Ranks.ranks.items in
       let order : List ℕ = c.in-Ranks.order.items in
       let runs : List (Option Run) = c.in_ok-runs.runs.items in
-      let told = subst (λ (o : Option IdentityPlaces). IfSome o (λ places. (files : Files) (choice : Selected) → AreLinked files choice c.args.linked.now → AreIdentityPlaces (rows_of files) places)) c.in-Some.is c.in_ok-places.ensures in
+      let told = subst (λ (o : Option IdentityPlaces). IfSome o (λ places. (files : Files) (choice : ModuleChoice) → AreLinked files choice c.args.linked.now → AreIdentityPlaces (rows_of files) places)) c.in-Some.is c.in_ok-places.ensures in
       let ordered = subst (λ (x : Ranking). IfRanks x ArePlaces) c.in-Ranks.is c.in_ok-ranks.ensures.places in
       let ranked = subst (λ (x : Ranking). IfRanks x (λ ranks order. AreRanks c.deref.result.now ranks)) c.in-Ranks.is c.in_ok-ranks.ensures.ranks in
       let each : length ranks ≡ length g = ranked.each ∙ ap length c.deref.ensures.value in

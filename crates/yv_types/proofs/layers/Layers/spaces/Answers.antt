@@ -3,7 +3,7 @@ use Rattle.std.specs.List.{Contains, slice_index, slice_index_or}
 use Rattle.std.specs.Option.{option_map}
 use Rattle.std.proofs.lemmas.Bool.{cases_eq}
 use Rattle.std.proofs.lemmas.List.{take_all}
-use Rattle.yv_statement.specs.Selection.{Selected}
+use Rattle.yv_statement.specs.Selection.{ModuleChoice}
 use Rattle.yv_link_scopes.specs.Files.{Files, brief_of}
 use Rattle.yv_link_scopes.specs.RowList.{rows_of}
 use Rattle.yv_type_chains.specs.Types.{IsOrderOfTypes, RestsOn, types_in}
@@ -22,14 +22,14 @@ loop-number-preserved c =
     let order : List ℕ = c.order-number-items.result.now in
     let i : ℕ = c.loop-number.number-index in
     let n : ℕ = slice_index order i in
-    let step : (files : Files) (choice : Selected) → AreLinked files choice c.args.linked.now → AreLayers files truth c.args.self.now → IsSpace files truth choice n (option_map plains c.in_ok-space.space) = λ files choice linked layers.
+    let step : (files : Files) (choice : ModuleChoice) → AreLinked files choice c.args.linked.now → AreLayers files truth c.args.self.now → IsSpace files truth choice n (option_map plains c.in_ok-space.space) = λ files choice linked layers.
     let behind : IsOrderOfTypes (map brief_of files) (rows_of files) order = c.order-number-items.ensures files layers.based in
     let inside : (block : ℕ) → slice_index_or c.in_ok-inside.inside block [] ≡ types_in (rows_of files) block =
     λ block. c.in_ok-inside.ensures block ∙ ap (λ (fs : Files). types_in (rows_of fs) block) (c.rows-rows.ensures files choice linked) in
     let known : AreKnown files truth choice (RestsOn (map brief_of files) (rows_of files) n) c.loop-number.spaces =
     λ j rest. c.loop-number.invariant.told files choice linked layers j (behind.behind i j c.loop-number-test.true rest) in
     c.in_ok-space.ensures.space c.loop-number.invariant.kept files choice linked layers inside known in
-    let here : (files : Files) (choice : Selected) → AreLinked files choice c.args.linked.now → AreLayers files truth c.args.self.now → plains_at c.put.new.spaces n ≡ option_map plains c.in_ok-space.space = λ files choice linked layers.
+    let here : (files : Files) (choice : ModuleChoice) → AreLinked files choice c.args.linked.now → AreLayers files truth c.args.self.now → plains_at c.put.new.spaces n ≡ option_map plains c.in_ok-space.space = λ files choice linked layers.
     c.in_ok-put.ensures.here in
     let from : IsNewOrThere c.loop-number.spaces c.loop-number.list c.in_ok-space.space = c.in_ok-space.ensures.number in
     record {

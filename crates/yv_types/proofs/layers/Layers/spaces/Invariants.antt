@@ -1,6 +1,6 @@
 use Rattle.std.proofs.Common.{◌≡◌, ℕ, List, Some, take}
 use Rattle.std.specs.List.{Contains}
-use Rattle.yv_statement.specs.Selection.{Selected}
+use Rattle.yv_statement.specs.Selection.{ModuleChoice}
 use Rattle.yv_link_scopes.specs.Files.{Files}
 use Rattle.yv_link.specs.LinkedFiles.{AreLinked, truth_in}
 use Rattle.yv_type_identities.specs.Identities.{AreIdentities}
@@ -16,8 +16,8 @@ invariant-loop-number l = record {
   counted : l.list ≡ l.number-index;
   numbered : AreNumbered l.spaces;
   below : AreBelow l.spaces l.list;
-  told : (files : Files) (choice : Selected) → AreLinked files choice l.linked → AreLayers files (truth_in l.linked) l.self
+  told : (files : Files) (choice : ModuleChoice) → AreLinked files choice l.linked → AreLayers files (truth_in l.linked) l.self
       → AreKnown files (truth_in l.linked) choice (Contains (take l.number-index l.number-items)) l.spaces;
-  sound : (files : Files) (choice : Selected) → AreLinked files choice l.linked → AreLayers files (truth_in l.linked) l.self
+  sound : (files : Files) (choice : ModuleChoice) → AreLinked files choice l.linked → AreLayers files (truth_in l.linked) l.self
       → (k : ℕ) (ps : List Plain) → plains_at l.spaces k ≡ Some ps → Space files (truth_in l.linked) choice k ps;
 }
