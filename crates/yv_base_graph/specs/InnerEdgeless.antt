@@ -1,4 +1,4 @@
--- Inner definitions, which only clauses of private functions cite: graphs without edges.
+-- Only private clauses cite this: graphs without edges.
 use Rattle.std.specs.Prelude.{◌≡◌, ℕ, ◌<◌, List, [], length, slice_index}
 use Rattle.std.specs.List.{All}
 use Rattle.yv_base_graph.specs.Graph.{Graph}

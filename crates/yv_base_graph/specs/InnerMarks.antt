@@ -1,5 +1,4 @@
--- Inner definitions, which only clauses of private functions cite: how the nodes of a row are
--- marked.
+-- Only private clauses cite this: how the nodes of a row are marked.
 use Rattle.std.specs.Prelude.{◌≡◌, ℕ, ◌+◌, ◌⊎◌, Bool, List, ◌++◌, length}
 use Rattle.std.specs.List.{All, Contains, count_by}
 use Rattle.yv_base_graph.specs.Graph.{IsMarked}

@@ -1,5 +1,4 @@
--- Inner definitions, which only clauses of private functions cite: the nodes that have an edge to a
--- node of their own rank.
+-- Only private clauses cite this: the nodes that have an edge to a node of their own rank.
 use Rattle.std.specs.Prelude.{◌≡◌, ℕ, ◌<◌, Bool, List, length, slice_index}
 use Rattle.yv_base_graph.specs.Graph.{Graph, HasEdge, IsMarked}
 

@@ -1,5 +1,4 @@
--- Inner definitions, which only clauses of private functions cite: the search along the edges, and
--- what it keeps.
+-- Only private clauses cite this: the search along the edges, and what it keeps.
 use Rattle.std.specs.Prelude.{◌≡◌, ℕ, ◌+◌, ◌-◌, ◌*◌, ◌<◌, ◌≤◌, ◌⊎◌, Bool, true, false, min}
 use Rattle.std.specs.Prelude.{List, [], ◌∷◌, ◌++◌, length, set, take, drop, slice_get, slice_index_or, slice_index, Some}
 use Rattle.std.specs.List.{count_by}

@@ -1,4 +1,4 @@
--- For private clauses only: what is kept of the entries that were passed.
+-- Only private clauses cite this: what is kept of the entries that were passed.
 use Rattle.std.specs.Prelude.{◌≡◌, ℕ, ◌<◌, ℤ, Bool, not, ◌||◌, List, [], ◌∷◌, ◌++◌, Option, Some, None, is_some, if◌then◌else◌}
 use Rattle.std.specs.BTreeSet.{contains}
 use Rattle.std.specs.Borrow.{Bor}

@@ -1,4 +1,4 @@
--- For private clauses only: the parts of a restriction, read one after another.
+-- Only private clauses cite this: the parts of a restriction, read one after another.
 use Rattle.std.specs.Prelude.{ℕ, List, [], ◌∷◌, Option, Some, None}
 use Rattle.yv_base_numbers.specs.RestrictedIntervals.{Interval}
 

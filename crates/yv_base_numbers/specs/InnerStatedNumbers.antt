@@ -1,4 +1,4 @@
--- For private clauses only: numbers as the program holds them.
+-- Only private clauses cite this: numbers as the program holds them.
 use Rattle.std.specs.Prelude.{ℤ, pos, negsuc, int_le, Bool, ◌&&◌, Option, Some, None, if◌then◌else◌}
 
 -- it has at most 64 bits with its sign

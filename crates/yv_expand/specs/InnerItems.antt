@@ -1,5 +1,5 @@
--- Inner definitions, which only private clauses cite: items by the block or the file in which they
--- are, and what they give.
+-- Only private clauses cite this: items by the block or the file in which they are, and what they
+-- give.
 use Rattle.std.specs.Prelude.{◌≡◌, ℕ, zero, suc, ◌<◌, ◌==◌, ◌&&◌, not, Bool, true, false, List, [], ◌∷◌, ◌++◌, length, map, if◌then◌else◌, Option, Some, None, slice_get, slice_index_or}
 use Rattle.std.specs.Option.{is_some}
 use Rattle.std.specs.declared.vec.Vec.{Vec}

@@ -1,4 +1,4 @@
--- Inner definitions, which only private clauses cite: the keywords of statements that count.
+-- Only private clauses cite this: the keywords of statements that count.
 use Rattle.std.specs.Prelude.{ℕ, Bool, true, false, ◌||◌, Option, None, Some, if◌then◌else◌}
 use Rattle.yv_statement.specs.declared.keyword.Keyword.{Keyword}
 use Rattle.yv_statement.specs.declared.keyword.Keyword.TheVariants as word

@@ -1,5 +1,4 @@
--- Inner definitions, which only private clauses cite: statements by the block or the file in which
--- they count.
+-- Only private clauses cite this: statements by the block or the file in which they count.
 use Rattle.std.specs.Prelude.{ℕ, ◌+◌, List, [], ◌∷◌, Option, Some, None, slice_index_or}
 use Rattle.std.specs.declared.vec.Vec.{Vec}
 use Rattle.std.specs.declared.alloc.Global.{Global}

@@ -1,5 +1,4 @@
--- Inner definitions, which only private clauses cite: from each statement to those whose units it
--- takes.
+-- Only private clauses cite this: from each statement to those whose units it takes.
 use Rattle.std.specs.Prelude.{◌≡◌, ◌↔◌, ℕ, ◌+◌, ◌⊎◌, List, [], ◌∷◌, ◌++◌, length, Option, Some, None, slice_get, slice_index_or}
 use Rattle.std.specs.declared.vec.Vec.{Vec}
 use Rattle.std.specs.declared.alloc.Global.{Global}

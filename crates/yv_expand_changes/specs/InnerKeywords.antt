@@ -1,5 +1,4 @@
--- Inner definitions, which only private clauses cite: which statements may refine which nodes, by
--- their keywords.
+-- Only private clauses cite this: which statements may refine which nodes, by their keywords.
 use Rattle.std.specs.Prelude.{Bool, true, false}
 use Rattle.yv_statement.specs.declared.keyword.Keyword.{Keyword}
 use Rattle.yv_statement.specs.declared.keyword.Keyword.TheVariants as word

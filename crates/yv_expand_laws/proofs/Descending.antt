@@ -16,7 +16,7 @@ use Rattle.yv_expand.specs.declared.origin.Origin.TheVariants.{Statement, Input,
 use Rattle.yv_expand.specs.Expansion.{IsWhole}
 use Rattle.yv_expand_rounds.specs.declared.label.Label.{Label}
 use Rattle.yv_expand_uses.specs.Ends.{end_at}
-use Rattle.yv_expand_uses.specs.AugmentOrder.{is_augment}
+use Rattle.yv_expand.specs.StatementBlocks.{is_augment}
 use Rattle.yv_expand_rounds.specs.Kinds.{is_uses}
 use Rattle.yv_expand_uses.specs.Kinds.{kind_of}
 use Rattle.yv_expand_uses.specs.On.{is_marked}

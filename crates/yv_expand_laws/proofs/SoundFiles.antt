@@ -35,7 +35,8 @@ use Rattle.yv_expand.specs.Units.{nodes, operations}
 use Rattle.yv_expand.proofs.Listing.{numbers_have}
 use Rattle.yv_expand.proofs.Words.{word_is}
 use Rattle.yv_expand_rounds.specs.declared.statement_kind.StatementKind.{StatementKind}
-use Rattle.yv_expand_uses.specs.AugmentOrder.{giving_from, giving_places, gives, is_augment, is_giving, is_in, item_places}
+use Rattle.yv_expand_uses.specs.AugmentOrder.{giving_from, giving_places, gives, is_giving, is_in, item_places}
+use Rattle.yv_expand.specs.StatementBlocks.{is_augment}
 use Rattle.yv_expand_uses.specs.AugmentOrder as order
 use Rattle.yv_expand_rounds.specs.Kinds.{kind_in, kind_of_keyword, kinds}
 use Rattle.yv_expand_definition.specs.Expansion.{AllRefer}

@@ -12,7 +12,8 @@ use Rattle.std.proofs.lemmas.Option.{slice_get_within, get_or_from_slice_get}
 use Rattle.std.proofs.lemmas.Slice.Eq.{bytes_eq-Decides}
 use denote.Ref.{Bor}
 use Rattle.yv_expand_paths.specs.InnerNameNumbers.{place_of}
-use Rattle.yv_expand_paths.specs.InnerNames.{lookup_in, first_some, keep_first}
+use Rattle.yv_expand_paths.specs.InnerNames.{lookup_in, keep_first}
+use Rattle.yv_link_scopes.specs.InnerPlaces.{first_some}
 use Rattle.yv_expand_paths.proofs.Placing.{place_push, place_front}
 
 chosen : (b : Bool) (old there : Option ℕ) (number given : ℕ) → (b ≡ true → old ≡ there) → given ≡ unwrap_or there number → cond b (Some given) old ≡ first_some old (cond b (Some number) None)

@@ -5,7 +5,7 @@ use Rattle.std.specs.Str.{bytes_eq}
 use Rattle.std.proofs.lemmas.Option.{same_Some}
 use Rattle.std.proofs.lemmas.Slice.Eq.{bytes_eq-Decides}
 use Rattle.yv_expand_paths.specs.InnerNameNumbers.{place_of}
-use Rattle.yv_expand_paths.specs.InnerNames.{first_some}
+use Rattle.yv_link_scopes.specs.InnerPlaces.{first_some}
 
 first_cond : (b : Bool) (k : ℕ) (o q : Option ℕ) → cond b (Some k) (first_some o q) ≡ first_some (cond b (Some k) o) q
 first_cond true k o q = refl

@@ -1,5 +1,4 @@
--- Inner definitions, which only private clauses cite: how paths are followed together, and what
--- they meet on the way.
+-- Only private clauses cite this: how paths are followed together, and what they meet on the way.
 use Rattle.std.specs.Prelude.{◌≡◌, ℕ, ◌<◌, ◌≤◌, ◌==◌, Bool, true, false, List, Some, length, slice_get}
 use Rattle.yv_base_tables.specs.Fronts.{GoesOn}
 use Rattle.yv_base_tables.specs.InnerTree.{IsPathTree}

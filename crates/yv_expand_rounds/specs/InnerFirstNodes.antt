@@ -1,4 +1,4 @@
--- Inner definitions, which only private clauses cite: the first node of each name, as it is kept.
+-- Only private clauses cite this: the first node of each name, as it is kept.
 use Rattle.std.specs.Prelude.{◌≡◌, ℕ, List, Option}
 use Rattle.std.specs.BTreeMap.{get}
 use Rattle.std.specs.Ordering.{nat_cmp}

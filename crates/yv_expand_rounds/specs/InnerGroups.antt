@@ -1,4 +1,4 @@
--- Inner definitions, which only private clauses cite: groups with the first node of each name.
+-- Only private clauses cite this: groups with the first node of each name.
 use Rattle.std.specs.Prelude.{◌≡◌, ◌⊎◌, ℕ, ◌<◌, ◌==◌, ◌+◌, true, List, length, if◌then◌else◌, IfSome, Option, Some, None, slice_get}
 use Rattle.std.specs.Ordering.{is_lt}
 use Rattle.yv_expand_rounds.specs.declared.label.Label.{Label}

@@ -1,5 +1,4 @@
--- Inner definitions, which only private clauses cite: nodes to which no path from the top leads any
--- more.
+-- Only private clauses cite this: nodes to which no path from the top leads any more.
 use Rattle.std.specs.Prelude.{◌≡◌, ◌⊎◌, ℕ, ◌+◌, ◌<◌, not, Bool, true, false, List, length, Option, Some, slice_get, slice_index_or, count_by}
 use Rattle.yv_expand_rounds.specs.declared.label.Label.{Label}
 use Rattle.yv_expand_rounds.specs.declared.end.End.{End}

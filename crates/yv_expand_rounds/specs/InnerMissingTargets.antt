@@ -1,5 +1,4 @@
--- Inner definitions, which only private clauses cite: the places of augments that add to no node,
--- one by one.
+-- Only private clauses cite this: the places of augments that add to no node, one by one.
 use Rattle.std.specs.Prelude.{ℕ, ◌+◌, List, [], ◌∷◌, Option, Some, None}
 use Rattle.yv_expand_rounds.specs.declared.label.Label.{Label}
 use Rattle.yv_expand_rounds.specs.declared.end.End.{End}

@@ -1,5 +1,4 @@
--- Inner definitions, which only private clauses cite: how far the paths of augments that wait were
--- followed.
+-- Only private clauses cite this: how far the paths of augments that wait were followed.
 use Rattle.std.specs.Prelude.{◌≡◌, ◌≢◌, ◌⊎◌, ◌<◌, ◌+◌, ◌-◌, ℕ, nat_lt, Bool, true, List, length, take, drop, if◌then◌else◌, Option, Some, None, slice_get, slice_index_or}
 use Rattle.yv_expand_rounds.specs.declared.label.Label.{Label}
 use Rattle.yv_expand_rounds.specs.declared.end.End.{End}

@@ -1,4 +1,4 @@
--- Inner definitions, which only private clauses cite: what a stack of items gives.
+-- Only private clauses cite this: what a stack of items gives.
 use Rattle.std.specs.Prelude.{ℕ, ◌+◌, ◌≤◌, List, [], ◌∷◌, ◌++◌, map, Option, Some}
 use Rattle.yv_expand_rounds.specs.declared.group.Group.{Group}
 use Rattle.yv_expand_rounds.specs.declared.label.Label.{Label}

@@ -6,10 +6,7 @@ use Rattle.yv_link_scopes.specs.Names.{first_where}
 use Rattle.yv_link_scopes.specs.Rows.{Row}
 use Rattle.yv_base_tables.specs.Families.{numbers_at}
 use Rattle.yv_expand_rounds.specs.Kinds.{kind_of_keyword}
-
--- a statement is an `augment`
-abbrev pub is_augment : Row → Bool
-is_augment r = has_word (codes "augment") r.head
+use Rattle.yv_expand.specs.StatementBlocks.{is_augment}
 
 -- for each augment the block in which it is
 abbrev pub augment_places : List Row → List (Option ℕ)

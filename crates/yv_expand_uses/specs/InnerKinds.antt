@@ -1,4 +1,4 @@
--- Inner definitions, which only private clauses cite: what statements give, by their keywords.
+-- Only private clauses cite this: what statements give, by their keywords.
 use Rattle.std.specs.Prelude.{Option, None, Some}
 use Rattle.yv_statement.specs.declared.keyword.Keyword.{Keyword}
 use Rattle.yv_statement.specs.declared.keyword.Keyword.TheVariants as word

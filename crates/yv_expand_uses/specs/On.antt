@@ -5,7 +5,7 @@ use Rattle.yv_link_scopes.specs.Rows.{Row}
 use Rattle.yv_expand.specs.Origin.{number_of}
 use Rattle.yv_expand.specs.Tree.{Item}
 use Rattle.yv_expand_rounds.specs.Kinds.{is_uses}
-use Rattle.yv_expand_uses.specs.AugmentOrder.{is_augment}
+use Rattle.yv_expand.specs.StatementBlocks.{is_augment}
 use Rattle.yv_expand_uses.specs.declared.spot.Spot.{Spot}
 
 -- a number has a mark

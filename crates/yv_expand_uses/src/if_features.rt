@@ -2,7 +2,8 @@
 ghost use Rattle.std.specs.Prelude.{◌≡◌, ◌&&◌, Some, slice_get, IfOk};
 ghost use Rattle.yv_link_scopes.specs.{Views.{rows_in}, Rows.{row}};
 ghost use Rattle.yv_expand.specs.{ItemLimit.{ParentsComeFirst}, Origin.{number_of}};
-ghost use Rattle.yv_expand_uses.specs.{AugmentOrder.{is_augment}, On.{AreOn, above_on, augment_on, block_on, is_marked, uses_on}};
+ghost use Rattle.yv_expand_uses.specs.On.{AreOn, above_on, augment_on, block_on, is_marked, uses_on};
+ghost use Rattle.yv_expand.specs.StatementBlocks.{is_augment};
 
 use crate::kinds::is_uses;
 use crate::spot::Spot;

@@ -1,4 +1,4 @@
--- Inner definitions, which only private clauses cite: a number, if there is one.
+-- Only private clauses cite this: a number, if there is one.
 use Rattle.std.specs.Prelude.{ℕ, Bool, true, false, Option, Some, None}
 
 abbrev pub number_if : Bool → ℕ → Option ℕ

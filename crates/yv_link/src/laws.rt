@@ -7,7 +7,8 @@ ghost use Rattle.yv_link.specs.{Links.{BadLinks}, LinkedFiles.{AreLinked, truth_
 
 /// What linked files answer for an expression is its truth, whatever the file and the text.
 pub fn linked_files_tell_what_holds()
-    ensures { (files : Files) (choice : ModuleChoice) (linked : Linked) → AreLinked files choice linked
+    ensures { (files : Files) (choice : ModuleChoice) (linked : Linked)
+        → AreLinked files choice linked
         → (file : ℕ) (text : List ℕ) → Holds files choice file text (truth_in linked file text) }
 {
     yv_link_features::laws::features_tell_what_holds();

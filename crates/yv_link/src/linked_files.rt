@@ -28,7 +28,8 @@ impl<'a, 'b> Linked<'a, 'b> {
 
     /// The statements of the files, in the order of the files.
     pub fn statements(&self) -> &'a [Statement<'b>]
-        ensures { (files : Files) (choice : ModuleChoice) → AreLinked files choice self.now → result.now
+        ensures { (files : Files) (choice : ModuleChoice) → AreLinked files choice self.now
+            → result.now
             ≡ files }
     {
         self.rows.statements()

@@ -1,4 +1,4 @@
--- Inner definitions, which only private clauses cite: what is known of the first statements.
+-- Only private clauses cite this: what is known of the first statements.
 use Rattle.std.specs.Prelude.{◌≡◌, ◌↔◌, ℕ, ◌<◌, List, length, take, Option, Some, codes}
 use Rattle.std.specs.List.{slice_get}
 use Rattle.std.specs.Option.{option_and_then}

@@ -1,4 +1,4 @@
--- Inner definitions, which only private clauses cite: where the name of a definition is besides.
+-- Only private clauses cite this: where the name of a definition is besides.
 use Rattle.std.specs.Prelude.{◌≢◌, ℕ, ◌<◌, List}
 use Rattle.yv_link_scopes.specs.Rows.{Row, name_in}
 use Rattle.yv_link_scopes.specs.Scopes.{Encloses, IsNamed}

@@ -1,4 +1,4 @@
--- Inner definitions, which only private clauses cite: the graph of definitions.
+-- Only private clauses cite this: the graph of definitions.
 use Rattle.std.specs.Prelude.{◌≡◌, ◌↔◌, ℕ, Bool, List, length}
 use Rattle.yv_link_scopes.specs.Files.{Briefs}
 use Rattle.yv_link_scopes.specs.Rows.{Row}

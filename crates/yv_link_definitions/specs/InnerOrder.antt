@@ -1,4 +1,4 @@
--- Inner definitions, which only private clauses cite: the order of places.
+-- Only private clauses cite this: the order of places.
 use Rattle.std.specs.Prelude.{◌≡◌, ℕ, ◌<◌, ◌==◌, ◌&&◌, ◌||◌, nat_lt, Bool, true, List, Some, slice_get}
 use Rattle.yv_link_definitions.specs.declared.place.Place.{Place}
 

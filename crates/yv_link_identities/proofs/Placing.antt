@@ -11,7 +11,8 @@ use Rattle.std.proofs.lemmas.Map.Lookups.{exact_unsigned}
 use Rattle.std.proofs.lemmas.Option.{same_Some, slice_get_read}
 use Rattle.yv_link_scopes.specs.Names.{first_where}
 use Rattle.yv_link_identities.specs.References.{is_at}
-use Rattle.yv_link_identities.specs.InnerPlaces.{lookup_in, first_some, keep_first}
+use Rattle.yv_link_identities.specs.InnerPlaces.{lookup_in, keep_first}
+use Rattle.yv_link_scopes.specs.InnerPlaces.{first_some}
 use Rattle.yv_link_identities.specs.declared.references.IdentityRef.{IdentityRef}
 
 is_eq_then : (p q : Ordering) → is_eq (ordering_then p q) ≡ (is_eq p && is_eq q)

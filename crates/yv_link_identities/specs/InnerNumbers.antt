@@ -1,4 +1,4 @@
--- Inner definitions, which only private clauses cite: what the numbering of the identities has.
+-- Only private clauses cite this: what the numbering of the identities has.
 use Rattle.std.specs.Prelude.{◌≡◌, ℕ, List, map, Some, slice_get}
 use Rattle.std.specs.Option.{option_and_then}
 use Rattle.yv_link_scopes.specs.Rows.{Row}

@@ -5,6 +5,7 @@ use Rattle.std.specs.BTreeMap.{BTreeMap, get_by}
 use Rattle.yv_link_identities.specs.References.{is_at}
 use Rattle.yv_link_identities.specs.declared.references.IdentityRef.{IdentityRef}
 use Rattle.yv_link_identities.specs.declared.references.References.{References}
+use Rattle.yv_link_scopes.specs.InnerPlaces.{first_some}
 
 abbrev pub lookup_in : BTreeMap (ℕ × ℕ) ℕ → ℕ → ℕ → Option ℕ
 lookup_in m file offset = get_by (λ k. ordering_then (nat_cmp file k.0) (nat_cmp offset k.1)) m
@@ -12,10 +13,6 @@ lookup_in m file offset = get_by (λ k. ordering_then (nat_cmp file k.0) (nat_cm
 -- the number at an offset of a file
 abbrev pub placed_in : References → ℕ → ℕ → Option ℕ
 placed_in places = lookup_in places.map
-
-abbrev pub first_some : Option ℕ → Option ℕ → Option ℕ
-first_some None b = b
-first_some (Some a) b = Some a
 
 -- the first number of a place is kept
 abbrev pub keep_first : (ℕ → ℕ → Option ℕ) → IdentityRef → ℕ → ℕ → ℕ → Option ℕ

@@ -1,5 +1,4 @@
--- Inner definitions, which only private clauses cite: ways from identities to their bases, and
--- back.
+-- Only private clauses cite this: ways from identities to their bases, and back.
 use Rattle.std.specs.Prelude.{◌≡◌, ◌↔◌, ℕ, ◌≤◌, ◌⊎◌, ◌==◌, Bool, false, IsTrue, List, length, slice_get, slice_index}
 use Rattle.std.specs.Option.{option_map, unwrap_or}
 use Rattle.std.specs.List.{Contains, list_any}

@@ -9,12 +9,13 @@ use Rattle.yv_nodes.specs.Rows.{Row}
 use Rattle.yv_nodes.specs.Numbers.{numbers_from}
 use Rattle.yv_statement.specs.TextInFile.{TextInFile}
 use Rattle.yv_node_definition.specs.Kinds.{is_case}
-use Rattle.yv_node_checks.specs.InnerSpots.{AreRows, node_id, Sits, Spot, spots, row_of}
+use Rattle.yv_nodes.specs.InnerSpots.{AreRows, node_id, Sits, Spot, spots, row_of}
 use Rattle.std.proofs.lemmas.Bool.{cases_eq}
 use Rattle.std.proofs.lemmas.List.{length-set}
 use Rattle.std.proofs.lemmas.Option.{get_or_from_slice_get, slice_get-get_or, slice_get_within}
 use Rattle.yv_node_checks.proofs.Spots.{IsNumbered, is_numbered, length_rows, others_sit, own, spot_first}
-use Rattle.yv_node_checks.specs.Mandatory.{has_mandatory, is_called, is_needed, is_needed_in, child_named, child_of_text}
+use Rattle.yv_node_checks.specs.Mandatory.{has_mandatory, is_needed, is_needed_in}
+use Rattle.yv_nodes.specs.Children.{is_called, child_named, child_of_text}
 use Rattle.yv_node_checks.specs.InnerBelow.{AreBelow, case_among, is_named_at, is_needed_at, is_undone_at, kept_at}
 use Rattle.yv_node_checks.proofs.Kept.{place_at, row_at}
 

@@ -7,7 +7,7 @@ use Rattle.yv_nodes.specs.declared.node.NodeId.{NodeId}
 use Rattle.yv_nodes.specs.Tree.{Label, Forest}
 use Rattle.yv_nodes.specs.Places.{Place, places}
 use Rattle.yv_nodes.specs.Rows.{Row, root}
-use Rattle.yv_node_checks.specs.InnerSpots.{AreRows, IsUnder, Spot, spots, row_of, place_of}
+use Rattle.yv_nodes.specs.InnerSpots.{AreRows, IsUnder, Spot, spots, row_of, place_of}
 use Rattle.yv_node_checks.proofs.Spots.{map_get, places_spots, rows_spots}
 use Rattle.yv_node_checks.specs.declared.lineage.Ancestry.{Ancestry}
 use Rattle.yv_node_checks.specs.Above.{line}

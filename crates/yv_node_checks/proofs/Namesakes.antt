@@ -11,7 +11,8 @@ use Rattle.yv_nodes.specs.declared.node.NodeId.{NodeId}
 use Rattle.yv_nodes.specs.Alike.{untyped_at}
 use Rattle.yv_nodes.specs.Rows.{Row, blank_row}
 use Rattle.yv_node_checks.specs.InnerBelow.{case_among, is_named_at, is_some_named}
-use Rattle.yv_node_checks.specs.InnerNamesakes.{AreCases, HasName, HaveName, NamesDefault, case_at}
+use Rattle.yv_node_checks.specs.InnerNamesakes.{AreCases, NamesDefault, case_at}
+use Rattle.yv_nodes.specs.InnerNamesakes.{HasName, HaveName}
 
 -- what is found passes
 found_passes : {A : Type 0} (p : A → Bool) (xs : List A) (x : A) → find p xs ≡ Some x → p x ≡ true

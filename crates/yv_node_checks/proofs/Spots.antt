@@ -9,7 +9,7 @@ use Rattle.yv_nodes.specs.Tree.{Label, node, Forest, no_trees, tree, count}
 use Rattle.yv_nodes.specs.Places.{Place, places_below, places}
 use Rattle.yv_nodes.specs.Rows.{Row, root}
 use Rattle.yv_nodes.specs.Numbers.{numbers_from, rows_below}
-use Rattle.yv_node_checks.specs.InnerSpots.{IsUnder, node_id, Sits, Spot, spots_below, spots, row_of, place_of}
+use Rattle.yv_nodes.specs.InnerSpots.{IsUnder, node_id, Sits, Spot, spots_below, spots, row_of, place_of}
 
 pub length_spots : (parent : NodeId) (above : List Label) (at : ℕ) (ts : Forest) → length (spots_below parent above at ts) ≡ count ts
 length_spots parent above at no_trees = refl

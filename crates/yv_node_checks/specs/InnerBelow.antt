@@ -8,7 +8,8 @@ use Rattle.yv_nodes.specs.declared.node.NodeId.{NodeId}
 use Rattle.yv_nodes.specs.Rows.{Row}
 use Rattle.yv_nodes.specs.Tree.{Forest}
 use Rattle.yv_nodes.specs.Places.{Place, places}
-use Rattle.yv_node_checks.specs.Mandatory.{has_mandatory, is_called, is_needed}
+use Rattle.yv_node_checks.specs.Mandatory.{has_mandatory, is_needed}
+use Rattle.yv_nodes.specs.Children.{is_called}
 
 abbrev pub kept_at : List Bool → NodeId → Bool
 kept_at below c = unwrap_or (slice_get below c.0) false

@@ -7,16 +7,7 @@ use Rattle.yv_nodes.specs.declared.node.NodeId.{NodeId}
 use Rattle.yv_nodes.specs.Alike.{untyped_at}
 use Rattle.yv_nodes.specs.Rows.{Row, blank_row}
 use Rattle.yv_node_checks.specs.InnerBelow.{case_among}
-
--- the node of this number has this name
-pub record HasName (rows : List Row) (name : List ℕ) (n : ℕ) : Type 0 where
-  pub within : n < length rows
-  pub is : (untyped_at rows n).name ≡ name
-
--- it has, if there is one
-abbrev pub HaveName : List Row → (name : List ℕ) → Option NodeId → Type 0
-HaveName rows name None = Unit {0}
-HaveName rows name (Some n) = HasName rows name n.0
+use Rattle.yv_nodes.specs.InnerNamesakes.{HaveName}
 
 -- it has the name that a default says
 abbrev pub NamesDefault : List Row → Option TextInFile → Option NodeId → Type 0

@@ -1,7 +1,6 @@
 pub mod Above
 pub mod Mandatory
 pub mod Bad
-pub mod InnerSpots
 pub mod InnerAncestry
 pub mod InnerBelow
 pub mod InnerNamesakes

@@ -15,6 +15,8 @@ use Rattle.yv_nodes.specs.Tree.{Label, Tree, node, Forest, no_trees, tree}
 use Rattle.yv_nodes.specs.Defaults.{defaults_of}
 use Rattle.yv_nodes.specs.Places.{Place, places}
 use Rattle.yv_nodes.specs.Refusals.{refusal_of}
+use Rattle.yv_nodes.specs.Children.{child_of_text}
+use Rattle.yv_node_definition.specs.Kinds.{has_values}
 
 -- a node of a kind is mandatory, where `below` says that a node directly under it is (RFC 7950,
 -- section 3, "mandatory node")
@@ -36,21 +38,6 @@ is_needed l below = is_needed_as l.defined.kind l.defined below
 abbrev pub has_mandatory : Forest → Bool
 has_mandatory no_trees = false
 has_mandatory (tree (node l kids) ts) = is_needed l (has_mandatory kids) || has_mandatory ts
-
--- a node is of the module of this number and has this name
-abbrev pub is_called : (module_file : ℕ) → (name : List ℕ) → Label → Bool
-is_called module_file name l = l.module_file == module_file && bytes_eq l.defined.name name
-
--- the first of these trees whose node has this module and this name
-abbrev pub child_named : (module_file : ℕ) → (name : List ℕ) → Forest → Option Tree
-child_named module_file name no_trees = None
-child_named module_file name (tree (node l kids) ts) =
-    if is_called module_file name l then Some (node l kids) else child_named module_file name ts
-
--- the child that a text names, if there is a text
-abbrev pub child_of_text : (module_file : ℕ) → Option TextInFile → Forest → Option Tree
-child_of_text module_file None ts = None
-child_of_text module_file (Some written) ts = child_named module_file written.text ts
 
 -- the default case of a choice: a case, or a node that is a case of its own, of the choice's own
 -- module (RFC 7950, section 7.9.3)
@@ -78,12 +65,6 @@ is_overruled l = forbids_default_as l.defined.kind l.defined && is_some (own_def
 -- a choice whose default isn't a case of it, where `found` says that it is one
 abbrev pub is_caseless : Label → (found : Bool) → Bool
 is_caseless l found = is_choice l.defined.kind && (is_some (own_default l.defined) && not found)
-
--- a leaf or leaf-list
-abbrev pub has_values : NodeKind → Bool
-has_values kind.Leaf = true
-has_values kind.LeafList = true
-has_values _ = false
 
 -- a leaf or leaf-list that has fewer values by its defaults than it has defaults: no type of it
 -- reads one. Of a key and of a mandatory leaf no default is asked (RFC 7950, sections 7.6.1 and

@@ -2,7 +2,8 @@
 ghost use Rattle.std.specs.{Prelude.{◌≡◌, ◌<◌, ◌^◌, ◌∷◌, List, IfOk, length}, Option.{option_map}};
 ghost use Rattle.yv_statement.specs.Order.{IsLeast};
 ghost use Rattle.yv_nodes.specs.{Tree.{Forest, Label}, Places.{Place}};
-ghost use Rattle.yv_node_checks.specs.{Above.{AtNearest, BadBelow, BadByAbove, has_if_feature, is_misconfigured, is_misfit, is_misplaced, lacks_key, line}, InnerSpots.{AreRows}, InnerAncestry.{ancestry_at, ancestry_of, label_in, nearest_of}};
+ghost use Rattle.yv_node_checks.specs.{Above.{AtNearest, BadBelow, BadByAbove, has_if_feature, is_misconfigured, is_misfit, is_misplaced, lacks_key, line}, InnerAncestry.{ancestry_at, ancestry_of, label_in, nearest_of}};
+ghost use Rattle.yv_nodes.specs.InnerSpots.{AreRows};
 
 use crate::lineage::{Ancestry, is_keyless};
 use crate::node_numbers::node_at;

@@ -26,6 +26,12 @@ is_data kind.Anydata = true
 is_data kind.Anyxml = true
 is_data _ = false
 
+-- a leaf or a leaf-list: a node that has values
+abbrev pub has_values : NodeKind → Bool
+has_values kind.Leaf = true
+has_values kind.LeafList = true
+has_values _ = false
+
 -- a node is a list
 abbrev pub is_list : NodeKind → Bool
 is_list kind.List = true

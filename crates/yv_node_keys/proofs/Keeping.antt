@@ -10,7 +10,7 @@ use Rattle.std.specs.BTreeMap.{BTreeMap, UpdatesBy, get_by}
 use Rattle.yv_nodes.specs.declared.node.NodeId.{NodeId}
 use Rattle.yv_nodes.specs.Rows.{Row}
 use Rattle.yv_node_keys.specs.Numbers.{key_leaf_at, unique_leaf_at}
-use Rattle.yv_node_keys.specs.InnerSpots.{node_id}
+use Rattle.yv_nodes.specs.InnerSpots.{node_id}
 use Rattle.yv_node_keys.specs.InnerTargets.{AreLeafsOf, HasLeafs, IsKeptUpTo, IsRight}
 use Rattle.yv_node_keys.specs.declared.targets.ListLeafs.{ListLeafs}
 use Rattle.yv_node_keys.proofs.Telling.{module_file_is}

@@ -15,11 +15,12 @@ use Rattle.yv_nodes.specs.Numbers.{numbers_from, rows_from}
 use Rattle.yv_node_definition.specs.Steps.{Step}
 use Rattle.yv_node_definition.specs.Definition.{own_default}
 use Rattle.yv_statement.specs.TextInFile.{TextInFile}
-use Rattle.yv_node_keys.specs.Targets.{Waypoint, at_node, at_shorthand_case, arrive, default_case, module_file_of, is_called, key_leaf, leaf_among, leaf_at_end, leaf_in, leaf_at, follow_step, child_named, child_of_text, step_to, unique_leaf}
+use Rattle.yv_node_keys.specs.Targets.{Waypoint, at_node, at_shorthand_case, arrive, default_case, module_file_of, key_leaf, leaf_among, leaf_at_end, leaf_in, leaf_at, follow_step, step_to, unique_leaf}
+use Rattle.yv_nodes.specs.Children.{is_called, child_named, child_of_text}
 use Rattle.yv_node_keys.specs.Numbers.{arrived_at, case_of, child_at, children_of, default_of, default_case_at, is_called_at, is_some_called, is_kind_at, is_some_kind, key_leaf_at, leaf_at_end_of, leaf_below, leaf_of, led_at, led_by_at, module_file_at, module_file_of_row, stepped_at, tree_at, tree_in, unique_leaf_at}
 use Rattle.yv_node_keys.specs.Refusals.{is_bad_key, is_bad_statement, is_config_leaf, is_state_leaf}
 use Rattle.yv_node_keys.specs.InnerMixedConfig.{is_bad_statement_at, is_some_config, is_config_of}
-use Rattle.yv_node_keys.specs.InnerSpots.{Sits, Spot, node_id, place_of, row_of, spots}
+use Rattle.yv_nodes.specs.InnerSpots.{Sits, Spot, node_id, place_of, row_of, spots}
 use Rattle.yv_node_keys.specs.declared.place.Way.{Way}
 use Rattle.yv_node_keys.specs.declared.place.Way.TheVariants.{AtNode, AtShorthandCase}
 use Rattle.yv_node_keys.proofs.Listing.{any_same}

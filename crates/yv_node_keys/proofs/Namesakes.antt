@@ -14,8 +14,9 @@ use Rattle.yv_nodes.specs.Alike.{untyped_at}
 use Rattle.yv_nodes.specs.Rows.{Row, blank_row}
 use Rattle.yv_node_keys.specs.Targets.{module_file_of}
 use Rattle.yv_node_keys.specs.Numbers.{case_of, child_at, children_at, default_of, is_called_at, is_kind_at, is_some_called, key_leaf_at, leaf_of, module_file_at, unique_leaf_at}
-use Rattle.yv_node_keys.specs.InnerNamesakes.{HasName, HaveNames, NamesDefault}
-use Rattle.yv_node_keys.specs.InnerSpots.{node_id}
+use Rattle.yv_node_keys.specs.InnerNamesakes.{HaveNames, NamesDefault}
+use Rattle.yv_nodes.specs.InnerNamesakes.{HasName}
+use Rattle.yv_nodes.specs.InnerSpots.{node_id}
 use Rattle.yv_node_keys.specs.InnerTargets.{AreLeafsOf, HasCase, HasLeafs, keys_in, uniques_in}
 use Rattle.yv_node_keys.specs.declared.targets.ListLeafs.{ListLeafs}
 

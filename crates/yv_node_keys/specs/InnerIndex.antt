@@ -5,7 +5,7 @@ use Rattle.std.specs.BTreeMap.{BTreeMap, get_by}
 use Rattle.yv_nodes.specs.Rows.{Row}
 use Rattle.yv_node_keys.specs.Numbers.{children_at}
 use Rattle.yv_node_keys.specs.InnerNames.{AreNames, told_of}
-use Rattle.yv_node_keys.specs.InnerSpots.{node_id}
+use Rattle.yv_nodes.specs.InnerSpots.{node_id}
 use Rattle.yv_node_keys.specs.declared.names.ChildNames.{ChildNames}
 
 -- what is kept of a numbered node are the names of those directly below it

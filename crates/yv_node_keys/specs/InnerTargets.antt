@@ -7,7 +7,7 @@ use Rattle.std.specs.declared.alloc.Global.{Global}
 use Rattle.yv_nodes.specs.declared.node.NodeId.{NodeId}
 use Rattle.yv_nodes.specs.Rows.{Row}
 use Rattle.yv_node_keys.specs.Numbers.{default_case_at, key_leaf_at, unique_leaf_at}
-use Rattle.yv_node_keys.specs.InnerSpots.{node_id}
+use Rattle.yv_nodes.specs.InnerSpots.{node_id}
 use Rattle.yv_node_keys.specs.declared.targets.ListLeafs.{ListLeafs}
 use Rattle.yv_node_keys.specs.declared.targets.LeafTargets.{LeafTargets}
 

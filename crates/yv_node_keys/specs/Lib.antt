@@ -2,7 +2,6 @@ pub mod Targets
 pub mod Refusals
 pub mod Numbers
 pub mod InnerNames
-pub mod InnerSpots
 pub mod InnerMixedConfig
 pub mod InnerIndex
 pub mod Bad

@@ -11,7 +11,8 @@ use Rattle.yv_nodes.specs.Tree.{Tree, node, Forest}
 use Rattle.yv_nodes.specs.Places.{Place, places}
 use Rattle.yv_nodes.specs.Rows.{Row}
 use Rattle.yv_node_definition.specs.Steps.{Step}
-use Rattle.yv_node_keys.specs.Targets.{module_file_of, is_called}
+use Rattle.yv_node_keys.specs.Targets.{module_file_of}
+use Rattle.yv_nodes.specs.Children.{is_called}
 use Rattle.yv_node_keys.specs.declared.place.Way.{Way}
 use Rattle.yv_node_keys.specs.declared.place.Way.TheVariants.{AtNode, AtShorthandCase}
 

@@ -7,20 +7,11 @@ use Rattle.yv_node_definition.specs.Definition.{own_default}
 use Rattle.yv_statement.specs.TextInFile.{TextInFile}
 use Rattle.yv_nodes.specs.Tree.{Label, Tree, node, Forest, no_trees, tree}
 use Rattle.yv_node_definition.specs.Steps.{Step}
-
--- a node is of the module of this number and has this name
-abbrev pub is_called : (module_file : ℕ) → (name : List ℕ) → Label → Bool
-is_called module_file name l = l.module_file == module_file && bytes_eq l.defined.name name
+use Rattle.yv_nodes.specs.Children.{is_called, child_named, child_of_text}
 
 -- the module of a step: without a prefix that of the list whose statement has the path
 abbrev pub module_file_of : (own : ℕ) → Step → ℕ
 module_file_of own s = unwrap_or s.module_file own
-
--- the first of these trees whose node has this module and this name, whatever its kind
-abbrev pub child_named : (module_file : ℕ) → (name : List ℕ) → Forest → Option Tree
-child_named module_file name no_trees = None
-child_named module_file name (tree (node l kids) ts) =
-    if is_called module_file name l then Some (node l kids) else child_named module_file name ts
 
 -- the tree itself, where its node is a leaf
 abbrev pub leaf_in : Tree → Option Tree
@@ -79,11 +70,6 @@ leaf_at own (s ∷ ss) w = option_and_then (leaf_at own ss) (follow_step own s w
 abbrev pub unique_leaf : (list : Tree) → List (Option Step) → Option Tree
 unique_leaf list [] = None
 unique_leaf (node l kids) (s ∷ ss) = leaf_at l.module_file (s ∷ ss) (at_node (node l kids))
-
--- the child that a text names, if there is a text
-abbrev pub child_of_text : (module_file : ℕ) → Option TextInFile → Forest → Option Tree
-child_of_text module_file None ts = None
-child_of_text module_file (Some written) ts = child_named module_file written.text ts
 
 -- the default case of a choice: a case, or a node that is a case of its own, of the choice's own
 -- module (section 7.9.3)

@@ -1,7 +1,8 @@
 //! The default cases of choices.
 ghost use Rattle.std.specs.{Prelude.{◌≡◌}, List.{find}, Option.{option_map}};
 ghost use Rattle.yv_statement.specs.TextInFile.{written_of};
-ghost use Rattle.yv_node_keys.specs.{Numbers.{children_at, default_of, default_case_at, is_called_at}, InnerNamesakes.{HaveName, NamesDefault}};
+ghost use Rattle.yv_node_keys.specs.{Numbers.{children_at, default_of, default_case_at, is_called_at}, InnerNamesakes.{NamesDefault}};
+ghost use Rattle.yv_nodes.specs.InnerNamesakes.{HaveName};
 
 use crate::node_numbers::{children_at, is_called_at, module_file_at, node_at};
 use yv_node_definition::NodeKind;

@@ -2,7 +2,8 @@
 ghost use Rattle.std.specs.{Prelude.{◌≡◌, ℕ, Some, length, not, map, slice_get, is_some, IfOk, IfSome}, List.{list_any}};
 ghost use Rattle.yv_node_definition.specs.Steps.{Step};
 ghost use Rattle.yv_nodes.specs.{Tree.{Forest}, Places.{Place, places}, Numbers.{rows_from}};
-ghost use Rattle.yv_node_keys.specs.{Numbers.{child_at, children_at, key_leaf_at, tree_in}, Refusals.{is_bad_key}, InnerNames.{AreNamesIfKept}, InnerNamesakes.{HaveName, HaveNames}};
+ghost use Rattle.yv_node_keys.specs.{Numbers.{child_at, children_at, key_leaf_at, tree_in}, Refusals.{is_bad_key}, InnerNames.{AreNamesIfKept}, InnerNamesakes.{HaveNames}};
+ghost use Rattle.yv_nodes.specs.InnerNamesakes.{HaveName};
 
 use crate::cases::first_called;
 use crate::counterparts::counterpart_leafs;

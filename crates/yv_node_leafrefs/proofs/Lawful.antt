@@ -10,7 +10,8 @@ use Rattle.yv_node_leafrefs.specs.Schema.{Schema}
 use Rattle.yv_node_leafrefs.specs.Above as above
 use Rattle.yv_node_leafrefs.specs.Above.{parent_of, Closest, document, IsAbove, IsDataChild, IsFirst, IsInside, IsUnder, same, under, IsDepth, top, deeper}
 use Rattle.yv_node_leafrefs.specs.Ways.{Climbs, Begins, Means, Leads}
-use Rattle.yv_node_leafrefs.specs.Targets.{RefersTo, has_values}
+use Rattle.yv_node_leafrefs.specs.Targets.{RefersTo}
+use Rattle.yv_node_definition.specs.Kinds.{has_values}
 use Rattle.yv_node_definition.specs.declared.kind.NodeKind.{NodeKind}
 use Rattle.yv_node_definition.specs.declared.kind.NodeKind.TheVariants as kind
 use Rattle.yv_node_leafrefs.proofs.Closing.{above_one}

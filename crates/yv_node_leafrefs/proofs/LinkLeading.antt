@@ -16,7 +16,7 @@ use Rattle.yv_nodes.specs.Tree.{count, Forest, no_trees, node, tree}
 use Rattle.yv_node_leafrefs.specs.Above as above
 use Rattle.yv_node_leafrefs.specs.Above.{Closest, document, IsAbove, parent_of, place_of}
 use Rattle.yv_node_leafrefs.specs.Schema.{Referral, Schema}
-use Rattle.yv_node_leafrefs.specs.Targets.{has_values}
+use Rattle.yv_node_definition.specs.Kinds.{has_values}
 use Rattle.yv_node_leafrefs.specs.Ways.{Begins, Climbs}
 use Rattle.yv_node_leafrefs.specs.Links.{AreInner, AreLinks, is_inner, IsInner, IsLinkOf, LeadsOver}
 use Rattle.yv_node_leafrefs.proofs.LinkClosing.{above_one, child_above}

@@ -6,12 +6,7 @@ use Rattle.yv_nodes.specs.Rows.{Row}
 use Rattle.yv_node_leafrefs.specs.Schema.{Referral, Schema}
 use Rattle.yv_node_leafrefs.specs.Above.{IsInside}
 use Rattle.yv_node_leafrefs.specs.Ways.{Begins, Leads}
-
--- a leaf or a leaf-list
-abbrev pub has_values : NodeKind → Bool
-has_values kind.Leaf = true
-has_values kind.LeafList = true
-has_values _ = false
+use Rattle.yv_node_definition.specs.Kinds.{has_values}
 
 -- the node is a leafref, and says this. Inside operations and notifications none is asked for
 pub record IsLeafref (s : Schema) (n : ℕ) (row : Row) (ref : Referral) : Type 0 where

@@ -1,7 +1,8 @@
 //! What leafrefs refer to.
 ghost use Rattle.std.specs.Prelude.{◌≡◌, ◌↔◌, ◌<◌, ℕ, List, Some, None, map, length, slice_get, slice_index_or, IsTrue, IfOk};
 ghost use Rattle.yv_node_definition.specs.declared.kind.NodeKind.{NodeKind};
-ghost use Rattle.yv_node_leafrefs.specs.{Targets.{IsLeafref, RefersTo, has_values, is_fit}, InnerNames.{told_of, stride_of}, InnerOutline.{rows_in, schema_in}, InnerIndex.{IsDraft}, InnerGraph.{AreTargets, IsOne}};
+ghost use Rattle.yv_node_leafrefs.specs.{Targets.{IsLeafref, RefersTo, is_fit}, InnerNames.{told_of, stride_of}, InnerOutline.{rows_in, schema_in}, InnerIndex.{IsDraft}, InnerGraph.{AreTargets, IsOne}};
+ghost use Rattle.yv_node_definition.specs.Kinds.{has_values};
 
 use crate::draft::Draft;
 use crate::leafref::Leafref;

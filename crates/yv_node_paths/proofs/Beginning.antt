@@ -11,7 +11,8 @@ use Rattle.yv_text_grammar.specs.Argument.{argument_has}
 use Rattle.yv_text_grammar.specs.Refusals.{keyword_at}
 use Rattle.yv_text_grammar.specs.Fits.{FitsIn, extension, plain}
 use Rattle.yv_text_grammar.specs.Forms.{form_of}
-use Rattle.yv_text_grammar.specs.Bytes.{dot, slash}
+use Rattle.yv_text_grammar.specs.Bytes.{slash}
+use Rattle.yv_text_if_feature.specs.Bytes.{dot}
 use Rattle.yv_text_grammar.specs.Texts.{is_absolute_path, is_descendant_path, is_leafref_path, is_relative_path}
 use Rattle.yv_node_paths.specs.Referral.{climbs_of, is_up}
 use Rattle.yv_node_paths.specs.Steps.{texts_of}

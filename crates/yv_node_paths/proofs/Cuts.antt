@@ -6,7 +6,7 @@ use Rattle.std.proofs.lemmas.List.{map-append}
 use Rattle.std.proofs.lemmas.List.Splits.{slice_split_first}
 use Rattle.std.proofs.lemmas.List.Sums.{passes_at_first}
 use Rattle.std.proofs.lemmas.Bool.Decides.{nat_tests}
-use Rattle.yv_text_grammar.specs.Bytes.{is_blank}
+use Rattle.yv_text_if_feature.specs.Bytes.{is_blank}
 use Rattle.yv_text_grammar.specs.Words.{words}
 use Rattle.yv_link_scopes.specs.Files.{Files}
 use Rattle.yv_node_paths.specs.Steps.{names_of, path_of, paths_of, step_of}

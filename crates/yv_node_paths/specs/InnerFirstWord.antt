@@ -1,7 +1,7 @@
 -- Only private clauses cite this: a text that is cut at its first blank.
 use Rattle.std.specs.Prelude.{ℕ, List, Option, Some, None, [], ◌∷◌, length, nat_eq, nat_lt, if◌then◌else◌}
 use Rattle.std.specs.List.{position_or_len, before_first, after_first}
-use Rattle.yv_text_grammar.specs.Bytes.{is_blank}
+use Rattle.yv_text_if_feature.specs.Bytes.{is_blank}
 use Rattle.yv_link_scopes.specs.Files.{Files}
 use Rattle.yv_node_definition.specs.Steps.{Step}
 use Rattle.yv_node_paths.specs.Steps.{path_of, step_of}

@@ -1,6 +1,6 @@
 //! A text that is cut at its first blank.
 ghost use Rattle.std.specs.{Prelude.{◌≡◌, position, IfSome, IsUtf8}, Option.{option_map}};
-ghost use Rattle.yv_text_grammar.specs.Bytes.{is_blank};
+ghost use Rattle.yv_text_if_feature.specs.Bytes.{is_blank};
 ghost use Rattle.yv_node_paths.specs.InnerFirstWord.{first_word};
 
 /// What is before a text's first blank, and what is after it.

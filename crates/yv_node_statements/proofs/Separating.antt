@@ -5,7 +5,7 @@ use Rattle.std.specs.Prelude.{encode_utf8_all}
 use Rattle.std.proofs.lemmas.List.{map-append}
 use Rattle.std.proofs.lemmas.List.Elements.{filter-append}
 use Rattle.std.proofs.lemmas.Str.{chars-nil}
-use Rattle.yv_text_grammar.specs.Words.{is_empty}
+use Rattle.yv_text_if_feature.specs.Tokens.{is_empty}
 use Rattle.yv_node_statements.specs.Features.{join_with_commas, single_spaced, with_single_spaces, with_expressions}
 use Rattle.yv_node_statements.specs.InnerTexts.{with_comma}
 use Rattle.yv_node_statements.proofs.Spacing.{no_length, some_length}

@@ -4,7 +4,7 @@ use Rattle.std.specs.Prelude.{encode_utf8, encode_utf8_all, if◌then◌else◌}
 use Rattle.std.specs.Str.{IsUtf8, chars}
 use Rattle.std.proofs.lemmas.Bool.Decides.{nat_tests}
 use Rattle.std.proofs.lemmas.Str.{encodes-append, encodes-chars, length-le-encodes}
-use Rattle.yv_text_grammar.specs.Words.{is_empty}
+use Rattle.yv_text_if_feature.specs.Tokens.{is_empty}
 use Rattle.yv_node_statements.specs.Features.{is_blank, space_for_blank, single_spaced, with_single_spaces}
 
 -- the last of these characters, or the one before them, is a blank

@@ -16,7 +16,8 @@ use Rattle.yv_types.specs.Scopes.{AreScopes}
 use Rattle.yv_node_statements.specs.declared.reader.DefaultReader.{DefaultReader}
 use Rattle.yv_node_statements.specs.InnerRefines.{are_none}
 use Rattle.yv_node_statements.specs.Kinds.{kinds_of}
-use Rattle.yv_node_statements.specs.Values.{has_defaults, values_of}
+use Rattle.yv_node_statements.specs.Values.{values_of}
+use Rattle.yv_node_definition.specs.Kinds.{has_values}
 
 -- the values that this default of a type has by these plain types
 abbrev pub type_values : Files → List Plain → Option TextInFile → List Val
@@ -28,7 +29,7 @@ IsByType files d values = values ≡ type_values files d.types d.type_default
 
 -- of defaults, only that of its type is said of a node
 abbrev pub has_type_default : Definition → Bool
-has_type_default d = has_defaults d.kind && are_none d.own_defaults && d.min == 0
+has_type_default d = has_values d.kind && are_none d.own_defaults && d.min == 0
 
 -- the number of a list of plain types, and that of a typedef
 abbrev pub Numbers : Type 0

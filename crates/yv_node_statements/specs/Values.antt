@@ -11,6 +11,7 @@ use Rattle.yv_node_definition.specs.declared.kind.NodeKind.{NodeKind}
 use Rattle.yv_node_definition.specs.declared.kind.NodeKind.TheVariants as kind
 use Rattle.yv_types.specs.Scopes.{place_at}
 use Rattle.yv_types.specs.Values.{first_value}
+use Rattle.yv_node_definition.specs.Kinds.{has_values}
 
 -- by which the texts of a file are read
 abbrev pub scope_of : Files → ℕ → Option Place
@@ -30,12 +31,6 @@ abbrev pub values_of : Files → List Plain → List TextInFile → List Val
 values_of files types [] = []
 values_of files types (w ∷ ws) = alone (value_of files types w) ++ values_of files types ws
 
--- a node of this kind may have values by defaults: a leaf or a leaf-list
-abbrev pub has_defaults : NodeKind → Bool
-has_defaults kind.Leaf = true
-has_defaults kind.LeafList = true
-has_defaults _ = false
-
 -- these are no more defaults than a node may have
 abbrev pub are_few : List TextInFile → Bool
 are_few said = nat_le (length said) 1024
@@ -43,7 +38,7 @@ are_few said = nat_le (length said) 1024
 -- the values of a node of this kind by these defaults; of too many defaults none is read
 abbrev pub values_at : Files → NodeKind → List Plain → List TextInFile → List Val
 values_at files kind types said =
-    if has_defaults kind && are_few said then values_of files types said else []
+    if has_values kind && are_few said then values_of files types said else []
 
 -- those of the defaults that are said of a node
 abbrev pub defaults_of : Files → Definition → List Val

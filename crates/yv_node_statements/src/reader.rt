@@ -6,7 +6,7 @@ ghost use Rattle.yv_node_statements.specs.{Kinds.{kinds_of, typing_of}, Definiti
 
 use crate::properties::{lasting_at, node_kind};
 use crate::statements::{file_at, statement_at, type_at};
-use crate::values::{has_defaults, push_value};
+use crate::values::{has_values, push_value};
 use std::alloc::{AllocError, Global};
 use std::collections::BTreeMap;
 use std::rc::Rc;
@@ -120,7 +120,7 @@ fn lacks_defaults(rows: &Rows<'_, '_>, number: usize) -> bool {
         return false;
     };
     match node_kind(statement.kind()) {
-        Some(kind) => has_defaults(kind) && !has(Keyword::Default, statement),
+        Some(kind) => has_values(kind) && !has(Keyword::Default, statement),
         None => false,
     }
 }

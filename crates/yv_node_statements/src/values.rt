@@ -5,7 +5,8 @@ ghost use Rattle.yv_values.specs.Types.{plain_of};
 ghost use Rattle.yv_node_definition.specs.Definition.{defaults_said};
 ghost use Rattle.yv_statement.specs.TextInFile.{written_of};
 ghost use Rattle.yv_types.specs.Scopes.{AreScopes};
-ghost use Rattle.yv_node_statements.specs.{Values.{alone, defaults_of, has_defaults, value_of, values_of}, InnerSharedValues.{IsByType, has_type_default}};
+ghost use Rattle.yv_node_statements.specs.{Values.{alone, defaults_of, value_of, values_of}, InnerSharedValues.{IsByType, has_type_default}};
+ghost use Rattle.yv_node_definition.specs.Kinds.{has_values};
 
 use crate::nothing::Nothing;
 use std::alloc::{AllocError, Global};
@@ -44,7 +45,7 @@ pub(crate) fn defaults_of<'t>(
 fn has_type_default(definition: &DefinitionDraft) -> bool
     ensures { result ≡ has_type_default definition.now }
 {
-    has_defaults(definition.kind) && definition.own_defaults.is_empty() && definition.min == 0
+    has_values(definition.kind) && definition.own_defaults.is_empty() && definition.min == 0
 }
 
 // The same values, read anew.
@@ -60,7 +61,7 @@ fn read_defaults<'t>(
         ≡ definition.now.types
         → IfOk result (λ defaults. defaults.value ≡ defaults_of files definition.now) }
 {
-    if !has_defaults(definition.kind) || definition.own_defaults.len() > Defaults::MOST {
+    if !has_values(definition.kind) || definition.own_defaults.len() > Defaults::MOST {
         return nothing.values();
     }
     let values = said_values(alloc, scopes, matchers, types, definition)?;
@@ -71,8 +72,8 @@ fn read_defaults<'t>(
 }
 
 /// Whether a node of this kind may have values by defaults.
-pub(crate) fn has_defaults(kind: NodeKind) -> bool
-    ensures { result ≡ has_defaults kind }
+pub(crate) fn has_values(kind: NodeKind) -> bool
+    ensures { result ≡ has_values kind }
 {
     matches!(kind, NodeKind::Leaf | NodeKind::LeafList)
 }

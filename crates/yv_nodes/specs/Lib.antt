@@ -13,3 +13,6 @@ pub mod InnerTypes
 pub mod Labels
 pub mod Above
 pub mod InnerLinks
+pub mod InnerSpots
+pub mod InnerNamesakes
+pub mod Children

@@ -1,5 +1,4 @@
--- Inner definitions, which only clauses of private functions cite: the items of a class, as they
--- are read one by one.
+-- Only private clauses cite this: the items of a class, as they are read one by one.
 use Rattle.std.specs.Prelude.{ℕ, ◌+◌, nat_le, drop, position, take, ◌==◌, ◌||◌, ◌&&◌, not, Bool, false, List, [], ◌∷◌, Option, Some, None, option_map, if◌then◌else◌}
 use Rattle.yv_pattern.specs.declared.part.Part.{Part}
 use Rattle.yv_pattern.specs.declared.part.Part.TheVariants.{Literal, Range, Digit, Space, Word, Category, ClassEnd}

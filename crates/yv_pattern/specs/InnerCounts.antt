@@ -1,4 +1,4 @@
--- Inner definitions, which only clauses of private functions cite: how counts are read.
+-- Only private clauses cite this: how counts are read.
 use Rattle.std.specs.Prelude.{ℕ, ◌+◌, ◌-◌, ◌*◌, nat_lt, nat_eq, nat_le, length, take, drop, min, position, ◌==◌, ◌||◌, ◌&&◌, Bool, List, [], ◌∷◌, Option, Some, None}
 use Rattle.std.specs.List.{list_all}
 

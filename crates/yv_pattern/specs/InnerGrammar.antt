@@ -1,5 +1,4 @@
--- Inner definitions, which only clauses of private functions cite: the form of a pattern, of marks
--- that stand for its parts.
+-- Only private clauses cite this: the form of a pattern, of marks that stand for its parts.
 use Rattle.std.specs.Prelude.{ℕ, suc, List, [], ◌∷◌, ◌++◌}
 use Rattle.yv_pattern.specs.declared.mark.Mark.{Mark}
 use Rattle.yv_pattern.specs.declared.mark.Mark.TheVariants.{Atom, Times, Opening, Closing, Bar}

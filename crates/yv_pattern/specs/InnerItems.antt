@@ -1,5 +1,4 @@
--- Inner definitions, which only clauses of private functions cite: how a pattern is read part by
--- part.
+-- Only private clauses cite this: how a pattern is read part by part.
 use Rattle.std.specs.Prelude.{◌≡◌, ℕ, List, [], ◌∷◌, take, drop, Option, Some, option_to_list}
 use Rattle.std.specs.List.{flat_map}
 use Rattle.yv_pattern.specs.declared.mark.Mark.{Mark}

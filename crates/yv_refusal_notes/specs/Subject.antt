@@ -9,14 +9,11 @@ use Rattle.yv_statement.specs.declared.refusal.Code.TheVariants as code
 use Rattle.yv_statement.specs.declared.refusal.Refusal.{Refusal}
 use Rattle.yv_link_scopes.specs.Rows.{Row}
 use Rattle.yv_note_text.specs.Quotes.{Quotes}
+use Rattle.yv_link_scopes.specs.Rows.{is_extended}
 
 -- a type or a path that isn't supported is so for its argument
 abbrev pub is_told_by_argument : List ℕ → Bool
 is_told_by_argument keyword = bytes_eq keyword (codes "type") || bytes_eq keyword (codes "path")
-
--- a keyword with a prefix is an extension's
-abbrev pub is_extended : List ℕ → Bool
-is_extended keyword = list_any (λ byte. byte == 58) keyword
 
 -- the argument of a statement, or else its keyword
 abbrev pub argument_or_keyword : Head → List ℕ

@@ -1,6 +1,7 @@
 //! What a refusal speaks of.
 ghost use Rattle.std.specs.Prelude.{◌≡◌, option_map};
-ghost use Rattle.yv_refusal_notes.specs.Subject.{is_told_by_argument, is_extended, subject, argument_or_keyword};
+ghost use Rattle.yv_refusal_notes.specs.Subject.{is_told_by_argument, subject, argument_or_keyword};
+ghost use Rattle.yv_link_scopes.specs.Rows.{is_extended};
 
 use yv_statement::{Code, Statement};
 

@@ -1,5 +1,4 @@
 pub mod Lines
-pub mod InnerNumbers
 pub mod Document
 pub mod Status
 pub mod Compiles

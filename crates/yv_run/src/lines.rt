@@ -4,7 +4,8 @@ ghost use Rattle.yv_nodes.specs.Member.{behind};
 ghost use Rattle.yv_faults.specs.{Line.{escape, escaped_byte, hexadecimal, is_plain, item_text, line_text, path_text, place_text, places_text}, Part.{part_of}};
 ghost use Rattle.yv_leafref_values.specs.Place.{member_text};
 ghost use Rattle.yv_streams.specs.{Stream.{has_failed, stream_inner, FailsOnceAtMost}, Pages.{Adds, paged_output}};
-ghost use Rattle.yv_run.specs.{Lines.{ended_line, fault_lines, faults_text}, InnerNumbers.{number_text}};
+ghost use Rattle.yv_run.specs.Lines.{ended_line, fault_lines, faults_text};
+ghost use Rattle.yv_fault_notes.specs.Line.{number_text};
 
 use itoa::Buffer;
 use std::io::Write;

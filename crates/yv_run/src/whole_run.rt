@@ -237,7 +237,8 @@ pub fn run_with_note<R: Read, W: Write>(
 
 // What helps a person to fix a pattern that isn't built.
 fn pattern_note(alloc: Global, inputs: &[Input]) -> Result<Option<String>, AllocError>
-    ensures { (choice : ModuleChoice) (limit : ℕ) → HavePattern choice limit (map file_of inputs.now)
+    ensures { (choice : ModuleChoice) (limit : ℕ)
+        → HavePattern choice limit (map file_of inputs.now)
         → IfOk result
         (λ note. NotesPattern (map file_of inputs.now) (option_map string_bytes note)) }
 {

@@ -22,7 +22,8 @@ pub fn files_have_one_schema()
         → IsLeast (Refuses choice files limit) None → AreNotes choice files a
         → AreNotes choice files b → a ≡ b }
     // There is one list of links.
-    ensures references { (choice : ModuleChoice) (files : Files) (limit : ℕ) (a b : List (Option Link))
+    ensures references { (choice : ModuleChoice) (files : Files) (limit : ℕ)
+        (a b : List (Option Link))
         → IsLeast (Refuses choice files limit) None → AreReferences choice files a
         → AreReferences choice files b → a ≡ b }
 {

@@ -24,7 +24,8 @@ use Rattle.yv_expand.specs.declared.origin.Origin.TheVariants as origin
 use Rattle.yv_node_paths.specs.Referral.{climbs_of}
 use Rattle.yv_expand.proofs.Fitting.{statement_fits}
 use Rattle.yv_node_paths.proofs.Fitting.{begins_in_files}
-use Rattle.yv_types.specs.Referrals.{HasReferral, IsLeafrefAt, first_in, path_at, path_in, written_in}
+use Rattle.yv_types.specs.Referrals.{HasReferral, IsLeafrefAt, first_in, path_at, path_in}
+use Rattle.yv_types.specs.Defaults.{written_in}
 use Rattle.yv_types.specs.declared.leafref_path.TypeLeafref.{TypeLeafref}
 use Rattle.yv_node_statements.specs.Definitions.{leafref_of_tree}
 use Rattle.yv_node_statements.specs.Kinds.{AreTypeReferrals, TypeMeanings}

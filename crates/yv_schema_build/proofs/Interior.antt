@@ -9,7 +9,7 @@ use Rattle.std.proofs.lemmas.Option.{get_or_from_slice_get, same_Some, slice_get
 use Rattle.std.proofs.lemmas.Slice.Eq.{bytes_eq-Decides}
 use Rattle.yv_statement.specs.Tree as statement
 use Rattle.yv_statement.specs.Selection.{ModuleChoice}
-use Rattle.yv_text_grammar.specs.Bytes.{colon}
+use Rattle.yv_text_if_feature.specs.Bytes.{colon}
 use Rattle.yv_text_grammar.specs.Refusals.{keyword_at}
 use Rattle.yv_statement.specs.Keywords.{keyword_in, keyword_of, names}
 use Rattle.yv_statement.specs.declared.keyword.Keyword.{Keyword}

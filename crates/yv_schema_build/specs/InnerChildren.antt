@@ -1,4 +1,4 @@
--- Inner definitions, which only private clauses cite: nodes put below their parents one by one.
+-- Only private clauses cite this: nodes put below their parents one by one.
 use Rattle.std.specs.Prelude.{◌≡◌, ℕ, ◌+◌, List, [], ◌∷◌, ◌++◌, Option, Some, None, slice_set, slice_index_or}
 use Rattle.yv_expand.specs.Tree.{Node}
 use Rattle.yv_schema_build.specs.Families.{lists_of}

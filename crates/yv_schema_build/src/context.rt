@@ -49,7 +49,8 @@ impl<'c, 'a, 'b> Context<'c, 'a, 'b> {
         tree: &'c FinalTree,
     ) -> Context<'c, 'a, 'b>
         ensures tree { result.tree.now ≡ tree.now }
-        ensures tells { (b : NumberedBasis) (choice : ModuleChoice) → files_in definitions.now ≡ b.files
+        ensures tells { (b : NumberedBasis) (choice : ModuleChoice)
+            → files_in definitions.now ≡ b.files
             → typing_in definitions.now ≡ b.typing
             → IsRefinedOf definitions.now tree.now refined.now
             → (k : AreKept choice b.files b.truth tree.now) → k.final ≡ b.final → k.nodes ≡ b.nodes

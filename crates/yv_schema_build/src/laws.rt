@@ -18,7 +18,8 @@ pub fn files_have_one_schema()
         → IsLeast (RefusesByNumber choice files limit) None
         → AreNumberedNotes choice files a → AreNumberedNotes choice files b → a ≡ b }
     // There is one list of links.
-    ensures references { (choice : ModuleChoice) (files : Files) (limit : ℕ) (a b : List (Option Link))
+    ensures references { (choice : ModuleChoice) (files : Files) (limit : ℕ)
+        (a b : List (Option Link))
         → IsLeast (RefusesByNumber choice files limit) None
         → AreNumberedReferences choice files a → AreNumberedReferences choice files b → a ≡ b }
 {

@@ -7,7 +7,6 @@ pub mod File
 pub mod Grammar
 pub mod Keywords
 pub mod Legal
-pub mod Order
 pub mod Outcome
 pub mod Pieces
 pub mod Place

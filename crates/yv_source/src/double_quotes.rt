@@ -1,6 +1,6 @@
-// What a double-quoted text says, written in one pass: blanks that may come before a line break
-// wait until it is known whether they do. Runs in which nothing is stripped or escaped are written
-// at once.
+//! What a double-quoted text says, written in one pass: blanks that may come before a line break
+//! wait until it is known whether they do. Runs in which nothing is stripped or escaped are written
+//! at once.
 
 ghost use Rattle.std.specs.{Prelude.{◌≡◌, ◌≤◌, ◌<◌, ◌^◌, ◌+◌, ◌-◌, OnOk, IfOk, IfSome, IsTrue, IsCharBoundary, take, length, slice_index, string_bytes, true, false, []}, Cow.{cow_str_bytes}, Char.{encode_utf8}, List.{list_all}, Str.{chars}};
 ghost use Rattle.yv_source.specs.{Escapes.{all_pairs_good}, Quotes.{is_gap, quoted_value, strip}, Legal.{most_bytes}, Place.{column_of}, Inner.Plain.{is_plain, is_no_feed}, Inner.Writer.{put_character, flush, keep, keep_plain, keep_spaces, settle, take_in, trail, all_of, fresh, with_left, is_in_run, ends_well, is_at_rest, with_run, Runs, TakesEach, BeginsEscape}};

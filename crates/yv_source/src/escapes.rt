@@ -1,4 +1,4 @@
-// The backslash pairs that a file of YANG 1.1 may not have.
+//! The backslash pairs that a file of YANG 1.1 may not have.
 
 ghost use Rattle.std.specs.Prelude.{◌≡◌, ◌≤◌, ◌<◌, ◌+◌, false, length, IfSome};
 ghost use Rattle.yv_statement.specs.Tree.{trees};

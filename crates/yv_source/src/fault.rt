@@ -1,4 +1,4 @@
-// The refusal of a text at a place.
+//! The refusal of a text at a place.
 
 ghost use Rattle.std.specs.Prelude.{◌≡◌, ◌≤◌, take, length};
 ghost use Rattle.yv_source.specs.{Answer.{refusal_in}, Place.{line_of}};

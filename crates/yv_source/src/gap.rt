@@ -1,4 +1,4 @@
-// Blanks and comments between tokens.
+//! Blanks and comments between tokens.
 
 ghost use Rattle.std.specs.{Prelude.{◌≡◌, ◌≤◌, IsTrue, IfSome, length, take, drop}, List.{list_all}};
 ghost use Rattle.yv_source.specs.{Pieces.{is_blank}, Inner.Gap.{BeginsComment, IsGap, IsPastGap}, Inner.Scan.{before_of}};

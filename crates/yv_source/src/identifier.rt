@@ -1,4 +1,4 @@
-// Keywords.
+//! Keywords.
 
 ghost use Rattle.std.specs.Prelude.{◌≡◌};
 ghost use Rattle.yv_source.specs.Inner.Machine.{is_keyword};

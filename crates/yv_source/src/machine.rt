@@ -1,4 +1,4 @@
-// Statements from tokens, one at a time.
+//! Statements from tokens, one at a time.
 
 ghost use Rattle.std.specs.{Prelude.{◌≡◌, ◌≤◌, length, IfOk, reverse, MatchResult}, Cow.{cow_str_bytes}};
 ghost use Rattle.yv_source.specs.{Inner.Machine.{Next, is_keyword, step_at, between_at, start_at, after_keyword, after_argument, after_quoted, after_plus, give_word, give_quoted, close, finish}, Inner.Steps.{Gives, piece_of}, Inner.Place.{AreCounted, place_of}, Legal.{most_bytes}, Outcome.{most_deep}};

@@ -1,4 +1,4 @@
-// Lines and columns of a text.
+//! Lines and columns of a text.
 
 ghost use Rattle.std.specs.{Prelude.{◌≡◌, ◌≤◌, ◌<◌, ◌*◌, ◌^◌, ◌+◌, ◌==◌, count_by, length, take}};
 ghost use Rattle.yv_source.specs.{Characters.{line_feed}, Legal.{most_bytes}, Place.{mark_len, columns, column_of, column_past, line_of}, Inner.Place.{AreCounted}};

@@ -1,8 +1,9 @@
-// The statement that a text spells.
+//! The statement that a text spells.
 
 ghost use Rattle.std.specs.Prelude.{◌≡◌, ◌≤◌, ◌+◌, ◌*◌, ◌⊎◌, None, IfOk, IfSome, drop, length, reverse};
 ghost use Rattle.yv_statement.specs.{Tree.{Tree}, declared.refusal.Refusal.{Refusal}};
-ghost use Rattle.yv_source.specs.{Answer.{IsSpelled, IsRefused}, Legal.{IsLegalFile, most_bytes}, Order.{IsInOrder}, Place.{mark_len}, Inner.End.{Comes, ended_in, refusal_of_halt, IsChecked, IsEnd}};
+ghost use Rattle.yv_source.specs.{Answer.{IsSpelled, IsRefused}, Legal.{IsLegalFile, most_bytes}, Place.{mark_len}, Inner.End.{Comes, ended_in, refusal_of_halt, IsChecked, IsEnd}};
+ghost use Rattle.yv_statement.specs.Offsets.{IsInOrder};
 
 use crate::escapes::{bad_found, is_newer};
 use crate::fault::refuse;

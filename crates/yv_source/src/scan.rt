@@ -1,4 +1,4 @@
-// What a text begins with.
+//! What a text begins with.
 
 ghost use Rattle.std.specs.Prelude.{◌≡◌, ◌<◌, ◌≤◌, ◌^◌, ◌∷◌, ℕ, List, length, drop, true, false};
 ghost use Rattle.yv_source.specs.{Characters.{single_quote, asterisk, slash}, Pieces.{begins, begins_two, until, ends_word, up_to_quote, past_gap}, Inner.Scan.{ahead_in, before_of, ahead_of, is_unquoted, unless_unquoted, closed_piece, closed_by_two, word_or_plus, from, from_quote, begins_mark, ends_comment, pair_len}, Inner.Turn.{length_of, past_found}};

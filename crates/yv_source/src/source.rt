@@ -1,4 +1,4 @@
-// A file's text.
+//! A file's text.
 
 ghost use Rattle.std.specs.{Prelude.{◌≡◌, ◌≤◌, ◌↔◌, ◌++◌, [], length, take, drop, encode_utf8, OnOk, IfOk, IfSome, IfNone, IsTrue, Err}, Char.{len_utf8}, List.{list_all}, Str.{chars}};
 ghost use Rattle.yv_statement.specs.declared.refusal.Refusal.{Refusal as TheRefusal};

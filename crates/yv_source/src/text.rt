@@ -1,4 +1,4 @@
-// A text in the bytes of a file.
+//! A text in the bytes of a file.
 
 ghost use Rattle.std.specs.Prelude.{◌≡◌};
 ghost use Rattle.yv_source.specs.Legal.{IsLegalText};

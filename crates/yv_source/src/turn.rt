@@ -1,4 +1,4 @@
-// One turn of the reader.
+//! One turn of the reader.
 
 ghost use Rattle.std.specs.{Prelude.{◌≡◌, ◌≤◌, ◌+◌, length, take, drop, reverse, IsCharBoundary}, Option.{option_map}};
 ghost use Rattle.yv_source.specs.{Inner.Place.{AreCounted, place_at}, Inner.Steps.{Gives, piece_of}, Inner.Turn.{opener, inner, token_at, turn}, Legal.{most_bytes}};

@@ -1,4 +1,4 @@
--- Inner definitions, which only clauses of private functions cite: what the code's table holds.
+-- Only private clauses cite this: what the code's table holds.
 use Rattle.std.specs.Prelude.{ℕ, List}
 use Rattle.yv_statement.specs.declared.keyword.Keyword.{Keyword}
 use Rattle.yv_statement.specs.declared.keyword.Name.{Name}

@@ -10,3 +10,4 @@ pub mod InnerKeywords
 pub mod Words
 pub mod Selection
 pub mod TextInFile
+pub mod Offsets

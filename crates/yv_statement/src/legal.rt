@@ -1,3 +1,4 @@
+//! The characters that a text may have (RFC 7950, section 14).
 ghost use Rattle.std.specs.{Prelude.{◌≡◌}, Str.{chars}};
 ghost use Rattle.yv_statement.specs.Legal.{is_legal, all_legal};
 

@@ -1,3 +1,4 @@
+//! Refusals, and their order.
 ghost use Rattle.std.specs.Prelude.{◌≡◌, IsTrue, ◌↔◌, if◌then◌else◌, Some, None};
 ghost use Rattle.yv_statement.specs.{Codes.{name_of, number_of, phase_of}, Order.{IsLesser, IsUpTo, refusal_at}};
 

@@ -1,3 +1,4 @@
+//! Statements as trees (RFC 7950, section 6.3).
 ghost use Rattle.std.specs.{Prelude.{◌≡◌, OnOk, OnErr, IfSome}, Cow.{cow_str_bytes}, Option.{option_map}, Str.{bytes_eq}};
 ghost use Rattle.yv_statement.specs.{Keywords.{keyword_of, same, written}, Tree.{trees}, Builder.{bare, push_child, with_argument, with_more}};
 

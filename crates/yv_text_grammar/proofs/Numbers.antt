@@ -3,9 +3,9 @@ use Rattle.std.proofs.Common.{◌≡◌, ℕ, ◌+◌, ◌-◌, ◌*◌, ◌<◌
 use Rattle.std.specs.List.{list_all}
 use Rattle.std.proofs.lemmas.List.{take_more, take-append-drop}
 use Rattle.std.proofs.lemmas.Bool.{lt-leb}
-use Rattle.yv_text_grammar.specs.Bytes.{is_digit}
+use Rattle.yv_text_if_feature.specs.Bytes.{is_digit}
 use Rattle.yv_text_grammar.specs.Texts.{decimal_after, is_number}
-use Rattle.yv_text_grammar.specs.Words.{is_empty}
+use Rattle.yv_text_if_feature.specs.Tokens.{is_empty}
 
 -- what is written by digits, and more of them
 joined : (n : ℕ) (xs ys : List ℕ) → decimal_after n (xs ++ ys) ≡ decimal_after (decimal_after n xs) ys

@@ -4,8 +4,9 @@ use Rattle.std.specs.List.{onto_first}
 use Rattle.std.proofs.lemmas.Bool.Decides.{nat_tests}
 use Rattle.std.proofs.lemmas.Bool.{eqb-true}
 use Rattle.std.proofs.lemmas.List.{take_rest}
-use Rattle.yv_text_grammar.specs.Bytes.{is_blank}
-use Rattle.yv_text_grammar.specs.Words.{is_empty, pieces, words}
+use Rattle.yv_text_if_feature.specs.Bytes.{is_blank}
+use Rattle.yv_text_grammar.specs.Words.{pieces, words}
+use Rattle.yv_text_if_feature.specs.Tokens.{is_empty}
 use Rattle.yv_text_grammar.specs.InnerWords.{word_len}
 
 unempty : (m : ℕ) → 0 < m → nat_eq m 0 ≡ false

@@ -1,5 +1,4 @@
--- Inner definitions, which only clauses of private functions cite: words in a table, and their
--- order.
+-- Only private clauses cite this: words in a table, and their order.
 use Rattle.std.specs.Prelude.{ℕ, Bool, List}
 use Rattle.std.specs.List.{list_any}
 use Rattle.std.specs.Str.{bytes_eq}

@@ -1,4 +1,4 @@
--- Inner definitions, which only clauses of private functions cite: what the code's tables hold.
+-- Only private clauses cite this: what the code's tables hold.
 use Rattle.yv_statement.specs.declared.keyword.Keyword.{Keyword}
 use Rattle.yv_text_grammar.specs.declared.table.Occurs.{Occurs}
 use Rattle.yv_text_grammar.specs.declared.table.Row.{Row}

@@ -1,4 +1,4 @@
--- Inner definitions, which only clauses of private functions cite: which keywords were met.
+-- Only private clauses cite this: which keywords were met.
 use Rattle.std.specs.Prelude.{ℕ, Bool, false, slice_index_or}
 use denote.Enum.Declared.{tag_of}
 use Rattle.yv_statement.specs.declared.keyword.Keyword.{Keyword}

@@ -1,8 +1,7 @@
--- Inner definitions, which only clauses of private functions cite: how the words of a text are read
--- one by one.
+-- Only private clauses cite this: how the words of a text are read one by one.
 use Rattle.std.proofs.Common.{suc}
 use Rattle.std.specs.Prelude.{ℕ, List, [], ◌∷◌, if◌then◌else◌}
-use Rattle.yv_text_grammar.specs.Bytes.{is_blank}
+use Rattle.yv_text_if_feature.specs.Bytes.{is_blank}
 use Rattle.yv_text_grammar.specs.Words.{words}
 use Rattle.yv_text_grammar.specs.declared.words.Words.{Words}
 

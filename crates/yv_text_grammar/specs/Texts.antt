@@ -3,8 +3,10 @@ use Rattle.std.specs.Prelude.{ℕ, ◌+◌, ◌-◌, ◌*◌, Bool, true, false,
 use Rattle.std.specs.List.{list_all, list_any, slice_split, starts_with}
 use Rattle.std.specs.Str.{bytes_eq, trim}
 pub use Rattle.yv_text_if_feature.specs.Names.{is_start, is_part, is_identifier, is_name}
-use Rattle.yv_text_grammar.specs.Bytes.{dash, dot, is_blank, is_digit, slash}
-use Rattle.yv_text_grammar.specs.Words.{is_empty, words}
+use Rattle.yv_text_grammar.specs.Bytes.{slash}
+use Rattle.yv_text_if_feature.specs.Bytes.{dash, dot, is_blank, is_digit}
+use Rattle.yv_text_grammar.specs.Words.{words}
+use Rattle.yv_text_if_feature.specs.Tokens.{is_empty}
 
 -- a descendant path is names with slashes between (section 6.5)
 unfoldable pub is_descendant_path : List ℕ → Bool

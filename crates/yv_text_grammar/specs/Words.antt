@@ -1,11 +1,8 @@
 -- The words of an argument (RFC 7950, sections 6.1 and 14).
 use Rattle.std.specs.Prelude.{ℕ, Bool, not, List, filter, length, nat_eq}
 use Rattle.std.specs.List.{slice_split}
-use Rattle.yv_text_grammar.specs.Bytes.{is_blank}
-
--- a text has no bytes
-abbrev pub is_empty : List ℕ → Bool
-is_empty text = nat_eq (length text) 0
+use Rattle.yv_text_if_feature.specs.Bytes.{is_blank}
+use Rattle.yv_text_if_feature.specs.Tokens.{is_empty}
 
 -- a text cut at each blank; some pieces are empty
 abbrev pub pieces : List ℕ → List (List ℕ)

@@ -1,6 +1,7 @@
 //! The forms of arguments that can be checked from the text only.
 ghost use Rattle.std.specs.{Prelude.{◌≡◌, ◌<◌, ◌==◌, ◌^◌}, List.{list_all}};
-ghost use Rattle.yv_text_grammar.specs.{Bytes.{is_digit}, Texts.{is_absolute_path, is_date, is_descendant_path, is_enum_name, is_enum_value, is_fraction_digits, is_leafref_path, is_max_elements, is_number, is_relative_path, is_trimmed}};
+ghost use Rattle.yv_text_grammar.specs.Texts.{is_absolute_path, is_date, is_descendant_path, is_enum_name, is_enum_value, is_fraction_digits, is_leafref_path, is_max_elements, is_number, is_relative_path, is_trimmed};
+ghost use Rattle.yv_text_if_feature.specs.Bytes.{is_digit};
 
 use crate::words::is_blank;
 use yv_text_if_feature::is_name;

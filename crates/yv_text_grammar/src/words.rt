@@ -1,6 +1,7 @@
 //! The words of an argument, one by one.
 ghost use Rattle.std.specs.{Prelude.{◌≡◌, ◌≤◌, ◌<◌, false, length, slice_index}, Iterator.{YieldsFirstRef, item_count}};
-ghost use Rattle.yv_text_grammar.specs.{Bytes.{is_blank}, Words.{words}, InnerWords.{word_len, words_left}};
+ghost use Rattle.yv_text_grammar.specs.{Words.{words}, InnerWords.{word_len, words_left}};
+ghost use Rattle.yv_text_if_feature.specs.Bytes.{is_blank};
 
 /// The words of a text: what is between blanks.
 #[derive(Clone, Copy)]

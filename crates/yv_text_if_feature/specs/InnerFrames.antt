@@ -1,4 +1,4 @@
--- Inner definitions, which only clauses of private functions cite: frames in an array as a list.
+-- Only private clauses cite this: frames in an array as a list.
 use Rattle.std.proofs.Common.{zero, suc, get_or}
 use Rattle.std.specs.Prelude.{ℕ, List, [], ◌∷◌}
 use Rattle.yv_text_if_feature.specs.State.{empty}

@@ -1,5 +1,4 @@
--- Inner definitions, which only clauses of private functions cite: how the words of a text are read
--- one by one.
+-- Only private clauses cite this: how the words of a text are read one by one.
 use Rattle.std.proofs.Common.{suc}
 use Rattle.std.specs.Prelude.{ℕ, ◌||◌, List, [], ◌∷◌, if◌then◌else◌}
 use Rattle.yv_text_if_feature.specs.Bytes.{is_blank, is_parenthesis}

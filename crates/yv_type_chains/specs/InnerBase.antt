@@ -1,4 +1,4 @@
--- Inner definitions, which only private clauses cite: types that name built-in types.
+-- Only private clauses cite this: types that name built-in types.
 use Rattle.std.specs.Prelude.{◌≡◌, ℕ, true, List, Some, slice_get}
 use Rattle.yv_link_scopes.specs.Rows.{Row, name_in}
 use Rattle.yv_link_definitions.specs.BuiltIn.{is_built_in}

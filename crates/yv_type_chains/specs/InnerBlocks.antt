@@ -1,4 +1,4 @@
--- Inner definitions, which only private clauses cite: the blocks of types.
+-- Only private clauses cite this: the blocks of types.
 use Rattle.std.specs.Prelude.{ℕ, ◌+◌, List, [], ◌∷◌, Option, Some, None, if◌then◌else◌}
 use Rattle.yv_link_scopes.specs.Rows.{Row}
 use Rattle.yv_type_chains.specs.Types.{is_inner}

@@ -1,5 +1,4 @@
--- Inner definitions, which only private clauses cite: counts up to 65, more than which says no
--- more.
+-- Only private clauses cite this: counts up to 65, more than which says no more.
 use Rattle.std.specs.Prelude.{◌≡◌, ℕ, ◌+◌, min, List, [], ◌∷◌, Option, Some}
 use Rattle.std.specs.Option.{option_and_then}
 use Rattle.yv_link_scopes.specs.Files.{Briefs}

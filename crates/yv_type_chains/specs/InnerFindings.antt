@@ -1,5 +1,4 @@
--- Inner definitions, which only private clauses cite: what is found on the types before they are
--- judged.
+-- Only private clauses cite this: what is found on the types before they are judged.
 use Rattle.std.specs.Prelude.{List}
 use Rattle.yv_link_scopes.specs.Files.{Briefs}
 use Rattle.yv_link_scopes.specs.Rows.{Row}

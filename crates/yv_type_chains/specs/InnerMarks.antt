@@ -1,5 +1,4 @@
--- Inner definitions, which only private clauses cite: parts of what is wrong with a type, and marks
--- by number.
+-- Only private clauses cite this: parts of what is wrong with a type, and marks by number.
 use Rattle.std.specs.Prelude.{◌≡◌, ◌↔◌, ℕ, Bool, true, false, List, Some, codes, slice_get, slice_index_or}
 use Rattle.yv_link_scopes.specs.Files.{Briefs}
 use Rattle.yv_link_scopes.specs.Rows.{Row, name_in}

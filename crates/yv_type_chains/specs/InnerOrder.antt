@@ -1,4 +1,4 @@
--- Inner definitions, which only private clauses cite: an order of all statements.
+-- Only private clauses cite this: an order of all statements.
 use Rattle.std.specs.Prelude.{◌≡◌, ℕ, ◌<◌, List, length, take, slice_index}
 use Rattle.std.specs.List.{All, Contains}
 use Rattle.yv_link_scopes.specs.Files.{Briefs}

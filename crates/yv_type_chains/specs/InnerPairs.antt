@@ -1,5 +1,4 @@
--- Inner definitions, which only private clauses cite: the code's keywords, and its pairs of a type
--- and a keyword.
+-- Only private clauses cite this: the code's keywords, and its pairs of a type and a keyword.
 use Rattle.std.specs.Prelude.{ℕ, ◌&&◌, Bool, true, false, List}
 use Rattle.std.specs.List.{list_any}
 use Rattle.std.specs.Str.{bytes_eq}

@@ -1,4 +1,4 @@
--- Inner definitions, which only private clauses cite: the graph of the types.
+-- Only private clauses cite this: the graph of the types.
 use Rattle.std.specs.Prelude.{◌≡◌, ◌↔◌, ℕ, true, false, List, length, Option, Some, slice_get}
 use Rattle.std.specs.List.{Contains}
 use Rattle.yv_link_scopes.specs.Rows.{Row}

@@ -1,5 +1,4 @@
--- Inner definitions, which only private clauses cite: numbers and lists by number, as tables keep
--- them.
+-- Only private clauses cite this: numbers and lists by number, as tables keep them.
 use Rattle.std.specs.Prelude.{◌≡◌, ◌↔◌, ℕ, List, [], Option, Some, slice_get}
 use Rattle.std.specs.Option.{option_and_then, option_map, unwrap_or}
 use Rattle.std.specs.declared.vec.Vec.{Vec}

@@ -1,4 +1,4 @@
--- For private clauses only: entries of statements that are lent, and what is known of them.
+-- Only private clauses cite this: entries of statements that are lent, and what is known of them.
 use Rattle.std.specs.Prelude.{ℕ, Bool, true, ◌&&◌, List, map, Option, Some, None, is_some, slice_get}
 use Rattle.std.specs.Option.{option_map}
 use denote.Ref.{Bor}

@@ -1,4 +1,4 @@
--- Inner definitions, which only private clauses cite: one type, and the types so far.
+-- Only private clauses cite this: one type, and the types so far.
 use Rattle.std.specs.Prelude.{◌≡◌, ◌↔◌, ℕ, List, Option, Some, map, slice_get}
 use Rattle.std.specs.List.{Contains}
 use Rattle.yv_base_tables.specs.declared.table.Table.{Table}

@@ -1,4 +1,4 @@
--- For private clauses only: the list of values, as an enumeration keeps it.
+-- Only private clauses cite this: the list of values, as an enumeration keeps it.
 use Rattle.std.specs.Prelude.{ℕ, List, [], Bool, true, false}
 use Rattle.yv_values.specs.Types.{Plain, wholes, decimals, strings, booleans, names, flags, octets, identities, empties}
 

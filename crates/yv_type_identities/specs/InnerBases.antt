@@ -1,4 +1,4 @@
--- Inner definitions, which only private clauses cite: the bases of blocks, and keys.
+-- Only private clauses cite this: the bases of blocks, and keys.
 use Rattle.std.specs.Prelude.{◌≡◌, ℕ, true, List, [], Option, None, slice_get, if◌then◌else◌}
 use Rattle.std.specs.List.{list_any}
 use Rattle.std.specs.Option.{option_map, unwrap_or}

@@ -1,5 +1,5 @@
--- Inner definitions, which only private clauses cite: the identities that are values wherever they
--- are derived from the bases.
+-- Only private clauses cite this: the identities that are values wherever they are derived from the
+-- bases.
 use Rattle.std.specs.Prelude.{◌≡◌, ℕ, Bool, true, ◌&&◌, not, List, map, Some, slice_get}
 use Rattle.std.specs.BTreeSet.{BTreeSet, contains}
 use Rattle.std.specs.Ordering.{nat_cmp}

@@ -1,4 +1,4 @@
--- Inner definitions, which only private clauses cite: where candidates stand.
+-- Only private clauses cite this: where candidates stand.
 use Rattle.std.specs.Prelude.{◌≡◌, ℕ, Bool, false, nat_eq, List, [], slice_get}
 use Rattle.std.specs.BTreeMap.{get}
 use Rattle.std.specs.List.{list_any}

@@ -1,4 +1,4 @@
--- Inner definitions, which only private clauses cite: the numbers of identities, and runs of them.
+-- Only private clauses cite this: the numbers of identities, and runs of them.
 use Rattle.std.specs.Prelude.{◌≡◌, ◌↔◌, ℕ, ◌<◌, ◌==◌, ◌&&◌, ◌||◌, Bool, true, false, IsTrue, List, length, map, Option, Some, None, slice_get, slice_index, nat_lt, if◌then◌else◌}
 use Rattle.std.specs.BTreeMap.{get_by}
 use Rattle.std.specs.List.{list_any}

@@ -1,4 +1,4 @@
--- Inner definitions, which only private clauses cite: sets of places.
+-- Only private clauses cite this: sets of places.
 use Rattle.std.specs.Prelude.{ℕ, ◌==◌, ◌&&◌, Bool, true, Option, Some, None}
 use Rattle.std.specs.BTreeSet.{BTreeSet, contains}
 use Rattle.std.specs.Ordering.{nat_cmp, ordering_then}

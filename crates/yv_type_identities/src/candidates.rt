@@ -92,7 +92,8 @@ fn count(linked: &Linked<'_, '_>) -> u32 {
 impl<'a, 'b> Draft<'_, 'a, 'b> {
     // Whether a numbered statement is an identity of an implemented module, and on.
     fn passes(&self, number: usize, entry: &Entry<'a, 'b>) -> bool
-        ensures { (files : Files) (choice : ModuleChoice) → AreLinked files choice self.now.linked.now
+        ensures { (files : Files) (choice : ModuleChoice)
+            → AreLinked files choice self.now.linked.now
             → result ≡ passes choice (map brief_of files) self.now.off number (row entry.now) }
     {
         is_identity(entry)
@@ -117,7 +118,8 @@ impl<'a, 'b> Draft<'_, 'a, 'b> {
     // The identity of a statement, with its module.
     fn candidate(&self, alloc: Global, entry: &Entry<'a, 'b>) -> Result<Candidate, AllocError>
         ensures { IfOk result
-            (λ c. (files : Files) (choice : ModuleChoice) → AreLinked files choice self.now.linked.now
+            (λ c. (files : Files) (choice : ModuleChoice)
+            → AreLinked files choice self.now.linked.now
             → AreModuleNames (map brief_of files) self.now.module_files.items
             → IsOf (map brief_of files) (row entry.now) c) }
     {

@@ -24,7 +24,8 @@ impl IdentityPlaces {
         alloc: Global,
         linked: &Linked<'_, '_>,
     ) -> Result<Option<IdentityPlaces>, AllocError>
-        ensures { IfOk result (λ found. IfSome found (λ places. (files : Files) (choice : ModuleChoice)
+        ensures { IfOk result (λ found. IfSome found (λ places. (files : Files)
+            (choice : ModuleChoice)
             → AreLinked files choice linked.now → AreIdentityPlaces (rows_of files) places)) }
     {
         let mut places = IdentityPlaces::new(alloc);

@@ -9,7 +9,8 @@ ghost use Rattle.yv_type_identities.specs.{Bases.{IsBelow}, Values.{Truth, HasVa
 /// Where nothing is refused of the features, a type has the same values whatever decides the truth
 /// of conditions.
 pub fn a_type_has_its_values()
-    ensures { (files : Files) (choice : ModuleChoice) (t u : Truth) → IsLeast (BadFeatures files) None
+    ensures { (files : Files) (choice : ModuleChoice) (t u : Truth)
+        → IsLeast (BadFeatures files) None
         → ((file : ℕ) (text : List ℕ) → Holds files choice file text (t file text))
         → ((file : ℕ) (text : List ℕ) → Holds files choice file text (u file text))
         → (number : ℕ) (module_name called : List ℕ)

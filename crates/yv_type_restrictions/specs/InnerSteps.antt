@@ -1,4 +1,4 @@
--- Inner definitions, which only private clauses cite: one type, and the types so far.
+-- Only private clauses cite this: one type, and the types so far.
 use Rattle.std.specs.Prelude.{◌≡◌, ◌↔◌, ℕ, ⊤, List, Option, Some, map, slice_get}
 use Rattle.std.specs.List.{Contains}
 use Rattle.yv_base_tables.specs.declared.table.Table.{Table}
@@ -18,12 +18,6 @@ use Rattle.yv_type_restrictions.specs.FacetRefusals.{BadFacets}
 use Rattle.yv_type_restrictions.specs.Types.{HasPlainType}
 use Rattle.yv_type_restrictions.specs.Refusals.{BadNarrowing}
 use Rattle.yv_type_restrictions.specs.InnerTables.{plain_at}
-
--- no file is refused, and a pattern isn't built only where P holds
-abbrev pub StopsWhere : Type 0 → Stop → Type 0
-StopsWhere P (Fault r) = ⊥
-StopsWhere P PatternBuild = P
-StopsWhere P NoMemory = ⊤
 
 -- What is left of the plain type, if there is one, that a type statement narrows, and the least
 -- that is wrong with its restrictions.

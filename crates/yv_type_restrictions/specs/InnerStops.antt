@@ -1,4 +1,4 @@
--- For private clauses only: why the reading of patterns has no answer.
+-- Only private clauses cite this: why the reading of patterns has no answer.
 use Rattle.std.specs.Prelude.{⊤}
 use Rattle.yv_statement.specs.declared.refusal.Stop.{Stop}
 use Rattle.yv_statement.specs.declared.refusal.Stop.TheVariants.{Fault, PatternBuild, NoMemory}

@@ -24,7 +24,8 @@ pub struct PlainTypes {
 }
 
 impl PlainTypes {
-    ghost use Rattle.yv_type_restrictions.specs.{Types.{HasPlainType, HasTypePattern}, Refusals.{BadFaceted}, PlainTypes.{AreFaceted}, InnerSteps.{StopsWhere}};
+    ghost use Rattle.yv_type_restrictions.specs.{Types.{HasPlainType, HasTypePattern}, Refusals.{BadFaceted}, PlainTypes.{AreFaceted}};
+    ghost use Rattle.yv_type_restrictions.specs.InnerStops.{StopsWhere};
 
     /// Reads the types of these statements, the bases being theirs. `PatternBuild` says that
     /// `regex` doesn't build the translation of a pattern of the dialect; no refusal is an error

@@ -4,7 +4,8 @@ ghost use Rattle.yv_statement.specs.Tree.{trees};
 ghost use Rattle.yv_link_scopes.specs.Views.{lent_in};
 ghost use Rattle.yv_type_chains.specs.Bases.{AreBases};
 ghost use Rattle.yv_values.specs.Types.{plain_of};
-ghost use Rattle.yv_type_restrictions.specs.{Facets.{has_word}, FacetRefusals.{HasPattern}, Types.{HasTypePattern, named_type}, InnerSteps.{AreKnown, IsFollowed, IsLeft, IsStep, StopsWhere}};
+ghost use Rattle.yv_type_restrictions.specs.{Facets.{has_word}, FacetRefusals.{HasPattern}, Types.{HasTypePattern, named_type}, InnerSteps.{AreKnown, IsFollowed, IsLeft, IsStep}};
+ghost use Rattle.yv_type_restrictions.specs.InnerStops.{StopsWhere};
 
 use crate::built_in_kinds::built_in;
 use crate::digits::digits_of_type;

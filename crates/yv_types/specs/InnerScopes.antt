@@ -1,4 +1,4 @@
--- Inner definitions, which only private clauses cite: scopes as prefixes are added.
+-- Only private clauses cite this: scopes as prefixes are added.
 use Rattle.std.specs.Prelude.{◌≡◌, ℕ, ◌==◌, List, [], ◌∷◌, ◌++◌, map, filter, if◌then◌else◌, slice_get}
 use Rattle.std.specs.Option.{option_map}
 use Rattle.yv_link_scopes.specs.Files.{Brief, Briefs}

@@ -12,6 +12,7 @@ use Rattle.yv_type_chains.specs.Types.{Follows, is_leafref}
 use Rattle.yv_statement.specs.TextInFile.{TextInFile}
 use Rattle.yv_types.specs.declared.path.PathText.{PathText}
 use Rattle.yv_types.specs.declared.leafref_path.TypeLeafref.{TypeLeafref}
+use Rattle.yv_types.specs.Defaults.{written_in}
 
 -- the first substatement with a keyword
 abbrev pub first_in : List ℕ → Tree → Option Tree
@@ -28,10 +29,6 @@ required_in t = option_map says_true (first_in (codes "require-instance") t)
 -- the same of the numbered statement
 abbrev pub required_at : Files → ℕ → Option Bool
 required_at files k = option_and_then required_in (slice_get (statements_of files) k)
-
--- the argument of a statement of a file
-abbrev pub written_in : ℕ → Tree → TextInFile
-written_in file t = record { text = name_of t.head; file = file }
 
 -- the text of the first `path` in the block of a statement
 abbrev pub path_in : ℕ → Tree → Option TextInFile

@@ -1,3 +1,4 @@
+//! The leafrefs that types say, with their paths (RFC 7950, section 9.9).
 /// What a type says as a leafref (RFC 7950, sections 9.9.2 and 9.9.3).
 #[derive(Clone, Copy)]
 pub struct TypeLeafref {

@@ -60,7 +60,8 @@ fn built_in(
     entry: &Entry<'_, '_>,
 ) -> Result<Option<SharedTypes>, AllocError>
     ensures space { AreIdentities linked.now identities.old
-        → IfOk result (λ s. (files : Files) (choice : ModuleChoice) → AreLinked files choice linked.now
+        → IfOk result (λ s. (files : Files) (choice : ModuleChoice)
+        → AreLinked files choice linked.now
         → slice_get (rows_of files) number ≡ Some (row entry.now) → members.now
         ≡ types_in (rows_of files) number
         → IsBare files (truth_in linked.now) number → FollowsNone files number

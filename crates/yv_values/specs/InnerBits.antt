@@ -1,4 +1,4 @@
--- For private clauses only: the set of bits of a text whose words are given.
+-- Only private clauses cite this: the set of bits of a text whose words are given.
 use Rattle.std.specs.Prelude.{ℕ, List, ◌&&◌, Option, Some, None, if◌then◌else◌}
 use Rattle.std.specs.List.{list_all}
 use Rattle.yv_values.specs.Texts.{is_trimmed, is_named, are_distinct, choose}

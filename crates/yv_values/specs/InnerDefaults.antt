@@ -1,4 +1,4 @@
--- For private clauses only: an index that tells values.
+-- Only private clauses cite this: an index that tells values.
 use Rattle.std.specs.Prelude.{◌≡◌, ℕ, ◌≤◌, ◌↔◌, List, length, Option, Some, None}
 use Rattle.yv_values.specs.Pairs.{Pair, Keeps, IsAlone}
 use Rattle.yv_values.specs.Values.{Val}

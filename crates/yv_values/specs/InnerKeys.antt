@@ -1,4 +1,4 @@
--- For private clauses only: the values of a key, and the order of keys.
+-- Only private clauses cite this: the values of a key, and the order of keys.
 use Rattle.std.specs.Prelude.{ℕ, List, [], ◌∷◌, map}
 use Rattle.std.specs.Cmp.{IsTotalOrder, on_total, then_total, nat_cmp_total}
 use Rattle.std.specs.Cmp.Lexicographic.{slice_cmp, lists_total}

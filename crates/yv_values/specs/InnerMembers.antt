@@ -1,4 +1,4 @@
--- Inner definitions, which only private clauses cite: members with numbers.
+-- Only private clauses cite this: members with numbers.
 use Rattle.yv_values.specs.Identities.{Id, id_of}
 use Rattle.yv_values.specs.declared.members.Member.{Member}
 use Rattle.yv_values.specs.declared.numbered_members.NumberedMember.{NumberedMember}

@@ -1,4 +1,4 @@
--- For private clauses only: texts in the order of their bytes.
+-- Only private clauses cite this: texts in the order of their bytes.
 use Rattle.std.specs.Prelude.{◌≡◌, ℕ, List, [], ◌∷◌, Bool, false, ⊤}
 use Rattle.std.specs.Cmp.Lexicographic.{slice_cmp}
 use Rattle.std.specs.List.Sorted.{IsPermutation}

@@ -1,4 +1,4 @@
--- For private clauses only: tests as they are shared by types.
+-- Only private clauses cite this: tests as they are shared by types.
 use Rattle.std.specs.Prelude.{List, ◌++◌, map}
 use Rattle.std.specs.List.{flat_map}
 use Rattle.yv_values.specs.Patterns.{Test, test_of}

@@ -1,4 +1,4 @@
--- For private clauses only: an index as its keys, each with its places.
+-- Only private clauses cite this: an index as its keys, each with its places.
 use Rattle.std.specs.Prelude.{ℕ, ◌<◌, List, [], ◌∷◌, ◌++◌, length, map, ⊤}
 use Rattle.yv_values.specs.InnerKeys.{key_of}
 use Rattle.yv_values.specs.Pairs.{Pair, Keeps}

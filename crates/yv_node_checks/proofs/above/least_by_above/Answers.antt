@@ -9,7 +9,7 @@ use Rattle.yv_nodes.specs.declared.node.NodeId.{NodeId}
 use Rattle.yv_nodes.specs.Tree.{Forest, Label}
 use Rattle.yv_nodes.specs.Places.{Place, places}
 use Rattle.yv_nodes.specs.Rows.{Row}
-use Rattle.yv_node_checks.specs.InnerSpots.{AreRows}
+use Rattle.yv_nodes.specs.InnerSpots.{AreRows}
 use Rattle.yv_node_checks.proofs.Spots.{IsNumbered, is_numbered, length_rows}
 use Rattle.yv_node_checks.specs.declared.lineage.Ancestry.{Ancestry}
 use Rattle.yv_node_checks.specs.Above.{BadBelow, line}

@@ -2,7 +2,7 @@ use Rattle.std.proofs.Common.{◌≡◌, length}
 use Rattle.yv_statement.specs.Order.{Among, IsLeast}
 use Rattle.yv_nodes.specs.Tree.{Forest}
 use Rattle.yv_nodes.specs.Places.{places}
-use Rattle.yv_node_checks.specs.InnerSpots.{AreRows}
+use Rattle.yv_nodes.specs.InnerSpots.{AreRows}
 use Rattle.yv_node_checks.specs.Above.{BadBelow}
 use Rattle.yv_node_checks.proofs.Kept.{AreKept}
 use Rattle.yv_node_checks.proofs.above.least_by_above.Given as goal

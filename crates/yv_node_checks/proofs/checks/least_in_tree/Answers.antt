@@ -2,7 +2,7 @@ use Rattle.std.proofs.Common.{◌∙◌}
 use Rattle.yv_statement.proofs.Least.{least_lesser}
 use Rattle.yv_node_checks.specs.Above.{BadByAbove}
 use Rattle.yv_node_checks.specs.Mandatory.{BadByDefault}
-use Rattle.yv_node_checks.specs.InnerSpots.{AreRows}
+use Rattle.yv_nodes.specs.InnerSpots.{AreRows}
 use Rattle.yv_node_checks.proofs.checks.least_in_tree.Goals as goal
 
 pub returns : goal.returns

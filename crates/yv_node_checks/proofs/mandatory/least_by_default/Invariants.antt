@@ -3,7 +3,7 @@ use Rattle.yv_node_checks.specs.InnerNamesakes.{AreCases}
 use Rattle.yv_statement.specs.Order.{Among, IsLeast}
 use Rattle.yv_nodes.specs.Tree.{Forest}
 use Rattle.yv_nodes.specs.Places.{places}
-use Rattle.yv_node_checks.specs.InnerSpots.{AreRows}
+use Rattle.yv_nodes.specs.InnerSpots.{AreRows}
 use Rattle.yv_node_checks.specs.Mandatory.{BadOfDefault}
 use Rattle.yv_node_checks.proofs.mandatory.least_by_default.Given as goal
 

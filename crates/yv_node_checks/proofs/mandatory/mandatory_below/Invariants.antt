@@ -1,6 +1,6 @@
 use Rattle.std.proofs.Common.{◌≡◌, length}
 use Rattle.yv_nodes.specs.Tree.{Forest}
-use Rattle.yv_node_checks.specs.InnerSpots.{AreRows}
+use Rattle.yv_nodes.specs.InnerSpots.{AreRows}
 use Rattle.yv_node_checks.specs.InnerBelow.{AreBelow}
 use Rattle.yv_node_checks.proofs.mandatory.mandatory_below.Given as goal
 

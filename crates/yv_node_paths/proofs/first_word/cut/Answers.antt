@@ -1,6 +1,6 @@
 use Rattle.std.proofs.Common.{◌≡◌, Some, ap, ◌∙◌, position}
 use Rattle.std.proofs.lemmas.Str.{IsCharBoundary-before_ascii, IsCharBoundary-after_ascii}
-use Rattle.yv_text_grammar.specs.Bytes.{is_blank}
+use Rattle.yv_text_if_feature.specs.Bytes.{is_blank}
 use Rattle.yv_node_paths.proofs.Cuts.{place_in, place_small}
 use Rattle.yv_node_paths.proofs.first_word.cut.Goals as goal
 

@@ -1,7 +1,7 @@
 use Rattle.std.proofs.Common.{◌≡◌, ◌<◌, ◌*◌, ◌+◌, take, length, sym, ◌∙◌, arith}
 use Rattle.std.proofs.lemmas.Bool.{and_from}
 use Rattle.std.proofs.lemmas.List.Folds.{list_all_more}
-use Rattle.yv_text_grammar.specs.Bytes.{is_digit}
+use Rattle.yv_text_if_feature.specs.Bytes.{is_digit}
 use Rattle.yv_text_grammar.specs.Texts.{decimal_after}
 use Rattle.yv_text_grammar.proofs.Numbers.{value_more, value_front, too_high}
 use Rattle.yv_text_grammar.proofs.text.is_number.Goals as goal

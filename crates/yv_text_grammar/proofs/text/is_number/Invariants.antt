@@ -1,6 +1,6 @@
 use Rattle.std.proofs.Common.{◌≡◌, ◌≤◌, true, take}
 use Rattle.std.specs.List.{list_all}
-use Rattle.yv_text_grammar.specs.Bytes.{is_digit}
+use Rattle.yv_text_if_feature.specs.Bytes.{is_digit}
 use Rattle.yv_text_grammar.specs.Texts.{decimal_after}
 use Rattle.yv_text_grammar.proofs.text.is_number.Given as goal
 

@@ -1,6 +1,6 @@
 use Rattle.std.proofs.Common.{◌≡◌, ◌<◌, ◌≤◌, ◌-◌, true, length, take, drop, get_or, length-take, length-drop, sym, ◌∙◌, arith}
 use Rattle.std.proofs.lemmas.Bool.{eqb-false}
-use Rattle.yv_text_grammar.specs.Bytes.{is_blank}
+use Rattle.yv_text_if_feature.specs.Bytes.{is_blank}
 use Rattle.yv_text_grammar.proofs.WordCuts.{skip_rest}
 use Rattle.yv_text_grammar.proofs.words.skip_blanks.Goals as goal
 

@@ -1,4 +1,4 @@
--- Only private clauses and proofs cite this: places with the numbers of the nodes above and below.
+-- Only private clauses cite this: places with the numbers of the nodes above and below.
 use Rattle.std.specs.Prelude.{◌≡◌, ℕ, ◌+◌, ◌<◌, ◌⊎◌, List, [], ◌∷◌, ◌++◌, Some, slice_get, length}
 use Rattle.yv_nodes.specs.declared.node.NodeId.{NodeId}
 use Rattle.yv_nodes.specs.Tree.{Label, node, Forest, no_trees, tree, count}

@@ -1,4 +1,4 @@
--- The order of statements in a text.
+-- The offsets of statements, and their order in a text (RFC 7950, section 6.3).
 use Rattle.std.specs.Prelude.{ℕ, ◌+◌, ◌≤◌, ◌++◌, List, [], ◌∷◌}
 use Rattle.yv_statement.specs.Tree.{Forest, End, Then, Tree}
 
