@@ -46,7 +46,7 @@ impl Selection {
     {
         !self.names(module)
             || self.lists(&Feature {
-                module,
+                module_name: module,
                 name: feature,
             })
     }
@@ -62,7 +62,7 @@ impl Selection {
     fn lists(&self, feature: &Feature<'_>) -> bool
         ensures { result
             ≡ list_any
-            (λ e. is_listed feature.now.module.now feature.now.name.now (entry_of e))
+            (λ e. is_listed feature.now.module_name.now feature.now.name.now (entry_of e))
             self.now.support.items }
     {
         self.support.iter().any(|entry| feature.is_listed(entry))
@@ -72,7 +72,7 @@ impl Selection {
 // A feature, by its module's name and its own.
 #[derive(Clone, Copy)]
 struct Feature<'a> {
-    module: &'a str,
+    module_name: &'a str,
     name: &'a str,
 }
 
@@ -81,9 +81,9 @@ impl Feature<'_> {
     #[tactic(auto, using(crate::proofs::Mapped::any_mapped), unfolding(crate::specs::Selection::is_listed))]
     fn is_listed(&self, entry: &(String, Vec<String>)) -> bool
         ensures { result
-            ≡ is_listed self.now.module.now self.now.name.now (entry_of entry.now) }
+            ≡ is_listed self.now.module_name.now self.now.name.now (entry_of entry.now) }
     {
-        is_of(entry, self.module) && is_among(&entry.1, self.name)
+        is_of(entry, self.module_name) && is_among(&entry.1, self.name)
     }
 }
 
