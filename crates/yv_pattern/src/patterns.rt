@@ -1,7 +1,7 @@
 //! The patterns of one compilation: equal ones are built once, and all of them have one allowance
 //! of room.
-ghost use Rattle.std.specs.Prelude.{◌≡◌, ◌≢◌, ◌≤◌, IfOk, IfErr, IfSome, OnErr, string_bytes};
-ghost use Rattle.yv_pattern.specs.Spells.{Translates, IsRefusedAs};
+ghost use Rattle.std.specs.{Prelude.{◌≡◌, ◌≢◌, ℕ, [], IfOk, IfErr, MatchOption, OnErr, string_bytes}, List.{Contains}};
+ghost use Rattle.yv_pattern.specs.{Spells.{Translates, IsRefusedAs}, Store.{IsKept, charge, tried_limits}};
 
 use crate::pattern::{Pattern, bad_pattern, characters_of, source_of};
 use crate::size_estimate::expected_tables;
@@ -35,17 +35,24 @@ pub struct Patterns {
 }
 
 impl Model for Patterns {
-    ghost use Rattle.std.specs.Prelude.{map, string_bytes};
+    ghost use Rattle.std.specs.{Prelude.{◌≡◌, map, string_bytes}, List.{AllByRecursion}};
     ghost use Rattle.yv_pattern.specs.Store.{StoreView};
 
     ghost Value = { StoreView };
 
     ghost view = { λ p. record { sources = map (λ e. string_bytes e.0) p.built.entries; room = p.room } };
+
+    ghost invariant = { λ p. AllByRecursion (λ e. e.1.value ≡ string_bytes e.0) p.built.entries };
 }
 
 impl Patterns {
     /// None yet.
-    pub fn new(alloc: Global) -> Patterns {
+    pub fn new(alloc: Global) -> Patterns
+        // No pattern is built.
+        ensures sources { result.sources ≡ [] }
+        // There are 256 MiB for the tables of those that will be.
+        ensures room { result.room ≡ 268435456 }
+    {
         Patterns {
             built: BTreeMap::new(alloc),
             room: ROOM,
@@ -54,15 +61,18 @@ impl Patterns {
 
     /// Reads the argument of a `pattern` statement; where one with the same translation was read
     /// before, it is that. A text outside the dialect is `BadPattern`, with file and offset 0 and
-    /// line 1, since the text's place isn't known here.
-    /// `PatternBuild` says that `regex` doesn't build the translation of a text of the dialect in the room that is left,
-    /// which is 256 MiB for all patterns together, each taking 8 KiB at least. What was read before
-    /// can be read again. After an error all is as before.
+    /// line 1, since the text's place isn't known here. `PatternBuild` says that `regex` doesn't
+    /// build the translation of a text of the dialect in the room that is left, which is 256 MiB for
+    /// all patterns together, each taking 8 KiB at least. What was read before can be read again.
+    /// After an error all is as before.
     pub fn read(&mut self, alloc: Global, text: &str) -> Result<Rc<Pattern>, Stop>
         // The pattern holds the translation of the text.
         ensures reads { IfOk result (λ p. Translates text.now p.value) }
         // A refusal is `BadPattern`, for a text outside the dialect.
         ensures refuses { IfErr result (IsRefusedAs text.now) }
+        // A pattern that was read before changes nothing; another one is added, and takes the room
+        // of one of the limits that are tried.
+        ensures store { IfOk result (λ p. IsKept self.old p.value self.new) }
         // After an error all is as before.
         ensures same { OnErr result (self.new ≡ self.old) }
     {
@@ -76,6 +86,7 @@ impl Patterns {
     // is as before where memory runs out.
     fn of_source(&mut self, alloc: Global, text: &str, source: String) -> Result<Rc<Pattern>, Stop>
         ensures source { IfOk result (λ p. p.value ≡ string_bytes source) }
+        ensures store { IfOk result (λ p. IsKept self.old p.value self.new) }
         ensures kind { IfErr result (λ stop. (refusal : Refusal) → stop ≢ Stop.Fault refusal) }
         ensures same { OnErr result (self.new ≡ self.old) }
     {
@@ -92,19 +103,14 @@ impl Patterns {
         Ok(pattern)
     }
 
-    // The pattern that was built of a source. That it is the one of this source is looked at, and
-    // not kept as a fact.
+    // The pattern that was built of a source, where one was.
     fn find(&self, source: &str) -> Result<Option<Rc<Pattern>>, AllocError>
-        ensures { IfOk result (λ found. IfSome found (λ p. p.value ≡ source.now)) }
+        ensures { IfOk result
+            (λ found. MatchOption found (Contains self.now.sources source.now → ⊥)
+            (λ p. (p.value ≡ source.now) × Contains self.now.sources source.now)) }
     {
         match self.built.get(source) {
-            Some(pattern) => {
-                if pattern.source() == source {
-                    Ok(Some(pattern.clone()?))
-                } else {
-                    Ok(None)
-                }
-            }
+            Some(pattern) => Ok(Some(pattern.clone()?)),
             None => Ok(None),
         }
     }
@@ -120,7 +126,8 @@ fn build_within(
     room: usize,
 ) -> Result<(Pattern, usize), Stop>
     ensures source { IfOk result (λ p. p.0 ≡ source.now) }
-    ensures room { IfOk result (λ p. p.1 ≤ room) }
+    ensures charge { IfOk result
+        (λ p. (limit : ℕ) × Contains limits.now limit × (p.1 ≡ charge room limit)) }
     ensures kind { IfErr result (λ stop. (refusal : Refusal) → stop ≢ Stop.Fault refusal) }
 {
     for limit in limits {
@@ -139,7 +146,10 @@ fn build_within(
 
 // The limits that are worth trying for a text and its source, since each try reads it anew: tables
 // aren't much smaller than what they are of.
-fn limits_of(alloc: Global, text: &str, source: &str) -> Result<&'static [usize], AllocError> {
+fn limits_of(alloc: Global, text: &str, source: &str) -> Result<&'static [usize], AllocError>
+    ensures { IfOk result
+        (λ limits. (limit : ℕ) → Contains limits.now limit → Contains tried_limits limit) }
+{
     let characters = characters_of(alloc, text)?;
     let least = expected_tables(alloc, characters.as_slice())?.max(source.len());
     let skipped = LIMITS
