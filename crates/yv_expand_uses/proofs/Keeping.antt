@@ -1,14 +1,19 @@
 -- The aims that are noted at places, when others are.
-use Rattle.std.proofs.Common.{◌≡◌, ℕ, ◌+◌, ◌<◌, List, [], ◌∷◌, ◌++◌, length, length-append, map, Option, Some, None, sym, ◌∙◌, ap, arith}
+use Rattle.std.proofs.Common.{◌≡◌, ℕ, ◌+◌, ◌<◌, List, [], ◌∷◌, ◌++◌, length, length-append, map, Option, Some, None, Result, Ok, Err, refl, sym, ◌∙◌, ap, subst, arith}
 use Rattle.std.specs.List.{slice_get}
+use Rattle.std.specs.Map.{lookup}
+use Rattle.std.specs.Prelude.{IsOk, OnErr, OnOk}
+use Rattle.std.specs.Ordering.{is_eq}
 use Rattle.std.specs.declared.alloc.Global.{Global}
 use Rattle.std.specs.declared.vec.Vec.{Vec}
 use Rattle.std.proofs.lemmas.Option.{slice_get_within}
 use Rattle.yv_expand_refines.proofs.Meaning.{aims_at_left}
-use Rattle.yv_expand_refines.specs.Targets.{targets_at}
+use Rattle.yv_expand_refines.specs.Targets.{all_meant, meant_from, targets_at}
 use Rattle.yv_expand_refines.specs.declared.targets.RefineTarget.{RefineTarget}
-use Rattle.yv_expand_uses.specs.InnerRefineTargets.{HasNumber, IsPlaced}
+use Rattle.yv_expand_refines.specs.declared.targets.Refinements.{Refinements}
+use Rattle.yv_expand_uses.specs.InnerRefineTargets.{AreRefineTargets, HasNumber, IsAsBefore, IsPlaced, key_cmp, number_in}
 use Rattle.yv_expand_uses.specs.InnerLeadingPaths.{place_aim}
+use Rattle.yv_expand_uses.specs.RefineTargets.{SameRefinements}
 use Rattle.yv_expand_uses.specs.Spots.{Whole}
 use Rattle.yv_expand_uses.specs.declared.refine_targets.UsesTargets.{UsesTargets}
 use Rattle.yv_expand_uses.specs.declared.refine_targets.RefineTargets.{RefineTargets}
@@ -60,3 +65,41 @@ module _ (old new : RefineTargets) (a : UsesTargets) (more : new.aimed.items ≡
             ∙ it.stand aimed (sym (ap (λ l. slice_get l number) more ∙ get_before old.aimed.items a number inside) ∙ is);
       })
       (λ last none. absurd (let bad : Some k ≡ None = none in cc))
+
+-- all that is noted is as before
+module _ (old new : RefineTargets) (same : IsAsBefore old new) where
+  aimed_before : (number : ℕ) (aimed : UsesTargets) → slice_get new.aimed.items number ≡ Some aimed → slice_get old.aimed.items number ≡ Some aimed
+  aimed_before number aimed at = ap (λ l. slice_get l number) (sym same.aimed) ∙ at
+
+  placed_still : (number place : ℕ) (paths : List ℕ) → IsPlaced old number paths place → IsPlaced new number paths place
+  placed_still number place paths it = record {
+    within = (let less = it.within in let size = ap length same.refinements.aims in omega (arith, less, size));
+    stand = λ aimed at. ap (λ l. targets_at l place) same.refinements.aims ∙ it.stand aimed (aimed_before number aimed at);
+  }
+
+  pub targets_stay : (w : Whole) → AreRefineTargets w old → AreRefineTargets w new
+  targets_stay w are = record {
+    known = λ statement module_file number at.
+        let was : number_in old statement module_file ≡ Some number = ap (λ es. lookup (λ k. is_eq (key_cmp (statement, module_file) k)) es) (sym same.known) ∙ at in
+        let it = are.known statement module_file number was in
+        record { aimed = it.aimed; at = ap (λ l. slice_get l number) same.aimed ∙ it.at; is = it.is };
+    each = ap length same.kept ∙ are.each ∙ sym (ap length same.aimed);
+    kept = λ number k at. placed_still number k.place k.paths.items (are.kept number k (ap (λ l. slice_get l number) (sym same.kept) ∙ at));
+    uses = λ k u at. (let less = are.uses k u (ap (λ l. slice_get l k) (sym same.refinements.uses) ∙ at) in let size = ap length same.refinements.aims in omega (arith, less, size));
+  }
+
+-- what is as before is so after more that leaves it
+pub same_still : (old mid new : Refinements) → SameRefinements old mid → SameRefinements mid new → SameRefinements old new
+same_still old mid new f g = record { aims = g.aims ∙ f.aims; uses = g.uses ∙ f.uses }
+
+pub same_meant : (old new : Refinements) → SameRefinements old new → all_meant new ≡ all_meant old
+same_meant old new f = ap (λ l. meant_from l new.uses.items) f.aims ∙ ap (meant_from old.aims.items) f.uses
+
+-- what doesn't fail
+pub where_fine : {A E : Type 0} {P : Type 0} (r : Result A E) → IsOk r → OnOk r P → P
+where_fine (Ok a) is h = h
+where_fine (Err e) is h = absurd (cc)
+
+pub none_failed : {A E : Type 0} (P : Type 0) (r : Result A E) → IsOk r → OnErr r P
+none_failed P (Ok a) is = tt
+none_failed P (Err e) is = absurd (cc)

@@ -1,16 +1,16 @@
 -- Inner definitions: what the refines of `uses` statements aim at, made once for all copies in one
 -- module that are alike. Public clauses cite `AreRefineTargets` alone.
-use Rattle.std.specs.Prelude.{◌≡◌, ℕ, ◌<◌, List, length, map, Option, Some, slice_get}
+use Rattle.std.specs.Prelude.{◌≡◌, ℕ, ◌<◌, List, length, map, Option, Some, slice_get, vec_capacity}
 use Rattle.std.specs.Ordering.{nat_cmp, ordering_then}
 use Rattle.std.specs.declared.cmp.Ordering.{Ordering}
-use Rattle.std.specs.BTreeMap.{get}
+use Rattle.std.specs.BTreeMap.{IsUnchanged, get}
 use Rattle.yv_base_tables.specs.InnerTree.{IsPathTree}
 use Rattle.yv_expand_refines.specs.Targets.{targets_at}
 use Rattle.yv_expand_refines.specs.declared.targets.RefineTarget.{RefineTarget}
 use Rattle.yv_expand_refines.specs.declared.targets.RefinedUses.{RefinedUses}
 use Rattle.yv_expand_uses.specs.Paths.{path_in}
 use Rattle.yv_expand_uses.specs.InnerLeadingPaths.{place_aim}
-use Rattle.yv_expand_uses.specs.RefineTargets.{refines_in}
+use Rattle.yv_expand_uses.specs.RefineTargets.{SameRefinements, refines_in}
 use Rattle.yv_expand_uses.specs.Spots.{Whole}
 use Rattle.yv_expand_uses.specs.declared.refine_targets.UsesTargets.{UsesTargets}
 use Rattle.yv_expand_uses.specs.declared.refine_targets.RefineTargets.{RefineTargets}
@@ -69,3 +69,14 @@ pub record AreRefineTargets (w : Whole) (aims : RefineTargets) : Type 0 where
   pub kept : (number : ℕ) (k : KeptTargets) → slice_get aims.kept.items number ≡ Some (Some k)
       → IsPlaced aims number k.paths.items k.place
   pub uses : StandWithin (length aims.refinements.aims.items) aims.refinements.uses.items
+
+-- all that is noted is as before; there may be room for more
+pub record IsAsBefore (old new : RefineTargets) : Type 0 where
+  pub known : IsUnchanged old.known new.known
+  pub aimed : new.aimed.items ≡ old.aimed.items
+  pub kept : new.kept.items ≡ old.kept.items
+  pub refinements : SameRefinements old.refinements new.refinements
+
+-- there is room for one more copy
+abbrev pub HasRoom : RefineTargets → Type 0
+HasRoom aims = length aims.refinements.uses.items < vec_capacity aims.refinements.uses

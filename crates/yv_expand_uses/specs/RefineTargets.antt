@@ -1,5 +1,5 @@
 -- What refines mean (RFC 7950, sections 6.5 and 7.13.2).
-use Rattle.std.specs.Prelude.{ℕ, List, [], map, if◌then◌else◌, Option, Some, None}
+use Rattle.std.specs.Prelude.{◌≡◌, ℕ, List, [], map, if◌then◌else◌, Option, Some, None}
 use Rattle.std.specs.Option.{option_and_then}
 use Rattle.yv_link_scopes.specs.Rows.{Row}
 use Rattle.yv_base_tables.specs.Families.{numbers_at}
@@ -9,6 +9,7 @@ use Rattle.yv_expand_rounds.specs.declared.label.Label.{Label}
 use Rattle.yv_expand_rounds.specs.Paths.{path_end}
 use Rattle.yv_expand_rounds.specs.Turns.{State}
 use Rattle.yv_expand_refines.specs.Targets.{RefineMeaning}
+use Rattle.yv_expand_refines.specs.declared.targets.Refinements.{Refinements}
 use Rattle.yv_expand_uses.specs.Paths.{path_in}
 use Rattle.yv_expand_rounds.specs.Kinds.{is_uses}
 use Rattle.yv_expand_uses.specs.Spots.{Whole}
@@ -42,3 +43,8 @@ refined_at w labels s number end st =
     then map (λ k. record { item = number; refine = k; target = node_meant w labels s end k st })
     (refines_in w.rows s.statement)
     else []
+
+-- the same aims at the same places, and the same copies
+pub record SameRefinements (old new : Refinements) : Type 0 where
+  pub aims : new.aims.items ≡ old.aims.items
+  pub uses : new.uses.items ≡ old.uses.items

@@ -1,11 +1,11 @@
 //! What the refines of `uses` statements aim at, made once for all copies of a `uses` in one
 //! module, and what they mean.
-ghost use Rattle.std.specs.Prelude.{◌≡◌, ◌<◌, ◌==◌, ◌&&◌, not, ◌++◌, ℕ, [], List, Some, length, map, slice_get, IfOk, IfSome, OnOk};
+ghost use Rattle.std.specs.Prelude.{◌≡◌, ◌<◌, ◌==◌, ◌&&◌, not, ◌++◌, ℕ, [], List, Some, length, map, slice_get, IfOk, IfSome, IsOk, OnErr, OnOk};
 ghost use Rattle.yv_link_scopes.specs.Views.{rows_in};
 ghost use Rattle.yv_expand_rounds.specs.{declared.label.Label.{Label}, Turns.{State}, InnerState.{IsAugmentation}, Kinds.{is_uses}};
 ghost use Rattle.yv_base_tables.specs.InnerTree.{IsPathTree};
 ghost use Rattle.yv_expand_refines.specs.Targets.{targets_at, all_meant, meaning_of};
-ghost use Rattle.yv_expand_uses.specs.{InnerLeadingPaths.{IsLed, place_aim}, InnerPaths.{target_of_path}, RefineTargets.{refined_at, refines_in}, Spots.{Whole}};
+ghost use Rattle.yv_expand_uses.specs.{InnerLeadingPaths.{IsLed, place_aim}, InnerPaths.{target_of_path}, RefineTargets.{SameRefinements, refined_at, refines_in}, Spots.{Whole}};
 
 use crate::kinds::is_uses;
 use crate::leading_paths::{LeadingPaths, place_aims};
@@ -47,7 +47,7 @@ pub struct RefineTargets {
 }
 
 impl RefineTargets {
-    ghost use Rattle.yv_expand_uses.specs.InnerRefineTargets.{AreRefineTargets, HasNumber, IsUsesTargets, IsPlaced, number_in};
+    ghost use Rattle.yv_expand_uses.specs.InnerRefineTargets.{AreRefineTargets, HasNumber, HasRoom, IsAsBefore, IsUsesTargets, IsPlaced, number_in};
 
     /// No item was looked at.
     pub fn new(alloc: Global) -> RefineTargets
@@ -65,6 +65,14 @@ impl RefineTargets {
                 uses: Vec::new(alloc),
             },
         }
+    }
+
+    // Makes room for one more copy, so that noting it doesn't fail.
+    fn make_room(&mut self) -> Result<(), AllocError>
+        ensures same { IsAsBefore self.old self.new }
+        ensures room { OnOk result (HasRoom self.new) }
+    {
+        self.refinements.uses.reserve(1)
     }
 
     // The number of what the refines of a `uses` aim at in the module of this file, if that was
@@ -89,11 +97,15 @@ impl RefineTargets {
             → IsUsesTargets w statement module_file aimed
             → IfOk result (HasNumber w self.new statement module_file) }
         ensures means { self.new.refinements ≡ self.old.refinements }
+        ensures err { OnErr result (IsAsBefore self.old self.new) }
     {
+        // With this room nothing fails once the number is known.
+        self.aimed.reserve(1)?;
+        self.kept.reserve(1)?;
         let number = self.aimed.len();
+        self.known.insert((statement, module_file), number)?;
         self.aimed.push(aimed)?;
         self.kept.push(None)?;
-        self.known.insert((statement, module_file), number)?;
         Ok(number)
     }
 
@@ -151,6 +163,8 @@ impl RefineTargets {
         ensures aims_at { self.new.aimed ≡ self.old.aimed }
         ensures means { (w : Whole) → AreRefineTargets w self.old
             → OnOk result (all_meant self.new.refinements ≡ all_meant self.old.refinements) }
+        ensures uses { self.new.refinements.uses ≡ self.old.refinements.uses }
+        ensures err { OnErr result (IsAsBefore self.old self.new) }
     {
         let place = self.refinements.aims.len();
         self.refinements.aims.push(aims)?;
@@ -174,6 +188,8 @@ impl RefineTargets {
         ensures aims_at { self.new.aimed ≡ self.old.aimed }
         ensures means { (w : Whole) → AreRefineTargets w self.old
             → OnOk result (all_meant self.new.refinements ≡ all_meant self.old.refinements) }
+        ensures uses { self.new.refinements.uses ≡ self.old.refinements.uses }
+        ensures err { OnErr result (IsAsBefore self.old self.new) }
     {
         match self.last_place(number, &paths) {
             Some(place) => Ok(place),
@@ -198,6 +214,7 @@ impl RefineTargets {
             ≡ all_meant self.old.refinements
             ++ map (meaning_of item targets.items)
             (targets_at self.old.refinements.aims.items place)) }
+        ensures succeeds { HasRoom self.old → IsOk result }
     {
         self.refinements.uses.push(RefinedUses {
             item,
@@ -209,7 +226,7 @@ impl RefineTargets {
 }
 
 impl Plan<'_, '_, '_> {
-    ghost use Rattle.yv_expand_uses.specs.{InnerRefineTargets.{AreRefineTargets, HasNumber, IsUsesTargets}, InnerPlan.{IsPlan, whole_in}};
+    ghost use Rattle.yv_expand_uses.specs.{InnerRefineTargets.{AreRefineTargets, HasNumber, IsAsBefore, IsUsesTargets}, InnerPlan.{IsPlan, whole_in}};
 
     // Whether an item is a `uses` that refines.
     fn has_refines(&self, spot: &Spot) -> bool
@@ -258,8 +275,8 @@ impl Plan<'_, '_, '_> {
         ensures aims { OnOk result (AreRefineTargets (whole_in self.now) aims.new) }
         ensures number { IfOk result
             (HasNumber (whole_in self.now) aims.new statement module_file) }
-        ensures means { OnOk result
-            (all_meant aims.new.refinements ≡ all_meant aims.old.refinements) }
+        ensures means { aims.new.refinements ≡ aims.old.refinements }
+        ensures err { OnErr result (IsAsBefore aims.old aims.new) }
     {
         match aims.find(statement, module_file) {
             Some(number) => Ok(number),
@@ -271,7 +288,8 @@ impl Plan<'_, '_, '_> {
     }
 
     /// Notes what the refines of an item mean, if it is a `uses` that has some, where the items
-    /// before `end` may be what it gives. Err only if memory runs out.
+    /// before `end` may be what it gives. Err only if memory runs out: at most what the refines of
+    /// the `uses` aim at is known then, so that it isn't read once more.
     pub fn refine_all(
         &self,
         alloc: Global,
@@ -286,17 +304,20 @@ impl Plan<'_, '_, '_> {
         // What was noted is of this plan.
         requires aims { AreRefineTargets (whole_in self.now) aims.old }
         // So is what is noted then, also after an error.
-        ensures aims { OnOk result (AreRefineTargets (whole_in self.now) aims.new) }
+        ensures aims { AreRefineTargets (whole_in self.now) aims.new }
         // What the refines of an item mean is added to what is noted: the node that each means
         // among what the `uses` gives, if the item is a `uses`.
         ensures means { (labels : List Label) (st : State) → IsAugmentation labels st grafting.now
             → OnOk result (all_meant aims.new.refinements
             ≡ all_meant aims.old.refinements
             ++ refined_at (whole_in self.now) labels spot.now item end st) }
+        // After an error the refinements are as before.
+        ensures keeps { OnErr result (SameRefinements aims.old.refinements aims.new.refinements) }
     {
         if !self.has_refines(spot) {
             return Ok(());
         }
+        aims.make_room()?;
         let number = self.number_of_targets(alloc, aims, spot.statement, spot.module_file)?;
         let led = aims.paths_that_lead(alloc, grafting, spot.group, end, number)?;
         let LeadingPaths { paths, targets } = led;

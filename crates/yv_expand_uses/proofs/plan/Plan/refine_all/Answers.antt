@@ -1,11 +1,13 @@
-use Rattle.std.proofs.Common.{◌≡◌, ◌∙◌, ◌++◌, ℕ, List, Option, Some, map, sym, ap, subst, arith}
-use Rattle.std.specs.Prelude.{OnOk}
+use Rattle.std.proofs.Common.{◌≡◌, ◌<◌, ◌∙◌, ◌++◌, ℕ, length, List, Option, Some, map, sym, ap, subst, arith}
+use Rattle.std.specs.Prelude.{IsOk, OnOk, vec_capacity}
 use Rattle.std.specs.List.{slice_get}
 use Rattle.std.proofs.lemmas.Option.{slice_get_within}
 use Rattle.std.specs.declared.vec.Vec.{Vec}
 use Rattle.std.specs.declared.alloc.Global.{Global}
 use Rattle.yv_expand_refines.specs.Targets.{RefineMeaning, targets_at, all_meant, meaning_of}
 use Rattle.yv_expand_refines.specs.declared.targets.RefineTarget.{RefineTarget}
+use Rattle.yv_expand_refines.specs.declared.targets.RefinedUses.{RefinedUses}
+use Rattle.yv_expand_refines.specs.declared.targets.Refinements.{Refinements}
 use Rattle.yv_expand_uses.specs.Paths.{path_in}
 use Rattle.yv_expand_uses.specs.InnerRefineTargets.{HasNumber}
 use Rattle.yv_expand_uses.specs.InnerPaths.{target_of_path}
@@ -17,7 +19,19 @@ use Rattle.yv_expand_uses.specs.declared.refine_targets.UsesTargets.{UsesTargets
 use Rattle.yv_expand_uses.specs.declared.refine_targets.RefineTargets.{RefineTargets}
 use Rattle.yv_expand_uses.specs.declared.leading_paths.LeadingPaths.{LeadingPaths}
 use Rattle.yv_expand_uses.proofs.Aiming.{all_refined, meant_told}
+use Rattle.yv_expand_uses.proofs.Keeping.{none_failed, same_meant, targets_stay, where_fine}
 use Rattle.yv_expand_uses.proofs.plan.Plan.refine_all.Goals as goal
+
+pub returns-in_err-make_room-clause-aims : goal.returns-in_err-make_room-clause-aims
+returns-in_err-make_room-clause-aims c = targets_stay c.args.aims.now c.make_room.new.self c.make_room.ensures.same (whole_in c.args.self.now) c.requires.aims
+
+pub number_of_targets-requires-clause-aims : goal.number_of_targets-requires-clause-aims
+number_of_targets-requires-clause-aims c = targets_stay c.args.aims.now c.make_room.new.self c.make_room.ensures.same (whole_in c.args.self.now) c.requires.aims
+
+pub returns-in_err-number-clause-aims : goal.returns-in_err-number-clause-aims
+returns-in_err-number-clause-aims c =
+    targets_stay c.make_room.new.self c.number_of_targets.new.aims c.in_err-number.ensures.err (whole_in c.args.self.now)
+    (targets_stay c.args.aims.now c.make_room.new.self c.make_room.ensures.same (whole_in c.args.self.now) c.requires.aims)
 
 pub paths_that_lead-requires : goal.paths_that_lead-requires
 paths_that_lead-requires c = (let number = c.in_ok-number.ensures.number in slice_get_within c.number_of_targets.new.aims.aimed.items c.in_ok-number.number number.aimed number.at)
@@ -32,11 +46,27 @@ place-requires-clause-keeps c =
     let each = c.in_ok-number.ensures.aims.each in
     omega (arith, less, each)
 
+pub returns-in_err-place-clause-aims : goal.returns-in_err-place-clause-aims
+returns-in_err-place-clause-aims c = targets_stay c.number_of_targets.new.aims c.place.new.self c.in_err-place.ensures.err (whole_in c.args.self.now) c.in_ok-number.ensures.aims
+
 pub note-requires : goal.note-requires
 note-requires c = (c.in_ok-place.ensures.place (whole_in c.args.self.now) c.in_ok-number.ensures.aims).within
 
+-- there is still room for a copy once its aims stand
+module _ (c : goal.After-note) where
+  room : IsOk c.note.result
+  room =
+      let left : c.place.new.self.refinements.uses ≡ c.make_room.new.self.refinements.uses =
+      c.in_ok-place.ensures.uses ∙ ap (λ (r : Refinements). r.uses) c.in_ok-number.ensures.means in
+      c.note.ensures.succeeds (subst (λ (us : Vec RefinedUses Global). length us.items < vec_capacity us) (sym left) c.in_ok-make_room.ensures.room)
+
 pub returns-clause-aims : goal.returns-clause-aims
-returns-clause-aims c = c.note.ensures.aims (whole_in c.args.self.now) (c.in_ok-place.ensures.aims (whole_in c.args.self.now) c.in_ok-number.ensures.aims)
+unfolding room
+returns-clause-aims c = where_fine c.note.result (room c) (c.note.ensures.aims (whole_in c.args.self.now) (c.in_ok-place.ensures.aims (whole_in c.args.self.now) c.in_ok-number.ensures.aims))
+
+pub returns-clause-keeps : goal.returns-clause-keeps
+unfolding room
+returns-clause-keeps c = none_failed _ c.note.result (room c)
 
 pub returns-clause-means : goal.returns-clause-means
 returns-clause-means c = λ labels st is. (
@@ -64,6 +94,7 @@ returns-clause-means c = λ labels st is. (
     sym (all_refined (is_uses spot.label.kind) f refines (sym c.has_refines.ensures ∙ c.if-not-has_refines.false)) in
     subst (λ (l : List RefineMeaning). OnOk c.note.result (all_meant c.note.new.self.refinements ≡ l))
     (ap (λ (l : List RefineMeaning). l ++ map (meaning_of item led.targets.items) aims)
-    (c.in_ok-place.ensures.means w c.in_ok-number.ensures.aims ∙ c.in_ok-number.ensures.means)
+    (c.in_ok-place.ensures.means w c.in_ok-number.ensures.aims ∙ ap (λ (r : Refinements). all_meant r) c.in_ok-number.ensures.means
+    ∙ same_meant c.args.aims.now.refinements c.make_room.new.self.refinements c.make_room.ensures.same.refinements)
     ∙ ap (λ (l : List RefineMeaning). old ++ l) (told ∙ whole))
     c.note.ensures.means)
