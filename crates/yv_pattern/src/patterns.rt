@@ -62,9 +62,9 @@ impl Patterns {
     /// Reads the argument of a `pattern` statement; where one with the same translation was read
     /// before, it is that. A text outside the dialect is `BadPattern`, with file and offset 0 and
     /// line 1, since the text's place isn't known here. `PatternBuild` says that `regex` doesn't
-    /// build the translation of a text of the dialect in the room that is left, which is 256 MiB for
-    /// all patterns together, each taking 8 KiB at least. What was read before can be read again.
-    /// After an error all is as before.
+    /// build the translation of a text of the dialect in the room that is left, which is 256 MiB
+    /// for all patterns together, each taking 8 KiB at least. What was read before can be read
+    /// again. After an error all is as before.
     pub fn read(&mut self, alloc: Global, text: &str) -> Result<Rc<Pattern>, Stop>
         // The pattern holds the translation of the text.
         ensures reads { IfOk result (λ p. Translates text.now p.value) }
