@@ -12,3 +12,4 @@ pub mod Rising
 pub mod Same
 pub mod SameValues
 pub mod Single
+pub mod Twins

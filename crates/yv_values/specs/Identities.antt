@@ -1,5 +1,5 @@
 -- Identities (RFC 7950, section 7.18).
-use Rattle.std.specs.Prelude.{ℕ, List, Bool, ◌&&◌, Option, Some, None, if◌then◌else◌, map, nat_le, nat_lt}
+use Rattle.std.specs.Prelude.{ℕ, List, Bool, ◌<◌, ◌&&◌, Option, Some, None, if◌then◌else◌, count_by, map, nat_le, nat_lt}
 use Rattle.std.specs.Cmp.Lexicographic.{slice_cmp}
 use Rattle.std.specs.List.{filter, list_any}
 use Rattle.std.specs.List.Sorted.{IsStrictlySortedBy}
@@ -50,6 +50,11 @@ numbered_of m = record { id = id_of m.member; number = m.number }
 -- identities without their numbers
 abbrev pub ids_of : List NumberedId → List Id
 ids_of all = map (λ (e : NumberedId). e.id) all
+
+-- one of these identities is there twice
+pub record HasTwins (all : List NumberedId) : Type 0 where
+  pub twin : Id
+  pub twice : 1 < count_by (λ (e : NumberedId). is_identity twin.module_name twin.name e.id) all
 
 -- a number is from the low one up to the high one, and not that
 abbrev pub is_between : ℕ → ℕ → ℕ → Bool

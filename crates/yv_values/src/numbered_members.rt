@@ -1,6 +1,6 @@
 //! Identities with numbers, in one order.
-ghost use Rattle.std.specs.{Prelude.{◌≡◌, ◌<◌, ◌-◌, ◌&&◌, Some, true, false, Bool, IfOk, IfSome, IsTrue, is_some, map, slice_get}, List.{Contains, list_any}, declared.cmp.Ordering.TheVariants.{Less, Greater}};
-ghost use Rattle.yv_values.specs.{Identities.{NumberedId, RiseById, between, id_cmp, id_of, ids_of, is_identity, numbered_of}, InnerMembers.{entry_id}};
+ghost use Rattle.std.specs.{Prelude.{◌≡◌, ◌<◌, ◌-◌, ◌&&◌, Some, true, false, Bool, IfNone, IfOk, IfSome, IsTrue, is_some, map, slice_get}, List.{Contains, list_any}, List.Sorted.{IsSortedByKey}, Ordering.{is_lt}, declared.cmp.Ordering.TheVariants.{Less, Greater}};
+ghost use Rattle.yv_values.specs.{Identities.{HasTwins, NumberedId, RiseById, between, id_cmp, id_of, ids_of, is_identity, numbered_of}, InnerMembers.{HasStop, entry_id}};
 
 use crate::members::{Member, Members};
 use crate::names::compare;
@@ -10,7 +10,7 @@ use std::marker::Model;
 use std::rc::{RcSlice, RcStr};
 
 /// An identity with a number. Types take the identities whose numbers follow one another.
-#[derive(Drop)]
+#[derive(PartialEq, Eq, PartialOrd, Ord, Drop)]
 pub struct NumberedMember {
     pub member: Member,
     pub number: usize,
@@ -44,16 +44,48 @@ impl NumberedMembers {
         // number exactly if it was one; nothing, if one is there twice.
         ensures same { IfOk result (λ found. IfSome found (λ all. (p : NumberedId → Bool)
             → list_any p all ≡ list_any p (map numbered_of members.items))) }
+        // It is nothing only if one is there twice.
+        ensures twins { IfOk result (λ found.
+            IfNone found (HasTwins (map numbered_of members.items))) }
     {
         let mut members = members;
         // Names of modules may be long. This puts the identities into their order without reading
-        // those that are shared, and then one comparison of each shows that they are in order.
+        // those that are shared, and then one comparison of each shows that they are in order. No
+        // contract says that texts are the same which are at one place; where the comparison
+        // doesn't show it, all are read.
         members.sort_by(|one, other| quick_order(&one.member, &other.member))?;
         if rise(&members) {
             Ok(Some(NumberedMembers::from_rising(members)?))
         } else {
-            Ok(None)
+            NumberedMembers::by_texts(members)
         }
+    }
+
+    // Puts identities into their order by all of their texts; nothing, if one of them is there
+    // twice.
+    fn by_texts(members: Vec<NumberedMember>) -> Result<Option<NumberedMembers>, AllocError>
+        ensures same { IfOk result (λ found. IfSome found (λ all. (p : NumberedId → Bool)
+            → list_any p all ≡ list_any p (map numbered_of members.items))) }
+        ensures twins { IfOk result (λ found.
+            IfNone found (HasTwins (map numbered_of members.items))) }
+    {
+        let mut members = members;
+        members.sort()?;
+        NumberedMembers::from_sorted(members)
+    }
+
+    // Takes identities in their order, if none of them is there twice.
+    fn from_sorted(members: Vec<NumberedMember>) -> Result<Option<NumberedMembers>, AllocError>
+        requires { IsSortedByKey entry_id id_cmp members.items }
+        ensures same { IfOk result (λ found. IfSome found (λ all.
+            all ≡ map numbered_of members.items)) }
+        ensures twins { IfOk result (λ found.
+            IfNone found (HasTwins (map numbered_of members.items))) }
+    {
+        if !rise(&members) {
+            return Ok(None);
+        }
+        Ok(Some(NumberedMembers::from_rising(members)?))
     }
 
     /// Takes identities in their order.
@@ -227,7 +259,8 @@ pub(crate) fn quick_order(one: &Member, other: &Member) -> Ordering {
 
 // Whether each identity comes before the next.
 fn rise(members: &[NumberedMember]) -> bool
-    ensures { IsTrue result → RiseById (map entry_id members.now) }
+    ensures rises { IsTrue result → RiseById (map entry_id members.now) }
+    ensures stops { result ≡ false → HasStop members.now }
 {
     for place in 1..members.len() {
         if !stands_first(&members[place - 1].member, &members[place].member) {
@@ -239,7 +272,8 @@ fn rise(members: &[NumberedMember]) -> bool
 
 // Whether an identity comes before another.
 fn stands_first(one: &Member, other: &Member) -> bool
-    ensures { IsTrue result → id_cmp (id_of one.now) (id_of other.now) ≡ Less }
+    ensures first { IsTrue result → id_cmp (id_of one.now) (id_of other.now) ≡ Less }
+    ensures not { result ≡ false → is_lt (id_cmp (id_of one.now) (id_of other.now)) ≡ false }
 {
     let module = other.module.as_str().as_bytes();
     let name = other.name.as_str().as_bytes();
