@@ -1,5 +1,5 @@
 //! A schema node, and its number.
-ghost use Rattle.std.specs.{Prelude.{◌≡◌, ◌≤◌, ◌||◌, [], length, Some, None, IfOk, not, map, string_bytes, unwrap_or, if◌then◌else◌}, Option.{option_map}, Rc.{rc_slice_items, rc_str_bytes}};
+ghost use Rattle.std.specs.{Prelude.{◌≡◌, ◌≤◌, ◌||◌, [], length, Some, None, IfOk, not, map, string_bytes, unwrap_or, if◌then◌else◌, IsTrue}, Option.{option_map}, Rc.{rc_slice_items, rc_str_bytes}};
 
 use std::alloc::{AllocError, Global};
 use std::marker::Model;
@@ -395,15 +395,20 @@ impl Node {
         self.definition.set_types(types);
     }
 
-    /// The same node, over the texts and lists of another of which the same is said.
-    pub(crate) fn share_with(self, other: &Node) -> Result<Node, AllocError>
-        ensures same { other.now.label.defined ≡ self.label.defined
-            → IfOk result (λ node. node ≡ self) }
-        ensures said { IfOk result (λ node. node.label.defined ≡ other.now.label.defined) }
-        ensures parent { IfOk result (λ node. node.parent ≡ self.parent) }
+    /// Takes over the texts and lists of another node, of which the same is said, and drops its
+    /// own. Answers false, and keeps its own, where as many nodes share those as can be counted.
+    pub(crate) fn share_with(&mut self, other: &Node) -> bool
+        ensures same { other.now.label.defined ≡ self.old.label.defined → self.new ≡ self.old }
+        ensures said { IsTrue result → self.new.label.defined ≡ other.now.label.defined }
+        ensures parent { self.new.parent ≡ self.old.parent }
     {
-        let definition = other.definition.share()?;
-        Ok(Node { definition, ..self })
+        match other.definition.share() {
+            Ok(definition) => {
+                self.definition = definition;
+                true
+            }
+            Err(_) => false,
+        }
     }
 
     /// The number of the node above it, or that of the root.

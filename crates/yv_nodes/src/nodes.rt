@@ -151,7 +151,8 @@ impl Nodes {
     }
 
     /// The same of a node of which the same is said as of an earlier one: the two share it, and
-    /// `first_alike` gives the same node for both.
+    /// `first_alike` gives the same node for both, unless as many nodes share it already as can be
+    /// counted.
     pub fn push_alike(&mut self, node: Node, earlier: NodeId) -> Result<(), AllocError>
         // There are fewer nodes than the limit.
         requires room { length self.old.rows < self.old.limit }
@@ -167,12 +168,18 @@ impl Nodes {
         ensures count { OnOk result (length self.new.rows ≡ length self.old.rows + 1) }
         // After an error the nodes are as before.
         ensures keeps { OnErr result (self.new.rows ≡ self.old.rows) }
+        // An error is answered only where more memory had to be allocated.
+        ensures full { OnErr result (self.old.capacity ≤ length self.old.rows) }
         // The limit is unchanged.
         ensures limit { self.new.limit ≡ self.old.limit }
     {
-        let first = self.firsts[earlier.0 as usize];
-        let node = node.share_with(&self.nodes[earlier.0 as usize])?;
-        self.add(node, first)
+        let mut copy = node;
+        if copy.share_with(&self.nodes[earlier.0 as usize]) {
+            let first = self.firsts[earlier.0 as usize];
+            self.add(copy, first)
+        } else {
+            self.push(copy)
+        }
     }
 
     // Adds a node, and the number of the first of which the same is said: its own, where it is the
