@@ -112,8 +112,8 @@ module _ (choice : ModuleChoice) (files : Files) where
           ap (is_implemented choice) (sym names) ∙ right_is (is_module t) (is_implemented choice (tree_name t)) is
 
       by_module_file : (u : Tree) → m ≢ k → (b : Bool) → is_module u ≡ b → m ≡ module_file_in briefs k (Some (brief_of u)) → is_implemented choice (module_name u) ≡ true
-      by_module_file u other true own e = absurd (other (e ∙ ap (λ (b : Bool). if b then k else unwrap_or (file_named briefs (brief_of u).module_file) k) own))
-      by_module_file u other false own e = by_name u other (file_named briefs (module_name u)) refl (e ∙ ap (λ (b : Bool). if b then k else unwrap_or (file_named briefs (brief_of u).module_file) k) own)
+      by_module_file u other true own e = absurd (other (e ∙ ap (λ (b : Bool). if b then k else unwrap_or (file_named briefs (brief_of u).module_name) k) own))
+      by_module_file u other false own e = by_name u other (file_named briefs (module_name u)) refl (e ∙ ap (λ (b : Bool). if b then k else unwrap_or (file_named briefs (brief_of u).module_name) k) own)
 
   -- each file of the order is marked
   order_is : (m : ℕ) (ts : Files) → ((j : ℕ) → slice_get ts j ≡ slice_get files (m + j)) → (k : ℕ) → Contains (order_from choice (part_places files) m ts) k → get_or (marks_of choice files) k false ≡ true

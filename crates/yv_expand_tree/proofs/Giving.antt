@@ -16,18 +16,18 @@ pub take_whole : {X : Type 0} (xs : List X) (i : ℕ) → length xs ≤ i → ta
 take_whole {X} xs i h = sym (append-nil (take i xs)) ∙ ap (λ (ys : List X). take i xs ++ ys) (sym (drop_all i xs h)) ∙ take-append-drop i xs
 
 module _ (choice : ModuleChoice) where
-  of_files : (files : List File) → map (λ (b : Brief). is_implemented choice b.module_file) (map brief files) ≡ map (λ (f : File). is_implemented choice f.module_file.now) files
+  of_files : (files : List File) → map (λ (b : Brief). is_implemented choice b.module_name) (map brief files) ≡ map (λ (f : File). is_implemented choice f.module_name.now) files
   of_files [] = refl
-  of_files (f ∷ files) = ap (λ (bs : List Bool). is_implemented choice f.module_file.now ∷ bs) (of_files files)
+  of_files (f ∷ files) = ap (λ (bs : List Bool). is_implemented choice f.module_name.now ∷ bs) (of_files files)
 
-  of_roots : (lent : Files) → map (λ (b : Brief). is_implemented choice b.module_file) (map brief_of lent) ≡ marks_of choice lent
+  of_roots : (lent : Files) → map (λ (b : Brief). is_implemented choice b.module_name) (map brief_of lent) ≡ marks_of choice lent
   of_roots [] = refl
-  of_roots (t ∷ lent) = ap (λ (bs : List Bool). is_implemented choice (brief_of t).module_file ∷ bs) (of_roots lent)
+  of_roots (t ∷ lent) = ap (λ (bs : List Bool). is_implemented choice (brief_of t).module_name ∷ bs) (of_roots lent)
 
   -- the files tell which modules are implemented
   pub files_given : (files : List File) (lent : Files) → map brief files ≡ map brief_of lent
-      → map (λ (f : File). is_implemented choice f.module_file.now) files ≡ marks_of choice lent
-  files_given files lent same = sym (of_files files) ∙ ap (map (λ (b : Brief). is_implemented choice b.module_file)) same ∙ of_roots lent
+      → map (λ (f : File). is_implemented choice f.module_name.now) files ≡ marks_of choice lent
+  files_given files lent same = sym (of_files files) ∙ ap (map (λ (b : Brief). is_implemented choice b.module_name)) same ∙ of_roots lent
 
 module _ (briefs : Briefs) where
   -- the place of one file more
@@ -212,7 +212,7 @@ module _ (choice : ModuleChoice) (files : Files) where
   own_module_file : (k : ℕ) (t : Tree) → slice_get files k ≡ Some t → is_given choice t ≡ true → module_file_at (map brief_of files) k ≡ k
   own_module_file k t at is =
       ap (module_file_in (map brief_of files) k) (slice_get-map brief_of files k ∙ ap (option_map brief_of) at)
-      ∙ ap (λ (b : Bool). if b then k else unwrap_or (file_named (map brief_of files) (brief_of t).module_file) k) (and_first (is_module t) (is_implemented choice (tree_name t)) is)
+      ∙ ap (λ (b : Bool). if b then k else unwrap_or (file_named (map brief_of files) (brief_of t).module_name) k) (and_first (is_module t) (is_implemented choice (tree_name t)) is)
 
   own_at : OwnAt (part_places files) choice 0 files
   own_at k t at is =

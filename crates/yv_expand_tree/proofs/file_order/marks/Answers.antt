@@ -9,5 +9,5 @@ pub returns : goal.returns
 returns c =
     let choice = selected_of c.args.selection.now in
     let files = c.files-file-items.result.now in
-    c.loop-file.invariant ∙ ap (map (λ (f : File). is_implemented choice f.module_file.now)) (take_whole files c.loop-file.file-index (omega (arith, c.loop-file-test.false)))
+    c.loop-file.invariant ∙ ap (map (λ (f : File). is_implemented choice f.module_name.now)) (take_whole files c.loop-file.file-index (omega (arith, c.loop-file-test.false)))
     ∙ files_given choice files (lent_in c.args.rows.now) c.files-file-items.ensures.each
