@@ -1,5 +1,5 @@
 -- The lists in which the numbered statements of the files are: those of a block, the `uses` of a grouping.
-use Rattle.std.specs.Prelude.{◌≡◌, ℕ, ◌+◌, ◌<◌, ◌==◌, Bool, false, cond, List, [], ◌∷◌, Option, None, Some, length, codes, drop, slice_index_or}
+use Rattle.std.specs.Prelude.{◌≡◌, ◌≢◌, ℕ, ◌+◌, ◌-◌, ◌<◌, ◌==◌, Bool, false, cond, List, [], ◌∷◌, Option, None, Some, length, codes, drop, slice_index_or}
 use Rattle.std.specs.Str.{bytes_eq}
 use Rattle.yv_note_statements.specs.declared.entry.StatementEntry.{StatementEntry}
 use Rattle.yv_note_statements.specs.declared.links.Links.{Links}
@@ -32,13 +32,17 @@ grouping_of entry = cond (bytes_eq entry.keyword.now (codes "uses")) entry.meani
 abbrev pub configured_by : StatementEntry → Option ℕ
 configured_by entry = cond (bytes_eq entry.keyword.now (codes "config")) (block_of entry) None
 
+-- the item that links keep as a number: its number and one
+abbrev pub item_of : ℕ → Option ℕ
+item_of kept = cond (kept == 0) None (Some (kept - 1))
+
 -- the first item of a list
 abbrev pub first_at : Links → ℕ → Option ℕ
-first_at links list = slice_index_or links.first.items list None
+first_at links list = item_of (slice_index_or links.first.items list 0)
 
 -- the next item of the list in which an item is
 abbrev pub next_at : Links → ℕ → Option ℕ
-next_at links item = slice_index_or links.next.items item None
+next_at links item = item_of (slice_index_or links.next.items item 0)
 
 -- the first statement of a block
 abbrev pub first_child_in : StatementLists → ℕ → Option ℕ
@@ -60,8 +64,11 @@ next_use_in lists number = next_at lists.uses number
 abbrev pub config_in : StatementLists → ℕ → Option ℕ
 config_in lists number = first_at lists.configs number
 
--- links say of each list which is its first item, and of each item which is the next one of its list
-pub record AreLinks (lists : List (Option ℕ)) (links : Links) : Type 0 where
-  pub firsts : (list : ℕ) → list < length lists → first_at links list ≡ first_of list lists 0
-  pub nexts : (item list : ℕ) → item < length lists → slice_index_or lists item None ≡ Some list
-      → list < length lists → next_at links item ≡ next_of list lists item
+-- an item, which comes before all those in the lists of links, is put into a list
+pub record Puts (list : Option ℕ) (item : ℕ) (old new : Links) : Type 0 where
+  pub as_many : length new.first.items ≡ length old.first.items
+  pub as_many_next : length new.next.items ≡ length old.next.items
+  pub firsts : (n : ℕ) → n < length old.first.items
+      → first_at new n ≡ cond (is_in n list) (Some item) (first_at old n)
+  pub nexts : (n : ℕ) → list ≡ Some n → n < length old.first.items → next_at new item ≡ first_at old n
+  pub others : (k : ℕ) → k ≢ item → next_at new k ≡ next_at old k

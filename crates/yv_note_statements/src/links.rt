@@ -1,55 +1,49 @@
 //! Numbered items in lists.
-ghost use Rattle.std.specs.Prelude.{◌≡◌, ◌≢◌, ◌<◌, ℕ, cond, length, IfOk, Option, None, Some, slice_index_or};
-ghost use Rattle.yv_note_statements.specs.Lists.{AreLinks, first_at, is_in, next_at};
+ghost use Rattle.std.specs.Prelude.{◌≡◌, ◌<◌, ℕ, length, IfOk, Option, None};
+ghost use Rattle.yv_note_statements.specs.Lists.{Puts, first_at, item_of, next_at};
 
 use std::alloc::{AllocError, Global};
 
 /// For each number the first item of the list of that number, and for each item the next one of
-/// its list.
+/// its list. An item is kept as its number and one, and none as 0, so that little memory is
+/// written.
 #[derive(Drop)]
 pub(crate) struct Links {
-    first: Vec<Option<usize>>,
-    next: Vec<Option<usize>>,
+    first: Vec<usize>,
+    next: Vec<usize>,
+}
+
+// The item that is kept as this number.
+fn item_of(kept: usize) -> Option<usize>
+    ensures { result ≡ item_of kept }
+{
+    kept.checked_sub(1)
 }
 
 impl Links {
-    // Puts an item, which comes before all items so far, into a list.
-    fn put(&mut self, list: Option<usize>, item: usize)
+    /// So many items, of which none is in a list.
+    pub(crate) fn new(alloc: Global, count: usize) -> Result<Links, AllocError>
+        ensures firsts { IfOk result (λ links. length links.first.items ≡ count) }
+        ensures nexts { IfOk result (λ links. length links.next.items ≡ count) }
+        ensures none { IfOk result (λ links. (list : ℕ) → first_at links list ≡ None) }
+    {
+        Ok(Links {
+            first: vec![in alloc; 0; count]?,
+            next: vec![in alloc; 0; count]?,
+        })
+    }
+
+    /// Puts an item, which comes before all items so far, into a list.
+    pub(crate) fn put(&mut self, list: Option<usize>, item: usize)
         requires { item < length self.old.next.items }
-        ensures as_many { length self.new.first.items ≡ length self.old.first.items }
-        ensures as_many_next { length self.new.next.items ≡ length self.old.next.items }
-        ensures firsts { (n : ℕ) → n < length self.old.first.items
-            → slice_index_or self.new.first.items n None
-            ≡ cond (is_in n list) (Some item) (slice_index_or self.old.first.items n None) }
-        ensures nexts { (n : ℕ) → list ≡ Some n → n < length self.old.first.items
-            → slice_index_or self.new.next.items item None
-            ≡ slice_index_or self.old.first.items n None }
-        ensures others { (k : ℕ) → k ≢ item → slice_index_or self.new.next.items k None
-            ≡ slice_index_or self.old.next.items k None }
+        ensures { Puts list item self.old self.new }
     {
         if let Some(list) = list {
             if list < self.first.len() {
                 self.next[item] = self.first[list];
-                self.first[list] = Some(item);
+                self.first[list] = item + 1;
             }
         }
-    }
-
-    /// Puts items, each given by the list in which it is, into these lists. A list has the number
-    /// of an item.
-    pub(crate) fn of(alloc: Global, lists: &[Option<usize>]) -> Result<Links, AllocError>
-        ensures { IfOk result (λ links. AreLinks lists.now links) }
-    {
-        let mut links = Links {
-            first: vec![in alloc; None; lists.len()]?,
-            next: vec![in alloc; None; lists.len()]?,
-        };
-        let mut item = lists.len();
-        while item > 0 {
-            item -= 1;
-            links.put(lists[item], item);
-        }
-        Ok(links)
     }
 
     /// The first item of a list.
@@ -57,7 +51,7 @@ impl Links {
         ensures { result ≡ first_at self.now list }
     {
         if list < self.first.len() {
-            self.first[list]
+            item_of(self.first[list])
         } else {
             None
         }
@@ -68,7 +62,7 @@ impl Links {
         ensures { result ≡ next_at self.now item }
     {
         if item < self.next.len() {
-            self.next[item]
+            item_of(self.next[item])
         } else {
             None
         }

@@ -1,6 +1,6 @@
 //! The statements of each block, and the `uses` of each grouping, as lists.
 ghost use Rattle.std.specs.Prelude.{◌≡◌, ◌<◌, ℕ, length, map, IfOk, Option, None, Some, slice_index_or};
-ghost use Rattle.yv_note_statements.specs.Lists.{AreLinks, block_of, config_in, configured_by, first_child_in, first_of, first_use_in, grouping_of, next_child_in, next_of, next_use_in};
+ghost use Rattle.yv_note_statements.specs.Lists.{Puts, block_of, config_in, configured_by, first_child_in, first_of, first_use_in, grouping_of, next_child_in, next_of, next_use_in};
 
 use crate::entry::StatementEntry;
 use crate::links::Links;
@@ -30,10 +30,10 @@ fn block_of(entry: &StatementEntry<'_>) -> Option<usize>
 fn grouping_of(entry: &StatementEntry<'_>) -> Option<usize>
     ensures { result ≡ grouping_of entry.now }
 {
-    if entry.keyword == "uses" {
-        entry.meaning
-    } else {
-        None
+    // Few statements mean another one.
+    match entry.meaning {
+        Some(grouping) if entry.keyword == "uses" => Some(grouping),
+        _ => None,
     }
 }
 
@@ -46,42 +46,6 @@ fn configured_by(entry: &StatementEntry<'_>) -> Option<usize>
     } else {
         None
     }
-}
-
-// For each statement the one in whose block it is.
-fn blocks_of(
-    alloc: Global,
-    entries: &[StatementEntry<'_>],
-) -> Result<Vec<Option<usize>>, AllocError>
-    ensures { IfOk result (λ blocks. blocks.items ≡ map block_of entries.now) }
-{
-    entries.iter().map(|entry| block_of(entry)).collect(alloc)
-}
-
-// For each statement the grouping that it means.
-fn groupings_of(
-    alloc: Global,
-    entries: &[StatementEntry<'_>],
-) -> Result<Vec<Option<usize>>, AllocError>
-    ensures { IfOk result (λ groupings. groupings.items ≡ map grouping_of entries.now) }
-{
-    entries
-        .iter()
-        .map(|entry| grouping_of(entry))
-        .collect(alloc)
-}
-
-// For each `config` the statement in whose block it is.
-fn configs_of(
-    alloc: Global,
-    entries: &[StatementEntry<'_>],
-) -> Result<Vec<Option<usize>>, AllocError>
-    ensures { IfOk result (λ blocks. blocks.items ≡ map configured_by entries.now) }
-{
-    entries
-        .iter()
-        .map(|entry| configured_by(entry))
-        .collect(alloc)
 }
 
 impl StatementLists {
@@ -107,14 +71,31 @@ impl StatementLists {
         ensures configs { IfOk result (λ lists. (number : ℕ) → number < length entries.now
             → config_in lists number ≡ first_of number (map configured_by entries.now) 0) }
     {
-        let blocks = blocks_of(alloc, entries)?;
-        let groupings = groupings_of(alloc, entries)?;
-        let configs = configs_of(alloc, entries)?;
-        Ok(StatementLists {
-            children: Links::of(alloc, &blocks)?,
-            uses: Links::of(alloc, &groupings)?,
-            configs: Links::of(alloc, &configs)?,
-        })
+        let mut lists = StatementLists {
+            children: Links::new(alloc, entries.len())?,
+            uses: Links::new(alloc, entries.len())?,
+            configs: Links::new(alloc, entries.len())?,
+        };
+        let mut number = entries.len();
+        while number > 0 {
+            number -= 1;
+            lists.put(&entries[number], number);
+        }
+        Ok(lists)
+    }
+
+    // Puts a statement, which comes before all statements so far, into its lists.
+    fn put(&mut self, entry: &StatementEntry<'_>, number: usize)
+        requires children { number < length self.old.children.next.items }
+        requires uses { number < length self.old.uses.next.items }
+        requires configs { number < length self.old.configs.next.items }
+        ensures children { Puts (block_of entry.now) number self.old.children self.new.children }
+        ensures uses { Puts (grouping_of entry.now) number self.old.uses self.new.uses }
+        ensures configs { Puts (configured_by entry.now) number self.old.configs self.new.configs }
+    {
+        self.children.put(block_of(entry), number);
+        self.uses.put(grouping_of(entry), number);
+        self.configs.put(configured_by(entry), number);
     }
 
     /// The number of the first statement of a block.
