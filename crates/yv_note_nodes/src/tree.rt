@@ -1,5 +1,5 @@
-//! The statements of the files, of which the children, the `uses` and what is above are found without
-//! a look at all statements.
+//! The statements of the files as a tree: children, `uses` and what is above are found without a
+//! look at all statements.
 ghost use Rattle.std.specs.Iterator.{at_most};
 
 use crate::augment_names::AugmentNames;
