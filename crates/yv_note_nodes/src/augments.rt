@@ -1,10 +1,11 @@
 //! Augments and refines.
 use crate::mandatory::first_mandatory;
 use crate::nodes::{Steps, Way, follow, node_below, nodes_below, root_of, say_no_node};
+use crate::tree::Tree;
 use crate::unprefixed_paths::say_prefixed;
-use std::alloc::{AllocError, Global};
+use std::alloc::AllocError;
 use yv_link_scopes::local;
-use yv_note_statements::{Message, Site, is_among, node_above};
+use yv_note_statements::{Message, Site, is_among};
 use yv_statement::Code;
 
 // The grouping of a `uses` in whose block a statement is, or the root of the module where its path
@@ -18,11 +19,11 @@ fn start_of<'s, 'a>(site: &Site<'s, 'a>) -> Option<Site<'s, 'a>> {
 
 /// Follows the path of an `augment` or a `refine`.
 pub(crate) fn way_of<'s, 'a>(
-    alloc: Global,
+    tree: &mut Tree<'s, 'a>,
     site: &Site<'s, 'a>,
 ) -> Result<Way<'s, 'a>, AllocError> {
     match start_of(site) {
-        Some(start) => follow(alloc, &start, site.argument(), Steps::Schema),
+        Some(start) => follow(tree, &start, site.argument(), Steps::Schema),
         None => Ok(Way::Unknown),
     }
 }
@@ -33,8 +34,9 @@ pub fn tell_refine_target<'a>(
     site: &Site<'_, 'a>,
 ) -> Result<(), AllocError> {
     telling.sentence(Code::RefineTarget);
-    match way_of(telling.alloc(), site)? {
-        Way::Until(node, name) => say_no_node(telling, &node, name, Steps::Schema),
+    let mut tree = Tree::around(telling.alloc(), site)?;
+    match way_of(&mut tree, site)? {
+        Way::Until(node, name) => say_no_node(telling, &mut tree, &node, name, Steps::Schema),
         _ => Ok(()),
     }
 }
@@ -88,7 +90,8 @@ fn unfit_property<'s, 'a>(refine: &Site<'s, 'a>, keyword: &str) -> Option<Site<'
 
 /// Adds which property a `refine` can't change.
 pub fn tell_refine<'a>(telling: &mut Message<'a>, site: &Site<'_, 'a>) -> Result<(), AllocError> {
-    match way_of(telling.alloc(), site)? {
+    let mut tree = Tree::around(telling.alloc(), site)?;
+    match way_of(&mut tree, site)? {
         Way::To(node) => tell_property(telling, site, &node),
         _ => telling.sentence(Code::BadRefine),
     }
@@ -127,30 +130,32 @@ pub fn tell_augment_target<'a>(
     site: &Site<'_, 'a>,
 ) -> Result<(), AllocError> {
     telling.sentence(Code::AugmentTarget);
-    match way_of(telling.alloc(), site)? {
-        Way::Until(node, name) => say_missing_step(telling, &node, name)?,
+    let mut tree = Tree::around(telling.alloc(), site)?;
+    match way_of(&mut tree, site)? {
+        Way::Until(node, name) => say_missing_step(telling, &mut tree, &node, name)?,
         Way::To(node) => say_no_target(telling, &node),
         _ => telling.say(" Look at the prefixes of its steps."),
     }
     if site.argument().starts_with('/') {
-        say_prefixed(telling, site, site.argument(), Steps::Schema)?;
+        say_prefixed(telling, &mut tree, site, site.argument(), Steps::Schema)?;
     }
     Ok(())
 }
 
 // Adds that a node has none of this name below it, or in which case there is one.
-fn say_missing_step<'a>(
+fn say_missing_step<'s, 'a>(
     telling: &mut Message<'a>,
-    node: &Site<'_, 'a>,
+    tree: &mut Tree<'s, 'a>,
+    node: &Site<'s, 'a>,
     name: &'a str,
 ) -> Result<(), AllocError> {
     if node.is("choice") {
-        if let Some(inner) = node_below(telling.alloc(), node, name, Steps::Data)? {
+        if let Some(inner) = node_below(tree, node, name, Steps::Data)? {
             say_case(telling, &inner);
             return Ok(());
         }
     }
-    say_no_node(telling, node, name, Steps::Schema)
+    say_no_node(telling, tree, node, name, Steps::Schema)
 }
 
 // Adds the case of a node, which a path leaves out.
@@ -199,12 +204,12 @@ fn is_shorthand_case(node: &Site<'_, '_>) -> bool {
 }
 
 // The `augment` in whose block a node is, by way of groupings too.
-fn augment_around<'s, 'a>(node: &Site<'s, 'a>) -> Option<Site<'s, 'a>> {
+fn augment_around<'s, 'a>(tree: &Tree<'s, 'a>, node: &Site<'s, 'a>) -> Option<Site<'s, 'a>> {
     let parent = node.parent()?;
     if parent.is("augment") {
         return Some(parent);
     }
-    match node_above(node) {
+    match tree.node_above(node) {
         Some(above) if above.is("augment") => Some(above),
         _ => None,
     }
@@ -212,12 +217,13 @@ fn augment_around<'s, 'a>(node: &Site<'s, 'a>) -> Option<Site<'s, 'a>> {
 
 /// Adds why a node can't be added to the target of an `augment`.
 pub fn tell_augment<'a>(telling: &mut Message<'a>, site: &Site<'_, 'a>) -> Result<(), AllocError> {
-    let augment = augment_around(site).unwrap_or(*site);
-    let Some(target) = target_of(&way_of(telling.alloc(), &augment)?) else {
+    let mut tree = Tree::around(telling.alloc(), site)?;
+    let augment = augment_around(&tree, site).unwrap_or(*site);
+    let Some(target) = target_of(&way_of(&mut tree, &augment)?) else {
         telling.sentence(Code::BadAugment);
         return Ok(());
     };
-    let nodes = nodes_below(telling.alloc(), &augment, Steps::Schema)?;
+    let nodes = nodes_below(&mut tree, &augment, Steps::Schema)?;
     if let Some(node) = unfit(&nodes, target.keyword) {
         say_unfit(telling, &node, &target);
     } else {

@@ -1,6 +1,7 @@
 //! Default cases of choices.
 use crate::nodes::{Steps, node_named, nodes_below};
-use std::alloc::{AllocError, Global};
+use crate::tree::Tree;
+use std::alloc::AllocError;
 use yv_link_scopes::local;
 use yv_note_statements::{Message, Site, nearest_site, say_guess};
 
@@ -12,7 +13,8 @@ pub fn tell_default_case<'a>(
     telling: &mut Message<'a>,
     choice: &Site<'_, 'a>,
 ) -> Result<(), AllocError> {
-    let cases = nodes_below(telling.alloc(), choice, Steps::Schema)?;
+    let mut tree = Tree::around(telling.alloc(), choice)?;
+    let cases = nodes_below(&mut tree, choice, Steps::Schema)?;
     let Some(default) = choice.child("default") else {
         telling.subject(
             "A `refine` gives ",

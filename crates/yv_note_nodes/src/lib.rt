@@ -2,6 +2,7 @@
 //! can't be where they are.
 #![tactic(auto)]
 
+mod augment_names;
 mod augments;
 mod default_cases;
 mod lists;
@@ -9,6 +10,7 @@ mod mandatory;
 mod nodes;
 mod paths;
 mod placement;
+mod tree;
 mod unprefixed_paths;
 
 pub use augments::{tell_augment, tell_augment_target, tell_refine, tell_refine_target};

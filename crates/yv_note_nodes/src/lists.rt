@@ -1,7 +1,8 @@
 //! Keys and unique leafs of lists.
 use crate::nodes::{Steps, Way, follow, node_below, say_no_node};
-use std::alloc::{AllocError, Global};
-use yv_note_statements::{Message, Site, is_among, node_above, state_above, words_of};
+use crate::tree::Tree;
+use std::alloc::AllocError;
+use yv_note_statements::{Message, Site, is_among, words_of};
 
 /// Adds what is wrong with the key of a list.
 pub fn tell_key<'a>(telling: &mut Message<'a>, list: &Site<'_, 'a>) -> Result<(), AllocError> {
@@ -10,17 +11,34 @@ pub fn tell_key<'a>(telling: &mut Message<'a>, list: &Site<'_, 'a>) -> Result<()
         return Ok(());
     };
     telling.subject("The key of list ", " is wrong.");
+    let mut tree = Tree::around(telling.alloc(), list)?;
     for name in words_of(telling.alloc(), key.argument())?.iter() {
-        let Some(leaf) = node_below(telling.alloc(), list, name, Steps::Data)? else {
-            return say_no_node(telling, list, name, Steps::Data);
-        };
-        if let Some(objection) = objection_to(list, &leaf) {
-            telling.statement(objection.before, &leaf, objection.between);
-            telling.point(" at ", &objection.place, objection.after);
-            return Ok(());
+        if say_key(telling, &mut tree, list, name)? {
+            break;
         }
     }
     Ok(())
+}
+
+// Adds why a key can't have a name, if something is known. Whether no further name is looked at.
+fn say_key<'s, 'a>(
+    telling: &mut Message<'a>,
+    tree: &mut Tree<'s, 'a>,
+    list: &Site<'s, 'a>,
+    name: &'a str,
+) -> Result<bool, AllocError> {
+    let Some(leaf) = node_below(tree, list, name, Steps::Data)? else {
+        if !tree.is_spent() {
+            say_no_node(telling, tree, list, name, Steps::Data)?;
+        }
+        return Ok(true);
+    };
+    let Some(objection) = objection_to(tree, list, &leaf) else {
+        return Ok(false);
+    };
+    telling.statement(objection.before, &leaf, objection.between);
+    telling.point(" at ", &objection.place, objection.after);
+    Ok(true)
 }
 
 // Why a node can't be a key: words around the node and the place that shows it.
@@ -33,7 +51,11 @@ struct Objection<'s, 'a> {
 }
 
 // Why a node of a list can't be its key, if something is known.
-fn objection_to<'s, 'a>(list: &Site<'s, 'a>, leaf: &Site<'s, 'a>) -> Option<Objection<'s, 'a>> {
+fn objection_to<'s, 'a>(
+    tree: &Tree<'s, 'a>,
+    list: &Site<'s, 'a>,
+    leaf: &Site<'s, 'a>,
+) -> Option<Objection<'s, 'a>> {
     if !leaf.is("leaf") {
         return Some(Objection {
             before: " A key has to be a leaf; this one names the ",
@@ -51,7 +73,7 @@ fn objection_to<'s, 'a>(list: &Site<'s, 'a>, leaf: &Site<'s, 'a>) -> Option<Obje
         });
     }
     let config = leaf.child("config")?;
-    if config.argument() == "false" && state_above(list).is_none() {
+    if config.argument() == "false" && tree.state_above(list).is_none() {
         return Some(Objection {
             before: " The ",
             between: " is `config false`",
@@ -65,19 +87,21 @@ fn objection_to<'s, 'a>(list: &Site<'s, 'a>, leaf: &Site<'s, 'a>) -> Option<Obje
 /// Adds what is wrong with a `unique` of a list.
 pub fn tell_unique<'a>(telling: &mut Message<'a>, list: &Site<'_, 'a>) -> Result<(), AllocError> {
     telling.subject("A `unique` of list ", " is wrong.");
-    for unique in list.children_of(telling.alloc(), "unique")?.iter() {
-        if say_unique(telling, list, unique)? {
-            return Ok(());
+    let mut tree = Tree::around(telling.alloc(), list)?;
+    for unique in list.children().filter(|child| child.is("unique")) {
+        if tree.is_spent() || say_unique(telling, &mut tree, list, &unique)? {
+            break;
         }
     }
     Ok(())
 }
 
 // Adds what is wrong with a `unique`, if something is known.
-fn say_unique<'a>(
+fn say_unique<'s, 'a>(
     telling: &mut Message<'a>,
-    list: &Site<'_, 'a>,
-    unique: &Site<'_, 'a>,
+    tree: &mut Tree<'s, 'a>,
+    list: &Site<'s, 'a>,
+    unique: &Site<'s, 'a>,
 ) -> Result<bool, AllocError> {
     let mut state = None;
     let mut configuration = None;
@@ -85,20 +109,23 @@ fn say_unique<'a>(
         if path.is_empty() {
             continue;
         }
-        let way = follow(telling.alloc(), list, path, Steps::Data)?;
-        if say_way(telling, unique, &way)? {
+        let way = follow(tree, list, path, Steps::Data)?;
+        if say_way(telling, tree, unique, &way)? {
             return Ok(true);
         }
         if let Way::To(node) = way {
-            if let Some(between) = list_between(list, &node) {
+            if let Some(between) = list_between(tree, list, &node) {
                 say_between(telling, unique, path, &between);
                 return Ok(true);
             }
-            if state_above(&node).is_some() {
+            if tree.state_above(&node).is_some() {
                 state = Some(node);
             } else {
                 configuration = Some(node);
             }
+        }
+        if tree.is_spent() {
+            return Ok(false);
         }
     }
     Ok(say_mixed(telling, unique, state, configuration))
@@ -112,8 +139,12 @@ fn is_blank(character: char) -> bool {
 const MOST_STEPS: usize = 64;
 
 // A list between a list and a leaf in it.
-fn list_between<'s, 'a>(list: &Site<'s, 'a>, leaf: &Site<'s, 'a>) -> Option<Site<'s, 'a>> {
-    let mut at = node_above(leaf)?;
+fn list_between<'s, 'a>(
+    tree: &Tree<'s, 'a>,
+    list: &Site<'s, 'a>,
+    leaf: &Site<'s, 'a>,
+) -> Option<Site<'s, 'a>> {
+    let mut at = tree.node_above(leaf)?;
     for _ in 0..MOST_STEPS {
         if at.number == list.number {
             return None;
@@ -121,7 +152,7 @@ fn list_between<'s, 'a>(list: &Site<'s, 'a>, leaf: &Site<'s, 'a>) -> Option<Site
         if at.is("list") {
             return Some(at);
         }
-        at = node_above(&at)?;
+        at = tree.node_above(&at)?;
     }
     None
 }
@@ -154,15 +185,16 @@ fn say_mixed<'a>(
 }
 
 // Adds why a path leads to no leaf, if something is known.
-fn say_way<'a>(
+fn say_way<'s, 'a>(
     telling: &mut Message<'a>,
-    unique: &Site<'_, 'a>,
-    way: &Way<'_, 'a>,
+    tree: &mut Tree<'s, 'a>,
+    unique: &Site<'s, 'a>,
+    way: &Way<'s, 'a>,
 ) -> Result<bool, AllocError> {
     match way {
         Way::Until(node, name) => {
             telling.point(" It is at ", unique, ".");
-            say_no_node(telling, node, name, Steps::Data)?;
+            say_no_node(telling, tree, node, name, Steps::Data)?;
             Ok(true)
         }
         Way::To(node) if !node.is("leaf") => {

@@ -1,5 +1,6 @@
 //! Nodes that are mandatory.
 use crate::nodes::{Steps, node_named, nodes_below};
+use crate::tree::Tree;
 use std::alloc::{AllocError, Global};
 use yv_link_scopes::local;
 use yv_note_statements::{Message, Site};
@@ -73,24 +74,26 @@ fn tell_mandatory_case<'a>(
 ) -> Result<(), AllocError> {
     telling.quote("The default case ", default.argument(), "");
     telling.subject(" of choice ", " has a mandatory node");
-    let cases = nodes_below(telling.alloc(), choice, Steps::Schema)?;
+    let mut tree = Tree::around(telling.alloc(), choice)?;
+    let cases = nodes_below(&mut tree, choice, Steps::Schema)?;
     if let Some(case) = node_named(&cases, local(default.argument())) {
-        say_mandatory_node(telling, &case)?;
+        say_mandatory_node(telling, &mut tree, &case)?;
     }
     telling.say(".");
     Ok(())
 }
 
 // Adds the first node of a case that is mandatory by itself.
-fn say_mandatory_node<'a>(
+fn say_mandatory_node<'s, 'a>(
     telling: &mut Message<'a>,
-    case: &Site<'_, 'a>,
+    tree: &mut Tree<'s, 'a>,
+    case: &Site<'s, 'a>,
 ) -> Result<(), AllocError> {
     if !case.is("case") {
         telling.say(", namely itself");
         return Ok(());
     }
-    let nodes = nodes_below(telling.alloc(), case, Steps::Schema)?;
+    let nodes = nodes_below(tree, case, Steps::Schema)?;
     if let Some(node) = first_mandatory(&nodes) {
         telling.statement_at(", the ", &node, "");
     }

@@ -1,9 +1,8 @@
 //! The nodes of the schema that statements define.
-use std::alloc::{AllocError, Global};
+use crate::tree::Tree;
+use std::alloc::AllocError;
 use yv_link_scopes::local;
-use yv_note_statements::{
-    Message, Site, Sites, is_among, last_step, module_of, nearest_site, say_guess,
-};
+use yv_note_statements::{Message, Site, module_of, nearest_site, say_guess};
 
 /// How many blocks are searched for the nodes of one.
 const MOST_BLOCKS: usize = 256;
@@ -11,69 +10,150 @@ const MOST_BLOCKS: usize = 256;
 /// How many nodes of one are looked at.
 const MOST_NODES: usize = 10_000;
 
+/// A step of a path takes as long as so many looks at statements, beside those at nodes.
+const LOOKS_OF_STEP: usize = 10;
+
+/// The same of a block that is searched, beside those at the statements in it.
+const LOOKS_OF_BLOCK: usize = 10;
+
 /// The keywords of nodes that have a name of their own.
 pub(crate) static DATA_NODES: &str =
     "container leaf leaf-list list choice case anydata anyxml rpc action notification";
 
+// The same, and those of the sides of an operation. The most usual ones come first.
+static ALL_NODES: &[&str] = &[
+    "leaf",
+    "container",
+    "list",
+    "leaf-list",
+    "choice",
+    "case",
+    "anydata",
+    "anyxml",
+    "rpc",
+    "action",
+    "notification",
+    "input",
+    "output",
+];
+
 // Whether a statement defines a node of the schema.
 fn is_node(site: &Site<'_, '_>) -> bool {
-    site.is("input") || site.is("output") || is_among(site.keyword(), DATA_NODES)
+    ALL_NODES.iter().any(|keyword| site.is(keyword))
 }
 
 /// Which steps a path has: also to choices and cases, or only to data nodes.
-#[derive(Clone, Copy, PartialEq, Eq)]
+#[derive(Clone, Copy, PartialEq, Eq, PartialOrd, Ord)]
 pub(crate) enum Steps {
     Schema,
     Data,
 }
 
-// The `augment` statements whose path ends with the name of a node.
-fn augments_of<'s, 'a>(
-    alloc: Global,
+// The blocks in which a node has nodes: those of the `augment` statements whose path ends with its
+// name, and then its own.
+fn blocks_of<'s, 'a>(
+    tree: &Tree<'s, 'a>,
     node: &Site<'s, 'a>,
 ) -> Result<Vec<Site<'s, 'a>>, AllocError> {
-    if node.is_root() || node.is("grouping") {
-        return Ok(Vec::new(alloc));
+    let mut blocks = if node.is_root() || node.is("grouping") {
+        Vec::new(tree.alloc())
+    } else {
+        // No others are searched, since the last ones are first.
+        tree.augments_named(node.argument(), MOST_BLOCKS)?
+    };
+    blocks.push(*node)?;
+    Ok(blocks)
+}
+
+// A search for the nodes of a node.
+#[derive(Drop)]
+struct Search<'t, 's, 'a> {
+    tree: &'t Tree<'s, 'a>,
+    steps: Steps,
+    /// The name of the node that ends the search.
+    name: Option<&'t str>,
+    nodes: Vec<Site<'s, 'a>>,
+    /// The blocks that are still to be searched, the next one last.
+    blocks: Vec<Site<'s, 'a>>,
+    /// How many statements may still be looked at.
+    looks: usize,
+}
+
+impl<'s, 'a> Search<'_, 's, 'a> {
+    // Counts so many looks at statements. Whether they are allowed.
+    fn look(&mut self, count: usize) -> bool {
+        self.looks = self.looks.saturating_sub(count);
+        self.looks > 0
     }
-    Sites::all(node.entries)
-        .filter(|site| site.is("augment") && last_step(site.argument()) == node.argument())
-        .collect(alloc)
+
+    // The nodes, and how many statements may then still be looked at.
+    fn run(mut self) -> Result<(Vec<Site<'s, 'a>>, usize), AllocError> {
+        for _ in 0..MOST_BLOCKS {
+            let Some(block) = self.blocks.pop() else {
+                break;
+            };
+            if !self.look(LOOKS_OF_BLOCK) || self.ends_in(&block)? {
+                break;
+            }
+        }
+        Ok((self.nodes, self.looks))
+    }
+
+    // Adds the nodes of a block. Whether the search ends there.
+    fn ends_in(&mut self, block: &Site<'s, 'a>) -> Result<bool, AllocError> {
+        let tree = self.tree;
+        for child in tree.children(block) {
+            if !self.look(1) || self.ends_at(&child)? {
+                return Ok(true);
+            }
+        }
+        Ok(false)
+    }
+
+    // Adds a statement of a block that is a node, or where more nodes are. Whether the search ends
+    // with it.
+    fn ends_at(&mut self, child: &Site<'s, 'a>) -> Result<bool, AllocError> {
+        if let Some(block) = block_at(child, self.steps) {
+            self.blocks.push(block)?;
+            return Ok(false);
+        }
+        if !is_node(child) {
+            return Ok(false);
+        }
+        self.nodes.push(*child)?;
+        Ok(self.nodes.len() >= MOST_NODES || self.name == Some(node_name(child)))
+    }
+}
+
+// The nodes below a node, up to one of this name.
+fn nodes_until<'s, 'a>(
+    tree: &mut Tree<'s, 'a>,
+    node: &Site<'s, 'a>,
+    steps: Steps,
+    name: Option<&str>,
+) -> Result<Vec<Site<'s, 'a>>, AllocError> {
+    let blocks = blocks_of(tree, node)?;
+    let search = Search {
+        tree,
+        steps,
+        name,
+        nodes: Vec::new(tree.alloc()),
+        blocks,
+        looks: tree.looks(),
+    };
+    let (nodes, looks) = search.run()?;
+    tree.set_looks(looks);
+    Ok(nodes)
 }
 
 /// The nodes below a node or at the top of a module, those of groupings, and of augments of its
 /// name, too.
 pub(crate) fn nodes_below<'s, 'a>(
-    alloc: Global,
+    tree: &mut Tree<'s, 'a>,
     node: &Site<'s, 'a>,
     steps: Steps,
 ) -> Result<Vec<Site<'s, 'a>>, AllocError> {
-    let mut nodes = Vec::new(alloc);
-    let mut blocks = augments_of(alloc, node)?;
-    blocks.push(*node)?;
-    for _ in 0..MOST_BLOCKS {
-        let Some(block) = blocks.pop() else {
-            break;
-        };
-        for child in block.children() {
-            add_node(&mut nodes, &mut blocks, &child, steps)?;
-        }
-    }
-    Ok(nodes)
-}
-
-// Adds a statement of a block that is a node, or where more nodes are.
-fn add_node<'s, 'a>(
-    nodes: &mut Vec<Site<'s, 'a>>,
-    blocks: &mut Vec<Site<'s, 'a>>,
-    child: &Site<'s, 'a>,
-    steps: Steps,
-) -> Result<(), AllocError> {
-    if let Some(block) = block_at(child, steps) {
-        blocks.push(block)?;
-    } else if is_node(child) && nodes.len() < MOST_NODES {
-        nodes.push(*child)?;
-    }
-    Ok(())
+    nodes_until(tree, node, steps, None)
 }
 
 // The block whose nodes are those of the block in which this statement is.
@@ -115,7 +195,7 @@ const MOST_STEPS: usize = 64;
 
 /// Follows the names of a path from a node.
 pub(crate) fn follow<'s, 'a>(
-    alloc: Global,
+    tree: &mut Tree<'s, 'a>,
     start: &Site<'s, 'a>,
     path: &'a str,
     steps: Steps,
@@ -128,8 +208,9 @@ pub(crate) fn follow<'s, 'a>(
         if place > MOST_STEPS {
             return Ok(Way::Unknown);
         }
-        match node_below(alloc, &at, step, steps)? {
+        match node_below(tree, &at, step, steps)? {
             Some(node) => at = node,
+            None if tree.is_spent() => return Ok(Way::Unknown),
             None => return Ok(Way::Until(at, step)),
         }
     }
@@ -138,13 +219,22 @@ pub(crate) fn follow<'s, 'a>(
 
 /// The node of a name below another one.
 pub(crate) fn node_below<'s, 'a>(
-    alloc: Global,
+    tree: &mut Tree<'s, 'a>,
     node: &Site<'s, 'a>,
-    name: &str,
+    name: &'a str,
     steps: Steps,
 ) -> Result<Option<Site<'s, 'a>>, AllocError> {
-    let nodes = nodes_below(alloc, node, steps)?;
-    Ok(node_named(&nodes, local(name)))
+    let name = local(name);
+    tree.look(LOOKS_OF_STEP);
+    if let Some(below) = tree.known(node, steps, name) {
+        return Ok(below);
+    }
+    let nodes = nodes_until(tree, node, steps, Some(name))?;
+    let below = nodes.last().copied().filter(|last| node_name(last) == name);
+    if !tree.is_spent() {
+        tree.keep(node, steps, name, below)?;
+    }
+    Ok(below)
 }
 
 /// The root of the module of a path that begins with `/`.
@@ -154,15 +244,16 @@ pub(crate) fn root_of<'s, 'a>(site: &Site<'s, 'a>, path: &str) -> Option<Site<'s
 }
 
 /// Adds that a node has none of this name below it, and which one may be meant.
-pub(crate) fn say_no_node<'a>(
+pub(crate) fn say_no_node<'s, 'a>(
     telling: &mut Message<'a>,
-    node: &Site<'_, 'a>,
+    tree: &mut Tree<'s, 'a>,
+    node: &Site<'s, 'a>,
     name: &'a str,
     steps: Steps,
 ) -> Result<(), AllocError> {
     telling.quote(" There is no node ", name, "");
     telling.statement_at(" in ", node, ".");
-    let nodes = nodes_below(telling.alloc(), node, steps)?;
+    let nodes = nodes_below(tree, node, steps)?;
     say_guess(telling, nearest_site(local(name), &nodes));
     Ok(())
 }

@@ -1,9 +1,10 @@
 //! Paths of leafrefs.
 use crate::lists::has_value;
 use crate::nodes::{Steps, Way, follow, root_of, say_no_node};
+use crate::tree::Tree;
 use crate::unprefixed_paths::say_prefixed;
 use std::alloc::{AllocError, Global};
-use yv_note_statements::{Message, Site, chain, node_above, say_ring, state_above};
+use yv_note_statements::{Message, Site, chain, say_ring};
 use yv_statement::Code;
 
 // The `path` of a leafref, with the typedefs through which it is one.
@@ -20,26 +21,30 @@ fn path_of<'s, 'a>(alloc: Global, leaf: &Site<'s, 'a>) -> Result<Option<Site<'s,
 
 // Follows the path of a leafref.
 fn way_of<'s, 'a>(
-    alloc: Global,
+    tree: &mut Tree<'s, 'a>,
     leaf: &Site<'s, 'a>,
     path: &Site<'s, 'a>,
 ) -> Result<Way<'s, 'a>, AllocError> {
     let text = path.argument();
     if text.starts_with('/') {
         return match root_of(path, text) {
-            Some(root) => follow(alloc, &root, text, Steps::Data),
+            Some(root) => follow(tree, &root, text, Steps::Data),
             None => Ok(Way::Unknown),
         };
     }
-    match climb(leaf, text) {
-        Some((start, rest)) => follow(alloc, &start, rest, Steps::Data),
+    match climb(tree, leaf, text) {
+        Some((start, rest)) => follow(tree, &start, rest, Steps::Data),
         None => Ok(Way::Above),
     }
 }
 
 // The node to which the `..` of a path lead, and the rest of the path. None above the top of the
 // module.
-fn climb<'s, 'a>(leaf: &Site<'s, 'a>, path: &'a str) -> Option<(Site<'s, 'a>, &'a str)> {
+fn climb<'s, 'a>(
+    tree: &Tree<'s, 'a>,
+    leaf: &Site<'s, 'a>,
+    path: &'a str,
+) -> Option<(Site<'s, 'a>, &'a str)> {
     let mut at = *leaf;
     let mut rest = path;
     for _ in 0..path.len() {
@@ -47,14 +52,14 @@ fn climb<'s, 'a>(leaf: &Site<'s, 'a>, path: &'a str) -> Option<(Site<'s, 'a>, &'
             Some(behind) => rest = behind,
             None => break,
         }
-        at = above(&at)?;
+        at = above(tree, &at)?;
     }
     Some((at, rest))
 }
 
 // The node above another one, or the module's root above its top.
-fn above<'s, 'a>(node: &Site<'s, 'a>) -> Option<Site<'s, 'a>> {
-    match node_above(node) {
+fn above<'s, 'a>(tree: &Tree<'s, 'a>, node: &Site<'s, 'a>) -> Option<Site<'s, 'a>> {
+    match tree.node_above(node) {
         Some(node) => Some(node),
         None if node.is_root() => None,
         None => node.module(),
@@ -73,28 +78,30 @@ pub fn tell_path<'a>(telling: &mut Message<'a>, leaf: &Site<'_, 'a>) -> Result<(
         telling.point(" at ", &path, "");
     }
     telling.say(".");
-    let way = way_of(telling.alloc(), leaf, &path)?;
+    let mut tree = Tree::around(telling.alloc(), leaf)?;
+    let way = way_of(&mut tree, leaf, &path)?;
     match way {
-        Way::Until(node, name) => say_no_node(telling, &node, name, Steps::Data)?,
-        _ => say_way(telling, leaf, &way),
+        Way::Until(node, name) => say_no_node(telling, &mut tree, &node, name, Steps::Data)?,
+        _ => say_way(telling, &tree, leaf, &way),
     }
     if path.argument().starts_with('/') {
-        say_prefixed(telling, &path, path.argument(), Steps::Data)
+        say_prefixed(telling, &mut tree, &path, path.argument(), Steps::Data)
     } else {
-        say_climb(telling, leaf, path.argument())
+        say_climb(telling, &mut tree, leaf, path.argument())
     }
 }
 
 // Adds the path with one `..` more or less, if that leads to a leaf or a leaf-list.
-fn say_climb<'a>(
+fn say_climb<'s, 'a>(
     telling: &mut Message<'a>,
-    leaf: &Site<'_, 'a>,
+    tree: &mut Tree<'s, 'a>,
+    leaf: &Site<'s, 'a>,
     path: &'a str,
 ) -> Result<(), AllocError> {
-    if is_way(telling.alloc(), leaf, path, true)? {
+    if is_way(tree, leaf, path, true)? {
         telling.quote_joined(" Did you mean ", "../", path, "?");
     } else if let Some(shorter) = path.strip_prefix("../") {
-        if shorter.starts_with("../") && is_way(telling.alloc(), leaf, shorter, false)? {
+        if shorter.starts_with("../") && is_way(tree, leaf, shorter, false)? {
             telling.quote(" Did you mean ", shorter, "?");
         }
     }
@@ -102,19 +109,23 @@ fn say_climb<'a>(
 }
 
 // Whether a path leads from a leaf, or from the node above it, to another leaf or leaf-list.
-fn is_way<'a>(
-    alloc: Global,
-    leaf: &Site<'_, 'a>,
+fn is_way<'s, 'a>(
+    tree: &mut Tree<'s, 'a>,
+    leaf: &Site<'s, 'a>,
     path: &'a str,
     is_above: bool,
 ) -> Result<bool, AllocError> {
-    let Some(start) = (if is_above { above(leaf) } else { Some(*leaf) }) else {
+    let Some(start) = (if is_above {
+        above(tree, leaf)
+    } else {
+        Some(*leaf)
+    }) else {
         return Ok(false);
     };
-    let Some((node, rest)) = climb(&start, path) else {
+    let Some((node, rest)) = climb(tree, &start, path) else {
         return Ok(false);
     };
-    match follow(alloc, &node, rest, Steps::Data)? {
+    match follow(tree, &node, rest, Steps::Data)? {
         Way::To(target) => Ok(has_value(&target) && target.number != leaf.number),
         _ => Ok(false),
     }
@@ -127,7 +138,12 @@ fn is_within(path: &Site<'_, '_>, leaf: &Site<'_, '_>) -> bool {
 }
 
 // Adds where a path leads.
-fn say_way<'a>(telling: &mut Message<'a>, leaf: &Site<'_, 'a>, way: &Way<'_, 'a>) {
+fn say_way<'s, 'a>(
+    telling: &mut Message<'a>,
+    tree: &Tree<'s, 'a>,
+    leaf: &Site<'s, 'a>,
+    way: &Way<'s, 'a>,
+) {
     match way {
         Way::Above => telling.say(" It goes above the top of the module: it has a `..` too many."),
         Way::To(node) if !has_value(node) => {
@@ -137,7 +153,7 @@ fn say_way<'a>(telling: &mut Message<'a>, leaf: &Site<'_, 'a>, way: &Way<'_, 'a>
                 ", and has to lead to a leaf or leaf-list.",
             );
         }
-        Way::To(node) if state_above(node).is_some() && state_above(leaf).is_none() => {
+        Way::To(node) if tree.state_above(node).is_some() && tree.state_above(leaf).is_none() => {
             telling.statement_at(
                 " The ",
                 node,
@@ -164,10 +180,11 @@ pub fn tell_path_cycle<'a>(
     leaf: &Site<'_, 'a>,
 ) -> Result<(), AllocError> {
     telling.sentence(Code::PathCycle);
+    let mut tree = Tree::around(telling.alloc(), leaf)?;
     let mut ring = Vec::new(telling.alloc());
     let mut at = *leaf;
     for _ in 0..MOST_LEAFREFS {
-        let Some(target) = target_of(telling.alloc(), &at)? else {
+        let Some(target) = target_of(&mut tree, &at)? else {
             break;
         };
         ring.push(target.number)?;
@@ -182,13 +199,13 @@ pub fn tell_path_cycle<'a>(
 
 // The target of a leafref.
 fn target_of<'s, 'a>(
-    alloc: Global,
+    tree: &mut Tree<'s, 'a>,
     leaf: &Site<'s, 'a>,
 ) -> Result<Option<Site<'s, 'a>>, AllocError> {
-    let Some(path) = path_of(alloc, leaf)? else {
+    let Some(path) = path_of(tree.alloc(), leaf)? else {
         return Ok(None);
     };
-    match way_of(alloc, leaf, &path)? {
+    match way_of(tree, leaf, &path)? {
         Way::To(node) => Ok(Some(node)),
         _ => Ok(None),
     }

@@ -1,25 +1,34 @@
 //! Nodes that can't be where they are, or whose names other nodes have there.
 use crate::augments::{target_of, way_of};
 use crate::nodes::{DATA_NODES, Way};
+use crate::tree::Tree;
 use std::alloc::{AllocError, Global};
-use yv_note_statements::{Message, Site, Sites, is_among, node_above, state_above};
+use yv_note_statements::{Message, Site, Sites, is_among};
 use yv_statement::Code;
 
 /// Adds which node above a node of configuration is state.
 pub fn tell_config<'a>(telling: &mut Message<'a>, site: &Site<'_, 'a>) {
     telling.subject("The node ", " is `config true`, and ");
-    match state_over(site) {
-        Some(state) => {
+    match state_over(telling.alloc(), site) {
+        Ok(Some(state)) => {
             telling.statement("the ", &state, "");
             telling.point(" above it, at ", &state, ", is `config false`.");
         }
-        None => telling.say("a node above it is `config false`."),
+        Ok(None) => telling.say("a node above it is `config false`."),
+        Err(error) => telling.fail(error),
     }
 }
 
 // The nearest node above a node that makes it state.
-fn state_over<'s, 'a>(site: &Site<'s, 'a>) -> Option<Site<'s, 'a>> {
-    state_above(&node_above(site)?)
+fn state_over<'s, 'a>(
+    alloc: Global,
+    site: &Site<'s, 'a>,
+) -> Result<Option<Site<'s, 'a>>, AllocError> {
+    let tree = Tree::around(alloc, site)?;
+    Ok(match tree.node_above(site) {
+        Some(above) => tree.state_above(&above),
+        None => None,
+    })
 }
 
 /// Adds which node above an action or a notification it can't be in.
@@ -28,7 +37,8 @@ pub fn tell_operation<'a>(
     site: &Site<'_, 'a>,
 ) -> Result<(), AllocError> {
     telling.subject_statement(site, " is not allowed here: ");
-    match find_hindrance(telling.alloc(), site)? {
+    let mut tree = Tree::around(telling.alloc(), site)?;
+    match find_hindrance(&mut tree, site)? {
         Some(hindrance) => say_hindrance(telling, &hindrance),
         None if site.is("action") => {
             telling.say("an action can't be at the top of a module; that is an `rpc`.");
@@ -78,10 +88,10 @@ fn say_hindrance<'a>(telling: &mut Message<'a>, hindrance: &Hindrance<'_, 'a>) {
 
 // The first place that hinders an action or a notification, by way of the `uses` of groupings too.
 fn find_hindrance<'s, 'a>(
-    alloc: Global,
+    tree: &mut Tree<'s, 'a>,
     site: &Site<'s, 'a>,
 ) -> Result<Option<Hindrance<'s, 'a>>, AllocError> {
-    let mut open = Vec::new(alloc);
+    let mut open = Vec::new(tree.alloc());
     push_around(&mut open, site, None, true)?;
     let mut followed: usize = 0;
     for place in 0..MOST_PLACES {
@@ -95,7 +105,7 @@ fn find_hindrance<'s, 'a>(
             push_around(&mut open, &next.around, next.uses, false)?;
         } else if followed < MOST_FOLLOWED {
             followed += 1;
-            push_copies(alloc, &mut open, &next)?;
+            push_copies(tree, &mut open, &next)?;
         }
     }
     Ok(None)
@@ -126,16 +136,15 @@ fn is_copied(site: &Site<'_, '_>) -> bool {
 
 // Adds where in the tree the nodes in a grouping or in an `augment` are.
 fn push_copies<'s, 'a>(
-    alloc: Global,
+    tree: &mut Tree<'s, 'a>,
     open: &mut Vec<Hindrance<'s, 'a>>,
     copied: &Hindrance<'s, 'a>,
 ) -> Result<(), AllocError> {
     let around = &copied.around;
     if !around.is("grouping") {
-        return push_target(alloc, open, copied);
+        return push_target(tree, open, copied);
     }
-    let sites = Sites::all(around.entries).filter(|site| site.is_use_of(around));
-    for uses in sites.take(MOST_USES) {
+    for uses in tree.uses_of(around).take(MOST_USES) {
         push_around(open, &uses, Some(uses), copied.is_direct)?;
     }
     Ok(())
@@ -143,11 +152,11 @@ fn push_copies<'s, 'a>(
 
 // Adds the target of an `augment`.
 fn push_target<'s, 'a>(
-    alloc: Global,
+    tree: &mut Tree<'s, 'a>,
     open: &mut Vec<Hindrance<'s, 'a>>,
     augment: &Hindrance<'s, 'a>,
 ) -> Result<(), AllocError> {
-    if let Some(target) = target_of(&way_of(alloc, &augment.around)?) {
+    if let Some(target) = target_of(&way_of(tree, &augment.around)?) {
         open.push(Hindrance {
             around: target.node,
             uses: augment.uses,
@@ -186,12 +195,12 @@ struct Landing<'s, 'a> {
 // Adds the place of a node in the target of its `augment`, or in the augment, if its target isn't
 // found.
 fn add_target<'s, 'a>(
-    alloc: Global,
+    tree: &mut Tree<'s, 'a>,
     open: &mut Vec<Landing<'s, 'a>>,
     landings: &mut Vec<Landing<'s, 'a>>,
     landing: Landing<'s, 'a>,
 ) -> Result<(), AllocError> {
-    match way_of(alloc, &landing.block)? {
+    match way_of(tree, &landing.block)? {
         Way::To(block) => open.push(Landing {
             node: landing.node,
             block,
@@ -228,11 +237,11 @@ fn namesakes<'s, 'a>(
 
 // Follows each node out of choices, cases and groupings.
 fn follow_out<'s, 'a>(
-    alloc: Global,
+    tree: &mut Tree<'s, 'a>,
     site: &Site<'s, 'a>,
 ) -> Result<Vec<Landing<'s, 'a>>, AllocError> {
-    let mut open = namesakes(alloc, site)?;
-    let mut landings = Vec::new(alloc);
+    let mut open = namesakes(tree.alloc(), site)?;
+    let mut landings = Vec::new(tree.alloc());
     let mut augments: usize = 0;
     for _ in 0..MOST_PLACES {
         let Some(landing) = open.pop() else {
@@ -240,10 +249,10 @@ fn follow_out<'s, 'a>(
         };
         match landing.block.keyword() {
             "choice" | "case" => add_around(&mut open, &landing)?,
-            "grouping" => add_uses(&mut open, &landing)?,
+            "grouping" => add_uses(tree, &mut open, &landing)?,
             "augment" if augments < MOST_FOLLOWED => {
                 augments += 1;
-                add_target(alloc, &mut open, &mut landings, landing)?;
+                add_target(tree, &mut open, &mut landings, landing)?;
             }
             _ => landings.push(landing)?,
         }
@@ -268,12 +277,11 @@ fn add_around<'s, 'a>(
 
 // Adds the places to which the `uses` of a grouping bring a node.
 fn add_uses<'s, 'a>(
+    tree: &Tree<'s, 'a>,
     open: &mut Vec<Landing<'s, 'a>>,
     landing: &Landing<'s, 'a>,
 ) -> Result<(), AllocError> {
-    let grouping = &landing.block;
-    let sites = Sites::all(grouping.entries).filter(|site| site.is_use_of(grouping));
-    for uses in sites.take(MOST_PLACES) {
+    for uses in tree.uses_of(&landing.block).take(MOST_PLACES) {
         if let Some(block) = uses.parent() {
             open.push(Landing {
                 node: landing.node,
@@ -319,7 +327,8 @@ pub fn tell_second_node<'a>(
     site: &Site<'_, 'a>,
 ) -> Result<(), AllocError> {
     telling.sentence(Code::DuplicateNode);
-    let landings = follow_out(telling.alloc(), site)?;
+    let mut tree = Tree::around(telling.alloc(), site)?;
+    let landings = follow_out(&mut tree, site)?;
     for (place, one) in landings.iter().enumerate() {
         if let Some(other) = partner(&landings[..place], site.number, one) {
             if one.node.number == site.number {

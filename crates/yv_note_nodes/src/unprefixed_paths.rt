@@ -1,5 +1,6 @@
 //! Paths whose steps lack the prefix of another module.
 use crate::nodes::{Steps, Way, follow};
+use crate::tree::Tree;
 use std::alloc::{AllocError, Global};
 use yv_link_scopes::prefix_of;
 use yv_note_statements::{Message, Site, Sites};
@@ -28,9 +29,10 @@ fn has_plain_step(path: &str) -> bool {
 
 /// Adds how an absolute path is written, if it leads to a node of an imported module whose prefix
 /// its steps lack.
-pub(crate) fn say_prefixed<'a>(
+pub(crate) fn say_prefixed<'s, 'a>(
     telling: &mut Message<'a>,
-    site: &Site<'_, 'a>,
+    tree: &mut Tree<'s, 'a>,
+    site: &Site<'s, 'a>,
     path: &'a str,
     steps: Steps,
 ) -> Result<(), AllocError> {
@@ -41,7 +43,7 @@ pub(crate) fn say_prefixed<'a>(
         let Some(module) = prefix.meaning() else {
             continue;
         };
-        if let Way::To(_) = follow(telling.alloc(), &module, path, steps)? {
+        if let Way::To(_) = follow(tree, &module, path, steps)? {
             say_path(telling, prefix.argument(), path);
             return Ok(());
         }

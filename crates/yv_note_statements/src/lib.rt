@@ -5,12 +5,14 @@
 mod ancestors;
 mod entry;
 mod guess;
+mod links;
 mod meanings;
 mod pieces;
 mod ring;
 mod sentences;
 mod site;
 mod sites;
+mod statement_lists;
 
 pub use ancestors::{node_above, state_above};
 pub use entry::{StatementEntry, entries};
@@ -23,3 +25,4 @@ pub use ring::say_ring;
 pub use sentences::{Sentence, sentence_of};
 pub use site::{Site, first_in_file, is_among, named_in_file};
 pub use sites::{Children, Sites};
+pub use statement_lists::StatementLists;

@@ -1,5 +1,5 @@
 //! What is said of a refusal, piece by piece.
-ghost use Rattle.std.specs.Prelude.{OnOk, string_bytes};
+ghost use Rattle.std.specs.Prelude.{◌≡◌, IsTrue, OnOk, is_err, string_bytes};
 ghost use Rattle.yv_note_text.specs.Quotes.{Extends, Quotes};
 
 use crate::sentences::sentence_of;
@@ -39,6 +39,8 @@ pub struct Message<'w> {
 }
 
 impl<'w> Message<'w> {
+    ghost use Rattle.yv_note_statements.specs.Messages.{has_failed};
+
     /// Nothing, so far.
     pub fn new(alloc: Global) -> Message<'w> {
         Message {
@@ -195,8 +197,19 @@ impl<'w> Message<'w> {
         self.before.is_empty() && !self.has_subject
     }
 
+    /// Keeps that there was no memory for a part.
+    pub fn fail(&mut self, error: AllocError)
+        // The message has failed.
+        ensures { IsTrue (has_failed self.new) }
+    {
+        self.outcome = Err(error);
+    }
+
     /// Whether there was memory for all that was said.
-    pub fn outcome(&self) -> Result<(), AllocError> {
+    pub fn outcome(&self) -> Result<(), AllocError>
+        // It is an error if the message has failed.
+        ensures { is_err result ≡ has_failed self.now }
+    {
         self.outcome
     }
 }
