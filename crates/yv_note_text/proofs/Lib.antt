@@ -1,1 +1,2 @@
+pub mod CodePoints
 pub mod Quoting

@@ -1,2 +1,3 @@
+pub mod CodePoints
 pub mod Excerpt
 pub mod Quotes
