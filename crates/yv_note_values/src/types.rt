@@ -132,8 +132,8 @@ fn push_whole(
     push_spans(text, whole.spans.spans(), Scale::Places(0))
 }
 
-// How a whole number without quotes is written, by what is written instead. A number past 64 bits is
-// read alike with and without a point or an exponent.
+// How a whole number without quotes is written, by what is written instead. A number past 64 bits
+// is read alike with and without a point or an exponent.
 fn unlike_a_whole_number(value: Option<&Value>) -> &'static str {
     match value {
         Some(Value::Number(number)) if is_whole(number) => "",
