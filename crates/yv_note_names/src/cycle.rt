@@ -1,105 +1,206 @@
 //! The cycle that a refusal is about.
 use std::alloc::{AllocError, Global};
 use yv_link_scopes::{NameKind, NamePlaces, Rows, first_places, local};
-use yv_note_statements::{Message, Site, Sites, say_ring, words_of};
+use yv_note_statements::{Message, Site, Sites, StatementEntry, say_ring, words_of};
 use yv_statement::Code;
+
+// The statements of a keyword in their order, also by the block that they are in, and for each
+// statement of the files the number of the last one in it.
+#[derive(Drop)]
+struct Steps<'s, 'a> {
+    sites: Vec<Site<'s, 'a>>,
+    by_block: Vec<(usize, usize)>,
+    ends: Vec<usize>,
+}
+
+impl<'s, 'a> Steps<'s, 'a> {
+    fn read(
+        alloc: Global,
+        entries: &'s [StatementEntry<'a>],
+        keyword: &str,
+    ) -> Result<Steps<'s, 'a>, AllocError> {
+        let sites: Vec<Site<'s, 'a>> = Sites::all(entries)
+            .filter(|site| site.is(keyword))
+            .collect(alloc)?;
+        let mut by_block = Vec::new(alloc);
+        for (place, site) in sites.iter().enumerate() {
+            by_block.push((site.entry.scope, place))?;
+        }
+        by_block.sort()?;
+        Ok(Steps {
+            sites,
+            by_block,
+            ends: ends_of(alloc, entries)?,
+        })
+    }
+
+    // The blocks and places from those of a block on.
+    fn in_block(&self, number: usize) -> &[(usize, usize)] {
+        let start = self.by_block.partition_point(|(block, _)| *block < number);
+        self.by_block.get(start..).unwrap_or(&[])
+    }
+
+    // The place of the first one after a statement begins.
+    fn after(&self, number: usize) -> usize {
+        self.sites.partition_point(|site| site.number <= number)
+    }
+
+    // The number of the last statement in another one.
+    fn last_in(&self, number: usize) -> usize {
+        self.ends.get(number).copied().unwrap_or(number)
+    }
+}
+
+// For each statement the number of the last one in it, or its own, if there is none.
+fn ends_of(alloc: Global, entries: &[StatementEntry<'_>]) -> Result<Vec<usize>, AllocError> {
+    let mut ends: Vec<usize> = (0..entries.len()).collect(alloc)?;
+    for number in (0..entries.len()).rev() {
+        let end = ends.get(number).copied().unwrap_or(number);
+        if let Some(entry) = entries.get(number) {
+            raise(&mut ends, entry.scope, end);
+        }
+    }
+    Ok(ends)
+}
+
+// Raises the number at a place, if it is lower than this.
+fn raise(numbers: &mut [usize], place: usize, number: usize) {
+    if let Some(other) = numbers.get_mut(place) {
+        *other = number.max(*other);
+    }
+}
 
 // How statements lead to one another: by those of a keyword in them, and by names of features.
 #[derive(Drop)]
-struct Leads<'r, 'a, 'b> {
+struct Leads<'r, 's, 'a, 'b> {
     rows: &'r Rows<'a, 'b>,
     features: NamePlaces<'a>,
-    keyword: &'r str,
+    steps: Steps<'s, 'a>,
 }
 
-impl<'r, 'a, 'b> Leads<'r, 'a, 'b> {
+impl<'r, 's, 'a, 'b> Leads<'r, 's, 'a, 'b> {
     fn read(
         alloc: Global,
         rows: &'r Rows<'a, 'b>,
-        keyword: &'r str,
-    ) -> Result<Leads<'r, 'a, 'b>, AllocError> {
+        entries: &'s [StatementEntry<'a>],
+        keyword: &str,
+    ) -> Result<Leads<'r, 's, 'a, 'b>, AllocError> {
         let features = first_places(alloc, NameKind::Feature, rows)?;
+        let steps = Steps::read(alloc, entries, keyword)?;
         Ok(Leads {
             rows,
             features,
-            keyword,
+            steps,
         })
     }
 
     // The feature that a name in a statement means.
-    fn feature<'s>(&self, site: &Site<'s, 'a>, name: &'a str) -> Option<Site<'s, 'a>> {
+    fn feature(&self, site: &Site<'s, 'a>, name: &'a str) -> Option<Site<'s, 'a>> {
         let block = self.rows.block_of(site.entry.file as usize, name)?;
         Site::at(site.entries, self.features.get(block, local(name))?)
     }
 
-    // The statements to which one leads.
-    fn next_sites<'s>(
+    // Reaches the statements to which one leads: a root by those of its block, another one by those
+    // at any depth.
+    fn reach_from(
         &self,
         alloc: Global,
+        search: &mut Search<'s, 'a>,
         site: &Site<'s, 'a>,
-    ) -> Result<Vec<Site<'s, 'a>>, AllocError> {
-        let mut next = Vec::new(alloc);
-        for inner in inside(alloc, site)?.iter() {
-            if inner.is(self.keyword) {
-                self.add_meanings(alloc, inner, &mut next)?;
+    ) -> Result<(), AllocError> {
+        if site.is_root() {
+            return self.reach_from_root(alloc, search, site);
+        }
+        let last = self.steps.last_in(site.number);
+        for place in self.steps.after(site.number)..self.steps.sites.len() {
+            match self.steps.sites.get(place) {
+                Some(step) if step.number <= last => {
+                    self.reach_by(alloc, search, place, site.number)?;
+                }
+                _ => break,
             }
         }
-        Ok(next)
+        Ok(())
     }
 
-    // Adds what the argument of a statement means.
-    fn add_meanings<'s>(
+    fn reach_from_root(
         &self,
         alloc: Global,
-        site: &Site<'s, 'a>,
-        sites: &mut Vec<Site<'s, 'a>>,
+        search: &mut Search<'s, 'a>,
+        root: &Site<'s, 'a>,
     ) -> Result<(), AllocError> {
-        if let Some(meaning) = site.meaning() {
-            sites.push(meaning)?;
+        for (block, place) in self.steps.in_block(root.number) {
+            if *block != root.number {
+                break;
+            }
+            self.reach_by(alloc, search, *place, root.number)?;
         }
-        if site.is("if-feature") {
-            for word in words_of(alloc, site.argument())?.iter() {
-                if let Some(feature) = self.feature(site, word) {
-                    sites.push(feature)?;
+        Ok(())
+    }
+
+    // Reaches from a statement what the argument of the one at this place means. What was reached
+    // by it before is not looked for again.
+    fn reach_by(
+        &self,
+        alloc: Global,
+        search: &mut Search<'s, 'a>,
+        place: usize,
+        from: usize,
+    ) -> Result<(), AllocError> {
+        match self.steps.sites.get(place) {
+            Some(step) if search.take(place) => self.reach_meanings(alloc, search, step, from),
+            _ => Ok(()),
+        }
+    }
+
+    fn reach_meanings(
+        &self,
+        alloc: Global,
+        search: &mut Search<'s, 'a>,
+        step: &Site<'s, 'a>,
+        from: usize,
+    ) -> Result<(), AllocError> {
+        if let Some(meaning) = step.meaning() {
+            search.reach(&meaning, from)?;
+        }
+        if step.is("if-feature") {
+            for word in words_of(alloc, step.argument())?.iter() {
+                if let Some(feature) = self.feature(step, word) {
+                    search.reach(&feature, from)?;
                 }
             }
         }
         Ok(())
     }
 
-    // The statements that are reached from `start`, beginning with `first`, until it is reached
-    // again. None, if it isn't reached again.
-    fn search<'s>(
+    // Whether `start` is reached from the statements that were reached so far.
+    fn leads_back(
         &self,
         alloc: Global,
+        search: &mut Search<'s, 'a>,
         start: &Site<'s, 'a>,
-        first: &[Site<'s, 'a>],
-    ) -> Result<Option<Search<'s, 'a>>, AllocError> {
-        let count = start.entries.len();
-        let mut search = Search::new(alloc, count)?;
-        search.reach_all(first, start.number)?;
-        for step in 0..count {
+    ) -> Result<bool, AllocError> {
+        for step in 0..start.entries.len() {
             let Some(site) = search.found.get(step).copied() else {
-                return Ok(None);
+                return Ok(false);
             };
             if site.number == start.number {
-                return Ok(Some(search));
+                return Ok(true);
             }
-            let next = self.next_sites(alloc, &site)?;
-            search.reach_all(&next, site.number)?;
+            self.reach_from(alloc, search, &site)?;
         }
-        Ok(None)
+        Ok(false)
     }
 
     // Adds the statements on a way from this one back to itself, if there is one whose first step
-    // is to one of these.
+    // is to one of those that were reached so far.
     fn say_cycle(
         &self,
         telling: &mut Message<'a>,
-        start: &Site<'_, 'a>,
-        first: &[Site<'_, 'a>],
+        search: &mut Search<'s, 'a>,
+        start: &Site<'s, 'a>,
     ) -> Result<(), AllocError> {
-        if let Some(search) = self.search(telling.alloc(), start, first)? {
+        if self.leads_back(telling.alloc(), search, start)? {
             let mut way = search.way_back(telling.alloc(), start.number)?;
             way.reverse();
             say_ring(telling, start, &way);
@@ -108,30 +209,33 @@ impl<'r, 'a, 'b> Leads<'r, 'a, 'b> {
     }
 }
 
-// The statements in a statement: of a root those of its block, else those at any depth.
-fn inside<'s, 'a>(alloc: Global, site: &Site<'s, 'a>) -> Result<Vec<Site<'s, 'a>>, AllocError> {
-    if site.is_root() {
-        return site.children().collect(alloc);
-    }
-    Sites::after(site.entries, site.number)
-        .take_while(|inner| inner.entry.scope >= site.number)
-        .collect(alloc)
-}
-
 // Statements that were reached, in the order in which they were, each with the number of the one
-// that leads to it.
+// that leads to it; and which of the statements of the keyword were taken.
 #[derive(Drop)]
 struct Search<'s, 'a> {
     found: Vec<Site<'s, 'a>>,
     from: Vec<Option<usize>>,
+    are_taken: Vec<bool>,
 }
 
 impl<'s, 'a> Search<'s, 'a> {
-    fn new(alloc: Global, count: usize) -> Result<Search<'s, 'a>, AllocError> {
+    fn new(alloc: Global, leads: &Leads<'_, 's, 'a, '_>) -> Result<Search<'s, 'a>, AllocError> {
         Ok(Search {
             found: Vec::new(alloc),
-            from: vec![in alloc; None; count]?,
+            from: vec![in alloc; None; leads.steps.ends.len()]?,
+            are_taken: vec![in alloc; false; leads.steps.sites.len()]?,
         })
+    }
+
+    // Takes the statement of the keyword at a place. False if it was taken before.
+    fn take(&mut self, place: usize) -> bool {
+        match self.are_taken.get_mut(place) {
+            Some(is_taken) if !*is_taken => {
+                *is_taken = true;
+                true
+            }
+            _ => false,
+        }
     }
 
     // Reaches a statement from another one, unless it was reached before.
@@ -139,13 +243,6 @@ impl<'s, 'a> Search<'s, 'a> {
         if let Some(None) = self.from.get(site.number) {
             self.found.push(*site)?;
             self.from[site.number] = Some(from);
-        }
-        Ok(())
-    }
-
-    fn reach_all(&mut self, sites: &[Site<'s, 'a>], from: usize) -> Result<(), AllocError> {
-        for site in sites {
-            self.reach(site, from)?;
         }
         Ok(())
     }
@@ -177,9 +274,13 @@ pub fn tell_imports<'a>(
     import: &Site<'_, 'a>,
 ) -> Result<(), AllocError> {
     telling.sentence(Code::ImportCycle);
-    let leads = Leads::read(telling.alloc(), rows, "import")?;
+    let leads = Leads::read(telling.alloc(), rows, import.entries, "import")?;
     match (import.module(), import.meaning()) {
-        (Some(own), Some(first)) => leads.say_cycle(telling, &own, &[first]),
+        (Some(own), Some(first)) => {
+            let mut search = Search::new(telling.alloc(), &leads)?;
+            search.reach(&first, own.number)?;
+            leads.say_cycle(telling, &mut search, &own)
+        }
         _ => Ok(()),
     }
 }
@@ -192,7 +293,8 @@ pub fn tell_cycle<'a>(
     site: &Site<'_, 'a>,
     keyword: &str,
 ) -> Result<(), AllocError> {
-    let leads = Leads::read(telling.alloc(), rows, keyword)?;
-    let first = leads.next_sites(telling.alloc(), site)?;
-    leads.say_cycle(telling, site, &first)
+    let leads = Leads::read(telling.alloc(), rows, site.entries, keyword)?;
+    let mut search = Search::new(telling.alloc(), &leads)?;
+    leads.reach_from(telling.alloc(), &mut search, site)?;
+    leads.say_cycle(telling, &mut search, site)
 }

@@ -1,9 +1,12 @@
 //! Names that are defined twice, or not at all.
+use crate::prefixes::Prefixes;
 use std::alloc::{AllocError, Global};
+use std::collections::BTreeMap;
 use yv_link_definitions::{BUILT_INS, is_built_in};
+use yv_link_scopes::local;
 use yv_note_statements::{
-    Guess, Message, Site, Sites, definition, is_among, nearest_definition, prefix_of_module,
-    say_guess, words_of,
+    Guess, Message, Site, Sites, is_among, nearest_definition, prefix_of_module, say_guess,
+    words_of,
 };
 use yv_note_text::Likeness;
 use yv_statement::Code;
@@ -34,12 +37,16 @@ fn other_name(written: &str) -> Option<&'static str> {
 // Whether a statement gives another one's name a second time: of a file or of a definition of the
 // same kind.
 fn is_namesake(one: &Site<'_, '_>, other: &Site<'_, '_>) -> bool {
-    let are_kin = if other.is_root() {
+    one.number != other.number && one.argument() == other.argument() && are_kin(one, other)
+}
+
+// Whether both are files, or the one is of the other's keyword and in a block around it.
+fn are_kin(one: &Site<'_, '_>, other: &Site<'_, '_>) -> bool {
+    if other.is_root() {
         one.is_root()
     } else {
         one.keyword() == other.keyword() && is_visible(one, other)
-    };
-    are_kin && one.argument() == other.argument() && one.number != other.number
+    }
 }
 
 // Whether a statement is in the block of another one, or in a block around that.
@@ -178,14 +185,43 @@ fn say_nearest<'a>(telling: &mut Message<'a>, site: &Site<'_, 'a>, keyword: &str
     );
 }
 
+// Names in an expression that are not known as features so far: for each module and name its place
+// among the words of the expression.
+type Unknown<'a> = BTreeMap<(usize, &'a [u8]), usize>;
+
+// The names in words up to the first one that means nothing, and how many words these are.
+fn names_in<'a>(
+    alloc: Global,
+    site: &Site<'_, 'a>,
+    words: &[&'a str],
+) -> Result<(Unknown<'a>, usize), AllocError> {
+    let prefixes = Prefixes::read(alloc, site)?;
+    let mut names = BTreeMap::new(alloc);
+    for (place, word) in words.iter().enumerate() {
+        if is_among(word, "and or not") {
+            continue;
+        }
+        let Some(module) = prefixes.module_of(site, word) else {
+            return Ok((names, place));
+        };
+        let name = (module.number, local(word).as_bytes());
+        let _ = names.entry(name)?.or_insert(place);
+    }
+    Ok((names, words.len()))
+}
+
 // The first name of an expression that is not that of a feature.
 fn unknown_feature<'a>(alloc: Global, site: &Site<'_, 'a>) -> Result<Option<&'a str>, AllocError> {
     let words = words_of(alloc, site.argument())?;
-    Ok(
-        words.iter().copied().find(|word| {
-            !is_among(word, "and or not") && definition(site, "feature", word).is_none()
-        }),
-    )
+    let (mut unknown, count) = names_in(alloc, site, &words)?;
+    for feature in Sites::all(site.entries) {
+        if feature.is("feature") {
+            let name = (feature.entry.scope, feature.argument().as_bytes());
+            let _ = unknown.remove(&name);
+        }
+    }
+    let first = unknown.values().copied().min().unwrap_or(count);
+    Ok(words.get(first.min(count)).copied())
 }
 
 /// Adds which feature is not defined, and what may be meant.

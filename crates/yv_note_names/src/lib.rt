@@ -4,6 +4,7 @@
 mod cycle;
 mod definitions;
 mod modules;
+mod prefixes;
 
 pub use cycle::{tell_cycle, tell_imports};
 pub use definitions::{

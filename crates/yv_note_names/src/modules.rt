@@ -1,4 +1,5 @@
 //! Modules, submodules, revisions and prefixes.
+use crate::prefixes::Prefixes;
 use std::alloc::{AllocError, Global};
 use yv_link_scopes::prefix_of;
 use yv_note_statements::{
@@ -10,7 +11,7 @@ use yv_statement::Code;
 // The file whose name is most like one that was written.
 fn nearest_file<'a>(entries: &[StatementEntry<'a>], written: &str) -> Option<Guess<'a>> {
     Sites::all(entries)
-        .filter(|site| site.is_root())
+        .take_while(|site| site.is_root())
         .fold(None, |nearest, file| {
             Guess::nearer(nearest, Guess::of(written, file.argument(), None))
         })
@@ -77,12 +78,15 @@ fn undeclared_prefix<'a>(
     site: &Site<'_, 'a>,
 ) -> Result<Option<&'a str>, AllocError> {
     let words = words_of(alloc, site.argument())?;
-    Ok(
-        words
-            .iter()
-            .filter_map(|word| prefix_of(word))
-            .find(|prefix| declaration(site, prefix).is_none()),
-    )
+    let prefixes = Prefixes::read(alloc, site)?;
+    for word in words.iter() {
+        if let Some(prefix) = prefix_of(word) {
+            if prefixes.declaration(prefix).is_none() {
+                return Ok(Some(prefix));
+            }
+        }
+    }
+    Ok(None)
 }
 
 /// Adds which prefix is not declared, or is declared twice.

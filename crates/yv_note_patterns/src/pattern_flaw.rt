@@ -1,9 +1,9 @@
 //! What in a pattern is outside the dialect of regular expressions, and at which character.
-use crate::pattern_class::{Sign, class_end, item_size};
+use crate::pattern_class::{Sign, character_size, class_end, item_size};
 use std::alloc::{AllocError, Global};
 
-/// What is wrong in a pattern: how many characters after the first it begins, how many it has, and
-/// what is said of it.
+/// What is wrong in a pattern: how many bytes are before it, how many it has, and what is said of
+/// it.
 #[derive(Clone, Copy)]
 pub(crate) struct Flaw {
     pub(crate) start: usize,
@@ -20,7 +20,7 @@ impl Flaw {
         }
     }
 
-    /// The same in a text in which so many more characters are before it.
+    /// The same in a text in which so many more bytes are before it.
     pub(crate) fn after(self, count: usize) -> Flaw {
         Flaw::new(self.start.saturating_add(count), self.size, self.advice)
     }
@@ -46,7 +46,7 @@ enum Kind {
     Class,
 }
 
-// A part of a pattern, and how many characters it has.
+// A part of a pattern, and how many bytes it has. A character of several bytes is so many atoms.
 #[derive(Clone, Copy)]
 struct Part {
     kind: Kind,
@@ -68,7 +68,7 @@ struct Reader {
 
 impl Reader {
     // The size of what is next, or what is wrong with it.
-    fn read(&mut self, rest: &[char], at: usize) -> Result<Result<usize, Flaw>, AllocError> {
+    fn read(&mut self, rest: &[u8], at: usize) -> Result<Result<usize, Flaw>, AllocError> {
         if self.class.is_some() {
             return Ok(self.read_item(rest));
         }
@@ -79,7 +79,7 @@ impl Reader {
     }
 
     // The same in a class.
-    fn read_item(&mut self, rest: &[char]) -> Result<usize, Flaw> {
+    fn read_item(&mut self, rest: &[u8]) -> Result<usize, Flaw> {
         let is_first = self.is_first;
         self.is_first = false;
         if class_end(rest) {
@@ -156,28 +156,32 @@ fn new_part(kind: Kind, size: usize) -> Result<Part, Flaw> {
 }
 
 // The part at the front of a text that isn't in a class.
-fn part_at(rest: &[char]) -> Result<Part, Flaw> {
+fn part_at(rest: &[u8]) -> Result<Part, Flaw> {
     match rest {
-        ['\\', after @ ..] => new_part(Kind::Atom, escape_size(after)?),
-        ['(', '?', ..] => Err(Flaw::new(0, 2, " Groups have no options here: write a plain `(`.")),
-        ['(', ..] => new_part(Kind::Opening, 1),
-        [')', ..] => new_part(Kind::Closing, 1),
-        ['|', ..] => new_part(Kind::Bar, 1),
-        ['*' | '+' | '?', ..] => new_part(Kind::Quantifier, 1),
-        ['{', after @ ..] => new_part(Kind::Quantifier, count_size(after)?),
-        ['[', '^', ..] => new_part(Kind::Class, 2),
-        ['[', ..] => new_part(Kind::Class, 1),
-        ['}', ..] => Err(Flaw::new(0, 1, " Write `\\}` for the character.")),
-        [']', ..] => Err(Flaw::new(0, 1, " Write `\\]` for the character.")),
+        [b'\\', after @ ..] => new_part(Kind::Atom, escape_size(after)?),
+        [b'(', b'?', ..] => Err(Flaw::new(
+            0,
+            2,
+            " Groups have no options here: write a plain `(`.",
+        )),
+        [b'(', ..] => new_part(Kind::Opening, 1),
+        [b')', ..] => new_part(Kind::Closing, 1),
+        [b'|', ..] => new_part(Kind::Bar, 1),
+        [b'*' | b'+' | b'?', ..] => new_part(Kind::Quantifier, 1),
+        [b'{', after @ ..] => new_part(Kind::Quantifier, count_size(after)?),
+        [b'[', b'^', ..] => new_part(Kind::Class, 2),
+        [b'[', ..] => new_part(Kind::Class, 1),
+        [b'}', ..] => Err(Flaw::new(0, 1, " Write `\\}` for the character.")),
+        [b']', ..] => Err(Flaw::new(0, 1, " Write `\\]` for the character.")),
         _ => new_part(Kind::Atom, 1),
     }
 }
 
-// How many characters an escape has, by those after its backslash.
-fn escape_size(after: &[char]) -> Result<usize, Flaw> {
+// How many bytes an escape has, by those after its backslash.
+fn escape_size(after: &[u8]) -> Result<usize, Flaw> {
     match after {
-        ['d' | 'D' | 's' | 'S' | 'w' | 'W', ..] => Ok(2),
-        ['p' | 'P', name @ ..] => category_size(name),
+        [b'd' | b'D' | b's' | b'S' | b'w' | b'W', ..] => Ok(2),
+        [b'p' | b'P', name @ ..] => category_size(name),
         _ => match Sign::of_escape(after) {
             Some(_) => Ok(2),
             None => Err(escape_flaw(after)),
@@ -186,43 +190,46 @@ fn escape_size(after: &[char]) -> Result<usize, Flaw> {
 }
 
 /// What is wrong with an escape that doesn't exist, by what is after its backslash.
-pub(crate) fn escape_flaw(after: &[char]) -> Flaw {
+pub(crate) fn escape_flaw(after: &[u8]) -> Flaw {
     match after.first() {
-        Some(letter) => Flaw::new(0, 2, escape_advice(*letter)),
+        Some(letter) => {
+            let size = character_size(*letter).saturating_add(1);
+            Flaw::new(0, size, escape_advice(*letter))
+        }
         None => Flaw::new(0, 1, " Write the backslash twice for the character."),
     }
 }
 
-fn escape_advice(letter: char) -> &'static str {
+fn escape_advice(letter: u8) -> &'static str {
     match letter {
-        'b' | 'B' => " There are no word boundaries; a pattern matches the whole value anyway.",
-        'A' | 'z' | 'Z' => " There are no anchors; a pattern matches the whole value anyway.",
-        'i' => " Write `[\\p{L}_:]` for it.",
-        'c' => " Write `[\\p{L}\\p{Nd}._:\\-]` for it.",
-        'I' | 'C' => " Write a class with `[^` for it.",
-        'x' | 'u' | 'U' | 'f' | 'v' | 'a' | 'e' | '0' => " Write the character itself.",
-        '1' | '2' | '3' | '4' | '5' | '6' | '7' | '8' | '9' => {
+        b'b' | b'B' => " There are no word boundaries; a pattern matches the whole value anyway.",
+        b'A' | b'z' | b'Z' => " There are no anchors; a pattern matches the whole value anyway.",
+        b'i' => " Write `[\\p{L}_:]` for it.",
+        b'c' => " Write `[\\p{L}\\p{Nd}._:\\-]` for it.",
+        b'I' | b'C' => " Write a class with `[^` for it.",
+        b'x' | b'u' | b'U' | b'f' | b'v' | b'a' | b'e' | b'0' => " Write the character itself.",
+        b'1' | b'2' | b'3' | b'4' | b'5' | b'6' | b'7' | b'8' | b'9' => {
             " There are no references to groups."
         }
-        'h' | 'H' | 'N' | 'R' | 'X' | 'V' => " Write a class for it.",
+        b'h' | b'H' | b'N' | b'R' | b'X' | b'V' => " Write a class for it.",
         _ =>
             " There is no such escape: leave the backslash out, or write it twice for the character.",
     }
 }
 
-/// How many characters a category has with its backslash, by what is after `\p`.
-pub(crate) fn category_size(after: &[char]) -> Result<usize, Flaw> {
-    let ['{', name @ ..] = after else {
+/// How many bytes a category has with its backslash, by what is after `\p`.
+pub(crate) fn category_size(after: &[u8]) -> Result<usize, Flaw> {
+    let [b'{', name @ ..] = after else {
         return Err(Flaw::new(0, 2, " A category is in braces, as in `\\p{L}`."));
     };
-    let Some(length) = name.iter().position(|character| *character == '}') else {
+    let Some(length) = name.iter().position(|byte| *byte == b'}') else {
         return Err(Flaw::new(0, 3, " A category ends with `}`."));
     };
     let size = length.saturating_add(4);
     match name {
-        ['I', 's' | 'n', ..] => Err(Flaw::new(0, size, BLOCK)),
-        [first, '}', ..] if has_seconds(*first) => Ok(size),
-        [first, second, '}', ..] if is_second(*first, *second) => Ok(size),
+        [b'I', b's' | b'n', ..] => Err(Flaw::new(0, size, BLOCK)),
+        [first, b'}', ..] if has_seconds(*first) => Ok(size),
+        [first, second, b'}', ..] if is_second(*first, *second) => Ok(size),
         _ => Err(Flaw::new(0, size, CATEGORY)),
     }
 }
@@ -233,34 +240,32 @@ const CATEGORY: &str =
     " There is no such category: the names are those of Unicode with one or two letters, such as `L` and `Nd`.";
 
 // Whether categories begin with a letter.
-fn has_seconds(first: char) -> bool {
+fn has_seconds(first: u8) -> bool {
     !seconds_of(first).is_empty()
 }
 
 // Whether there is a category of these two letters.
-fn is_second(first: char, second: char) -> bool {
-    seconds_of(first)
-        .chars()
-        .any(|character| character == second)
+fn is_second(first: u8, second: u8) -> bool {
+    seconds_of(first).as_bytes().contains(&second)
 }
 
 // The second letters of categories with this first one.
-fn seconds_of(first: char) -> &'static str {
+fn seconds_of(first: u8) -> &'static str {
     match first {
-        'L' => "ultmo",
-        'M' => "nce",
-        'N' => "dlo",
-        'P' => "cdseifo",
-        'Z' => "slp",
-        'S' => "mcko",
-        'C' => "cfon",
+        b'L' => "ultmo",
+        b'M' => "nce",
+        b'N' => "dlo",
+        b'P' => "cdseifo",
+        b'Z' => "slp",
+        b'S' => "mcko",
+        b'C' => "cfon",
         _ => "",
     }
 }
 
-// How many characters a count has with its braces, by those after the first.
-fn count_size(after: &[char]) -> Result<usize, Flaw> {
-    let Some(length) = after.iter().position(|character| *character == '}') else {
+// How many bytes a count has with its braces, by those after the first.
+fn count_size(after: &[u8]) -> Result<usize, Flaw> {
+    let Some(length) = after.iter().position(|byte| *byte == b'}') else {
         return Err(Flaw::new(
             0,
             1,
@@ -276,8 +281,8 @@ fn count_size(after: &[char]) -> Result<usize, Flaw> {
 }
 
 // What is wrong with what is in the braces of a count.
-fn count_advice(inner: &[char]) -> Option<&'static str> {
-    let comma = inner.iter().position(|character| *character == ',');
+fn count_advice(inner: &[u8]) -> Option<&'static str> {
+    let comma = inner.iter().position(|byte| *byte == b',');
     let length = comma.unwrap_or(inner.len());
     let low = inner.get(..length).unwrap_or(&[]);
     let high = inner.get(length.saturating_add(1)..).unwrap_or(&[]);
@@ -315,13 +320,13 @@ fn too_many(number: u32) -> Option<&'static str> {
 
 // The number that digits write, or a higher one than 1,000. None if there are none, or other
 // characters.
-fn number_of(text: &[char]) -> Option<u32> {
+fn number_of(text: &[u8]) -> Option<u32> {
     if text.is_empty() {
         return None;
     }
     let mut number: u32 = 0;
-    for character in text {
-        let digit = character.to_digit(10)?;
+    for byte in text {
+        let digit = char::from(*byte).to_digit(10)?;
         number = number
             .saturating_mul(10)
             .saturating_add(digit)
@@ -330,17 +335,9 @@ fn number_of(text: &[char]) -> Option<u32> {
     Some(number)
 }
 
-fn characters_of(alloc: Global, text: &str) -> Result<Vec<char>, AllocError> {
-    let mut characters = Vec::new(alloc);
-    for character in text.chars() {
-        characters.push(character)?;
-    }
-    Ok(characters)
-}
-
 /// The first flaw of a pattern. Takes time linear in the pattern.
 pub(crate) fn flaw_of(alloc: Global, text: &str) -> Result<Option<Flaw>, AllocError> {
-    let characters = characters_of(alloc, text)?;
+    let bytes = text.as_bytes();
     let mut reader = Reader {
         last: Last::Start,
         groups: Vec::new(alloc),
@@ -348,8 +345,8 @@ pub(crate) fn flaw_of(alloc: Global, text: &str) -> Result<Option<Flaw>, AllocEr
         is_first: false,
     };
     let mut at: usize = 0;
-    for _ in 0..characters.len() {
-        let rest = characters.get(at..).unwrap_or(&[]);
+    for _ in 0..bytes.len() {
+        let rest = bytes.get(at..).unwrap_or(&[]);
         if rest.is_empty() {
             break;
         }

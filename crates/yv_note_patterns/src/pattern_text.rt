@@ -13,27 +13,27 @@ pub fn tell_pattern<'a>(telling: &mut Message<'a>, text: &'a str) -> Result<(), 
             part_of(text, flaw.start, flaw.size).unwrap_or(text),
             "",
         );
-        telling.count(" at character ", flaw.start.saturating_add(1) as u64, ".");
+        let before = count_characters(text, flaw.start);
+        telling.count(" at character ", before.saturating_add(1) as u64, ".");
         telling.say(flaw.advice);
     }
     Ok(())
 }
 
-// So many characters of a text, after the first ones.
-fn part_of(text: &str, start: usize, count: usize) -> Option<&str> {
-    let from = size_of(text, start);
-    let to = size_of(text, start.saturating_add(count));
-    match str::from_utf8(text.as_bytes().get(from..to)?) {
+// So many bytes of a text, after the first ones.
+fn part_of(text: &str, start: usize, size: usize) -> Option<&str> {
+    let end = start.saturating_add(size).min(text.len());
+    match str::from_utf8(text.as_bytes().get(start..end)?) {
         Ok(part) => Some(part),
         Err(_) => None,
     }
 }
 
-// How many bytes the first characters of a text have.
-fn size_of(text: &str, count: usize) -> usize {
-    let mut size: usize = 0;
-    for character in text.chars().take(count) {
-        size = size.saturating_add(character.len_utf8());
-    }
-    size
+// How many characters begin in the first bytes of a text.
+fn count_characters(text: &str, size: usize) -> usize {
+    text.as_bytes()
+        .iter()
+        .take(size)
+        .filter(|byte| !matches!(**byte, 0x80..=0xBF))
+        .count()
 }

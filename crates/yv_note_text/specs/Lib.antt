@@ -1,2 +1,4 @@
+pub mod Alike
+pub mod CodePoints
 pub mod Excerpt
 pub mod Quotes

@@ -1,11 +1,16 @@
 //! Defaults of leafs and leaf-lists.
-use crate::values::{are_same, is_no_value, say_values};
+use crate::same_values::first_repeated;
+use crate::unread::first_unread;
+use crate::values::say_values;
 use std::alloc::{AllocError, Global};
 use yv_note_statements::{Message, Site, Sites, chain, last_step, state_above};
 use yv_statement::Code;
 
 /// How many defaults a leaf-list has at most.
 const MOST_DEFAULTS: usize = 1024;
+
+/// How many defaults are compared with the values of the type.
+const MOST_READ: usize = 32;
 
 /// Adds what is wrong with the defaults of a leaf or a leaf-list.
 pub fn tell_default<'a>(telling: &mut Message<'a>, site: &Site<'_, 'a>) -> Result<(), AllocError> {
@@ -132,13 +137,14 @@ fn tell_values<'a>(
         );
         return Ok(());
     }
-    if let Some(default) = first_unread(types, defaults) {
+    let first = &defaults[..defaults.len().min(MOST_READ)];
+    if let Some(default) = first_unread(telling.alloc(), types, first)? {
         telling.quote("The default ", default.argument(), "");
         telling.point(" at ", &default, "");
         telling.subject(" is not a value of ", ".");
         return say_values(telling, types, &default);
     }
-    match first_repeated(types, defaults) {
+    match first_repeated(telling.alloc(), types, defaults)? {
         Some((first, second)) if state_above(node).is_none() => {
             say_same(telling, &first, &second);
         }
@@ -148,45 +154,6 @@ fn tell_values<'a>(
         ),
     }
     Ok(())
-}
-
-/// How many defaults are looked at.
-const MOST_READ: usize = 32;
-
-// The first of these defaults that is surely not a value.
-fn first_unread<'s, 'a>(types: &[Site<'s, 'a>], defaults: &[Site<'s, 'a>]) -> Option<Site<'s, 'a>> {
-    defaults
-        .iter()
-        .copied()
-        .take(MOST_READ)
-        .find(|default| is_no_value(types, default.argument()))
-}
-
-// The first of these defaults that is the same value as one before it, after that one.
-fn first_repeated<'s, 'a>(
-    types: &[Site<'s, 'a>],
-    defaults: &[Site<'s, 'a>],
-) -> Option<(Site<'s, 'a>, Site<'s, 'a>)> {
-    for (place, default) in defaults.iter().enumerate() {
-        if let Some(first) = first_same(types, defaults, place, default.argument()) {
-            return Some((first, *default));
-        }
-    }
-    None
-}
-
-// The first of so many defaults that is the same value as this one.
-fn first_same<'s, 'a>(
-    types: &[Site<'s, 'a>],
-    defaults: &[Site<'s, 'a>],
-    count: usize,
-    value: &str,
-) -> Option<Site<'s, 'a>> {
-    defaults
-        .iter()
-        .copied()
-        .take(count)
-        .find(|default| are_same(types, default.argument(), value))
 }
 
 // Adds that two defaults are the same value.

@@ -1,4 +1,5 @@
 //! Ranges, lengths and patterns.
+use crate::spread::Spread;
 use std::alloc::{AllocError, Global};
 use yv_base_numbers::{Integer, integer_of, is_at_most, scaled_of};
 use yv_note_statements::{Message, Site, chain};
@@ -67,32 +68,52 @@ impl<'a> Reading<'a> {
         }
     }
 
+    // Most parts are a number without blanks, which is read only once.
     fn part(&self, written: &'a str) -> Option<Part<'a>> {
+        if let Some(only) = bound_of(self.digits, written) {
+            return Some(Part {
+                low: only,
+                high: only,
+            });
+        }
         let (low, high) = written.split_once("..").unwrap_or((written, written));
         let low = self.bound_in(low)?;
         let high = self.bound_in(high)?;
         Some(Part { low, high })
     }
 
-    /// Whether a number is in a part of a restriction that is read like this.
-    pub(crate) fn is_in(&self, restriction: &'a str, number: Integer) -> bool {
+    // The first part of a restriction that can be read.
+    fn first_part(&self, restriction: &'a str) -> Option<Part<'a>> {
         for written in restriction.split('|') {
-            if self.part(written).is_some_and(|part| part.has(number)) {
-                return true;
+            if let Some(part) = self.part(written) {
+                return Some(part);
             }
         }
-        false
+        None
+    }
+
+    // The last part of a restriction that can be read.
+    fn last_part(&self, restriction: &'a str) -> Option<Part<'a>> {
+        for written in restriction.rsplit('|') {
+            if let Some(part) = self.part(written) {
+                return Some(part);
+            }
+        }
+        None
+    }
+
+    /// Marks the numbers that are in a part of a restriction that is read like this.
+    pub(crate) fn mark(&self, restriction: &'a str, spread: &mut Spread) {
+        for written in restriction.split('|') {
+            if let Some(part) = self.part(written) {
+                spread.mark(part.low.number, part.high.number);
+            }
+        }
     }
 
     /// Whether a number is between the least and the greatest.
     pub(crate) fn is_within(&self, number: Integer) -> bool {
         is_at_most(self.least.number, number) && is_at_most(number, self.greatest.number)
-    }
-}
-
-impl Part<'_> {
-    fn has(&self, number: Integer) -> bool {
-        is_at_most(self.low.number, number) && is_at_most(number, self.high.number)
     }
 }
 
@@ -162,18 +183,15 @@ fn narrow<'a>(reading: Reading<'a>, restriction: Option<Site<'_, 'a>>) -> Readin
     let Some(restriction) = restriction else {
         return reading;
     };
-    let mut narrow = reading;
-    let mut is_first = true;
-    for written in restriction.argument().split('|') {
-        if let Some(part) = reading.part(written) {
-            if is_first {
-                narrow.least = part.low;
-            }
-            narrow.greatest = part.high;
-            is_first = false;
-        }
+    let written = restriction.argument();
+    match (reading.first_part(written), reading.last_part(written)) {
+        (Some(first), Some(last)) => Reading {
+            digits: reading.digits,
+            least: first.low,
+            greatest: last.high,
+        },
+        _ => reading,
     }
-    narrow
 }
 
 /// Adds what is wrong with a `range` or a `length`.
@@ -198,10 +216,7 @@ enum Fault<'a> {
 
 impl<'a> Reading<'a> {
     // What is wrong with a part that comes after one that ends with this bound.
-    fn fault(&self, written: &'a str, before: Option<Bound<'a>>) -> Option<Fault<'a>> {
-        let Some(part) = self.part(written) else {
-            return Some(Fault::Unread(written.trim()));
-        };
+    fn fault(&self, part: &Part<'a>, before: Option<Bound<'a>>) -> Option<Fault<'a>> {
         let (low, high) = (part.low, part.high);
         if is_below(high.number, low.number) {
             return Some(Fault::Order(low, " is above ", high));
@@ -231,14 +246,15 @@ const OVERLAPPING: &str = " has to be above the part before it, which ends with 
 fn say_parts<'a>(telling: &mut Message<'a>, site: &Site<'_, 'a>, reading: &Reading<'a>) {
     let mut before: Option<Bound<'a>> = None;
     for written in site.argument().split('|') {
-        if let Some(fault) = reading.fault(written, before) {
+        let Some(part) = reading.part(written) else {
+            say_fault(telling, reading, Fault::Unread(written.trim()));
+            return;
+        };
+        if let Some(fault) = reading.fault(&part, before) {
             say_fault(telling, reading, fault);
             return;
         }
-        before = match reading.part(written) {
-            Some(part) => Some(part.high),
-            None => None,
-        };
+        before = Some(part.high);
     }
     telling.say(" A part of it is between two parts of the type that is restricted.");
 }

@@ -132,10 +132,12 @@ fn push_whole(
     push_spans(text, whole.spans.spans(), Scale::Places(0))
 }
 
-// How a whole number without quotes is written, by what is written instead.
+// How a whole number without quotes is written, by what is written instead. A number past 64 bits
+// is read alike with and without a point or an exponent.
 fn unlike_a_whole_number(value: Option<&Value>) -> &'static str {
     match value {
         Some(Value::Number(number)) if is_whole(number) => "",
+        Some(Value::Number(number)) if is_past_64_bits(number) => " of at most 64 bits",
         Some(Value::Number(_)) => " without a point or an exponent",
         _ => " without quotes",
     }
@@ -144,6 +146,20 @@ fn unlike_a_whole_number(value: Option<&Value>) -> &'static str {
 fn is_whole(number: &Number) -> bool {
     number.as_u64().is_some() || number.as_i64().is_some()
 }
+
+// Whether a number that isn't read as a whole one is past those of 64 bits.
+fn is_past_64_bits(number: &Number) -> bool {
+    match number.as_f64() {
+        Some(float) => float >= PAST_GREATEST || float <= LEAST,
+        None => false,
+    }
+}
+
+/// The number after the greatest whole one of 64 bits.
+const PAST_GREATEST: f64 = 18_446_744_073_709_551_616.0;
+
+/// The least whole number of 64 bits. One below it by a few is rounded to it.
+const LEAST: f64 = -9_223_372_036_854_775_808.0;
 
 fn push_decimal(text: &mut String, decimal: &DecimalType) -> Result<(), AllocError> {
     text.push_str("a number in quotes with at most ")?;
