@@ -1,9 +1,10 @@
 //! What helps a person to fix a file that is refused.
-ghost use Rattle.std.specs.Prelude.{map, string_bytes, OnOk, IfOk, slice_get, ◌≡◌};
+ghost use Rattle.std.specs.Prelude.{map, string_bytes, true, OnOk, IfOk, slice_get, ◌≡◌};
 ghost use Rattle.yv_streams.specs.Files.{file_of};
-ghost use Rattle.yv_refusal_notes.specs.Explanations.{Explains, Speaks, bytes_at};
+ghost use Rattle.yv_refusal_notes.specs.{Clear.{is_clear}, Explanations.{Explains, Speaks, bytes_at}};
 ghost use Rattle.yv_note_text.specs.Quotes.{Extends};
 
+use crate::clear::push_clear;
 use crate::refusal_text::{Bounds, push_sentence};
 use std::alloc::{AllocError, Global};
 use yv_link_scopes::Rows;
@@ -51,9 +52,24 @@ fn push_told(
     }
 }
 
+// The sentence on a refusal, as the notes make it.
+fn sentence(
+    alloc: Global,
+    inputs: &[Input],
+    bounds: &Bounds<'_>,
+    refusal: &Refusal,
+) -> Result<String, AllocError>
+    ensures { IfOk result (λ s. Speaks (map file_of inputs.now) refusal.now (string_bytes s)) }
+{
+    let mut text = String::new(alloc);
+    push_told(alloc, &mut text, inputs, bounds, refusal)?;
+    Ok(text)
+}
+
 /// The line of the file with a caret under the place of a refusal, and below it the refusal's name
 /// with a sentence. The sentence names the argument or keyword that the refusal is about, where the
-/// files can be read; where not, it is the one that fits every refusal of that name.
+/// files can be read; where not, it is the one that fits every refusal of that name. What could
+/// drive a terminal is shown as dots.
 pub fn explanation(
     alloc: Global,
     inputs: &[Input],
@@ -67,13 +83,16 @@ pub fn explanation(
     // The sentence names the argument or keyword at fault, where the files can be read.
     ensures speaks { IfOk result
         (λ s. Speaks (map file_of inputs.now) refusal.now (string_bytes s)) }
+    // No character controls a terminal.
+    ensures clear { IfOk result (λ s. is_clear (string_bytes s) ≡ true) }
 {
     let bytes = bytes_at(inputs, refusal.file);
     let place = usize::try_from(refusal.offset).unwrap_or(0);
     let mut text = excerpt(alloc, bytes, place.min(bytes.len()))?;
     text.push_str(refusal.code.name())?;
     text.push_str(": ")?;
-    push_told(alloc, &mut text, inputs, bounds, refusal)?;
+    let sentence = sentence(alloc, inputs, bounds, refusal)?;
+    push_clear(&mut text, sentence.as_str())?;
     text.push_str("\n")?;
     Ok(text)
 }

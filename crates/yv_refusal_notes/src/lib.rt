@@ -3,6 +3,7 @@
 #![tactic(auto)]
 
 mod cause;
+mod clear;
 mod explain;
 mod refusal_text;
 mod units;
