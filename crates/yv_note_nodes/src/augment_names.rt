@@ -5,7 +5,7 @@ use yv_note_statements::{Site, Sites, StatementEntry, last_step};
 
 // An `augment`: its number, and the place of the one before it whose path ends with the same name.
 #[derive(Clone, Copy)]
-struct Named {
+struct NamedAugment {
     number: usize,
     before: Option<usize>,
 }
@@ -14,7 +14,7 @@ struct Named {
 /// last one.
 #[derive(Drop)]
 pub(crate) struct AugmentNames<'a> {
-    augments: Vec<Named>,
+    augments: Vec<NamedAugment>,
     last: BTreeMap<&'a str, usize>,
 }
 
@@ -29,7 +29,7 @@ impl<'a> AugmentNames<'a> {
         for site in Sites::all(entries) {
             if site.is("augment") {
                 let before = last.insert(last_step(site.argument()), augments.len())?;
-                augments.push(Named {
+                augments.push(NamedAugment {
                     number: site.number,
                     before,
                 })?;
@@ -39,7 +39,7 @@ impl<'a> AugmentNames<'a> {
     }
 
     /// The last of those whose path ends with a name, in order.
-    pub(crate) fn named<'s>(
+    pub(crate) fn of_name<'s>(
         &self,
         alloc: Global,
         entries: &'s [StatementEntry<'a>],

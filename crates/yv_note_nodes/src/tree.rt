@@ -96,17 +96,17 @@ impl<'s, 'a> Tree<'s, 'a> {
     }
 
     /// The statements of a block, in order.
-    pub(crate) fn children(&self, block: &Site<'s, 'a>) -> Listed<'_, 's, 'a> {
-        self.listed(List::Block, self.lists.first_child(block.number))
+    pub(crate) fn children(&self, block: &Site<'s, 'a>) -> ListedSites<'_, 's, 'a> {
+        self.list_from(List::Block, self.lists.first_child(block.number))
     }
 
     /// The `uses` of a grouping, in order.
-    pub(crate) fn uses_of(&self, grouping: &Site<'s, 'a>) -> Listed<'_, 's, 'a> {
-        self.listed(List::Uses, self.lists.first_use(grouping.number))
+    pub(crate) fn uses_of(&self, grouping: &Site<'s, 'a>) -> ListedSites<'_, 's, 'a> {
+        self.list_from(List::Uses, self.lists.first_use(grouping.number))
     }
 
-    fn listed(&self, list: List, first: Option<usize>) -> Listed<'_, 's, 'a> {
-        Listed {
+    fn list_from(&self, list: List, first: Option<usize>) -> ListedSites<'_, 's, 'a> {
+        ListedSites {
             tree: self,
             list,
             next: first,
@@ -120,7 +120,7 @@ impl<'s, 'a> Tree<'s, 'a> {
         name: &'a str,
         most: usize,
     ) -> Result<Vec<Site<'s, 'a>>, AllocError> {
-        self.augments.named(self.alloc, self.entries, name, most)
+        self.augments.of_name(self.alloc, self.entries, name, most)
     }
 
     /// The data node above a node: of one in a grouping that above its first `uses`. None for a
@@ -164,14 +164,14 @@ enum List {
 
 /// The statements of a list, one by one.
 #[derive(Clone, Copy)]
-pub(crate) struct Listed<'t, 's, 'a> {
+pub(crate) struct ListedSites<'t, 's, 'a> {
     tree: &'t Tree<'s, 'a>,
     list: List,
     next: Option<usize>,
     left: usize,
 }
 
-impl<'s, 'a> Iterator for Listed<'_, 's, 'a> {
+impl<'s, 'a> Iterator for ListedSites<'_, 's, 'a> {
     type Item = Site<'s, 'a>;
 
     ghost remaining = { λ s. at_most s.left };

@@ -1,6 +1,6 @@
 //! Defaults of leafs and leaf-lists.
 use crate::same_values::first_repeated;
-use crate::unread::first_unread;
+use crate::unread_texts::first_unread;
 use crate::values::say_values;
 use std::alloc::{AllocError, Global};
 use yv_note_statements::{Message, Site, Sites, chain, last_step, state_above};

@@ -3,14 +3,14 @@
 #![tactic(auto)]
 
 mod defaults;
-mod derived;
+mod derived_identities;
 mod entry_numbers;
 mod numbers;
 mod restrictions;
 mod same_values;
 mod spread;
 mod types;
-mod unread;
+mod unread_texts;
 mod values;
 
 pub use defaults::tell_default;

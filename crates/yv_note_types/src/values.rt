@@ -1,7 +1,7 @@
 //! What values a type has.
-use crate::derived::derived_from;
+use crate::derived_identities::derived_from;
 use crate::restrictions::{digits_of, limits_of};
-use crate::unread::unknown_bit;
+use crate::unread_texts::unknown_bit;
 use std::alloc::{AllocError, Global};
 use yv_note_statements::{Guess, Message, Site, is_among, prefix_of_module, say_guess};
 

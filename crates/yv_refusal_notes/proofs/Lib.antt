@@ -1,2 +1,2 @@
-pub mod Clearing
+pub mod ClearTexts
 pub mod Speaking

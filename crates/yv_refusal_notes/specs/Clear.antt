@@ -11,8 +11,8 @@ abbrev pub cleared_byte : ℕ → ℕ
 cleared_byte b = if is_clear_byte b then b else 46
 
 -- what a terminal is given of a text
-abbrev pub cleared : List ℕ → List ℕ
-cleared text = map cleared_byte text
+abbrev pub clear_text : List ℕ → List ℕ
+clear_text text = map cleared_byte text
 
 -- nothing but line feeds, blanks and visible ASCII characters
 abbrev pub is_clear : List ℕ → Bool

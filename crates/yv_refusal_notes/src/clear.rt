@@ -1,6 +1,6 @@
 //! Texts as a terminal may show them.
 ghost use Rattle.std.specs.Prelude.{◌≡◌, ◌<◌, ◌++◌, map, OnOk, string_bytes};
-ghost use Rattle.yv_refusal_notes.specs.Clear.{cleared, cleared_byte, is_clear_byte};
+ghost use Rattle.yv_refusal_notes.specs.Clear.{clear_text, cleared_byte, is_clear_byte};
 
 use std::alloc::AllocError;
 
@@ -26,7 +26,7 @@ fn cleared_char(byte: u8) -> char
 /// Adds words, with a dot for each byte that could control a terminal.
 pub(crate) fn push_clear(text: &mut String, words: &str) -> Result<(), AllocError>
     ensures { OnOk result
-        (string_bytes text.new ≡ string_bytes text.old ++ cleared words.now) }
+        (string_bytes text.new ≡ string_bytes text.old ++ clear_text words.now) }
 {
     for byte in words.as_bytes() {
         text.push(cleared_char(*byte))?;

@@ -1,6 +1,6 @@
 use Rattle.std.proofs.Common.{arith}
 use Rattle.yv_note_statements.specs.Lists.{block_of, configured_by, grouping_of}
-use Rattle.yv_note_statements.proofs.Linking.{linked-entry}
+use Rattle.yv_note_statements.proofs.StatementLinks.{linked-entry}
 use Rattle.yv_note_statements.proofs.statement_lists.StatementLists.read.Goals as goal
 
 pub loop-number-preserved : goal.loop-number-preserved

@@ -1,6 +1,6 @@
 use Rattle.std.proofs.Common.{map}
 use Rattle.yv_note_statements.specs.Lists.{block_of, configured_by, grouping_of}
-use Rattle.yv_note_statements.proofs.Linking.{AreLinked}
+use Rattle.yv_note_statements.proofs.StatementLinks.{AreLinked}
 use Rattle.yv_note_statements.proofs.statement_lists.StatementLists.read.Given as goal
 
 abbrev pub invariant-loop-number : goal.invariant-loop-number

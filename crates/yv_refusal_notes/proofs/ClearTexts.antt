@@ -1,4 +1,4 @@
--- What is clear, and what is cleared.
+-- What is clear, and what is clear_text.
 use Rattle.std.proofs.Common.{◌≡◌, ℕ, zero, suc, ◌==◌, ◌||◌, ◌&&◌, Bool, true, false, List, [], ◌∷◌, ◌++◌, Option, Some, None, IfSome, length, map, replicate, nat_le, nat_lt, codes, if◌then◌else◌, refl, ap, ◌∙◌}
 use Rattle.std.specs.List.{filter, find, slice_range}
 use Rattle.std.specs.Option.{option_and_then}
@@ -14,7 +14,7 @@ use Rattle.yv_streams.specs.Files.{File}
 use Rattle.yv_note_text.specs.Excerpt.{ShowsPlace, ascii_text, begins_character, excerpt_text, shown_byte}
 use Rattle.yv_note_text.specs.Quotes.{Quotes, dots, front, in_quotes}
 use Rattle.yv_note_text.proofs.Quoting.{grown, named_behind}
-use Rattle.yv_refusal_notes.specs.Clear.{cleared, cleared_byte, is_clear, is_clear_byte}
+use Rattle.yv_refusal_notes.specs.Clear.{clear_text, cleared_byte, is_clear, is_clear_byte}
 use Rattle.yv_refusal_notes.specs.Explanations.{Speaks, names_row, names_syntax}
 use Rattle.yv_refusal_notes.specs.Subject.{is_at, subject}
 
@@ -55,14 +55,14 @@ byte_shown b = cases (nat_le 32 b && nat_le b 126) refl (b == 9 || b == 13) refl
 
 -- ### texts
 
-text_cleared : (xs : List ℕ) → is_clear (cleared xs) ≡ true
+text_cleared : (xs : List ℕ) → is_clear (clear_text xs) ≡ true
 text_cleared [] = refl
-text_cleared (b ∷ xs) = both (is_clear_byte (cleared_byte b)) (is_clear (cleared xs)) (byte_cleared b) (text_cleared xs)
+text_cleared (b ∷ xs) = both (is_clear_byte (cleared_byte b)) (is_clear (clear_text xs)) (byte_cleared b) (text_cleared xs)
 
-text_same : (xs : List ℕ) → is_clear xs ≡ true → cleared xs ≡ xs
+text_same : (xs : List ℕ) → is_clear xs ≡ true → clear_text xs ≡ xs
 text_same [] e = refl
 text_same (b ∷ xs) e =
-    ap (λ (x : ℕ). x ∷ cleared xs) (byte_same b (first_of_both (is_clear_byte b) (is_clear xs) e)) ∙ ap (λ (ys : List ℕ). b ∷ ys) (text_same xs (second_of_both (is_clear_byte b) (is_clear xs) e))
+    ap (λ (x : ℕ). x ∷ clear_text xs) (byte_same b (first_of_both (is_clear_byte b) (is_clear xs) e)) ∙ ap (λ (ys : List ℕ). b ∷ ys) (text_same xs (second_of_both (is_clear_byte b) (is_clear xs) e))
 
 pub both_clear : (xs ys : List ℕ) → is_clear xs ≡ true → is_clear ys ≡ true → is_clear (xs ++ ys) ≡ true
 both_clear xs ys p q = list_all-append is_clear_byte xs ys ∙ rw p q
@@ -144,36 +144,36 @@ name_clear code.BadPath = refl
 name_clear code.PathCycle = refl
 name_clear code.BadOperation = refl
 
--- what is said, with a sentence that is cleared
-pub said_clear : (line name sentence : List ℕ) → is_clear line ≡ true → is_clear name ≡ true → is_clear (line ++ (name ++ (codes ": " ++ (cleared sentence ++ 10 ∷ [])))) ≡ true
+-- what is said, with a sentence that is clear_text
+pub said_clear : (line name sentence : List ℕ) → is_clear line ≡ true → is_clear name ≡ true → is_clear (line ++ (name ++ (codes ": " ++ (clear_text sentence ++ 10 ∷ [])))) ≡ true
 said_clear line name sentence e f =
-    both_clear line (name ++ (codes ": " ++ (cleared sentence ++ 10 ∷ []))) e
-    (both_clear name (codes ": " ++ (cleared sentence ++ 10 ∷ [])) f (both_clear (cleared sentence) (10 ∷ []) (text_cleared sentence) refl))
+    both_clear line (name ++ (codes ": " ++ (clear_text sentence ++ 10 ∷ []))) e
+    (both_clear name (codes ": " ++ (clear_text sentence ++ 10 ∷ [])) f (both_clear (clear_text sentence) (10 ∷ []) (text_cleared sentence) refl))
 
 -- the parts of a text to which they were added one by one
-pub joined : (line name sentence one two three four : List ℕ) → one ≡ line ++ name → two ≡ one ++ codes ": " → three ≡ two ++ cleared sentence → four ≡ three ++ 10 ∷ []
-    → four ≡ line ++ (name ++ (codes ": " ++ (cleared sentence ++ 10 ∷ [])))
+pub joined : (line name sentence one two three four : List ℕ) → one ≡ line ++ name → two ≡ one ++ codes ": " → three ≡ two ++ clear_text sentence → four ≡ three ++ 10 ∷ []
+    → four ≡ line ++ (name ++ (codes ": " ++ (clear_text sentence ++ 10 ∷ [])))
 joined line name sentence one two three four e f g h =
-    h ∙ ap (λ t. t ++ 10 ∷ []) (grown line name (codes ": ") (cleared sentence) one two three e f g)
-    ∙ append_assoc line (name ++ (codes ": " ++ cleared sentence)) (10 ∷ [])
-    ∙ ap (λ t. line ++ t) (append_assoc name (codes ": " ++ cleared sentence) (10 ∷ []))
+    h ∙ ap (λ t. t ++ 10 ∷ []) (grown line name (codes ": ") (clear_text sentence) one two three e f g)
+    ∙ append_assoc line (name ++ (codes ": " ++ clear_text sentence)) (10 ∷ [])
+    ∙ ap (λ t. line ++ t) (append_assoc name (codes ": " ++ clear_text sentence) (10 ∷ []))
 
--- ### what names a word does so when it is cleared
+-- ### what names a word does so when it is clear_text
 
-quotes_cleared : (word text : List ℕ) → Quotes word text → Quotes word (cleared text)
+quotes_cleared : (word text : List ℕ) → Quotes word text → Quotes word (clear_text text)
 quotes_cleared word text (before, after, is) = (
-  cleared before,
-  cleared after,
-  ap cleared is ∙ map-append cleared_byte before (in_quotes word ++ after) ∙ ap (λ (t : List ℕ). cleared before ++ t)
-      (map-append cleared_byte (in_quotes word) after ∙ ap (λ (t : List ℕ). t ++ cleared after) (text_same (in_quotes word) (quoted_clear word))),
+  clear_text before,
+  clear_text after,
+  ap clear_text is ∙ map-append cleared_byte before (in_quotes word ++ after) ∙ ap (λ (t : List ℕ). clear_text before ++ t)
+      (map-append cleared_byte (in_quotes word) after ∙ ap (λ (t : List ℕ). t ++ clear_text after) (text_same (in_quotes word) (quoted_clear word))),
 )
 
-named_cleared : (word : Option (List ℕ)) (text : List ℕ) → IfSome word (λ w. Quotes w text) → IfSome word (λ w. Quotes w (cleared text))
+named_cleared : (word : Option (List ℕ)) (text : List ℕ) → IfSome word (λ w. Quotes w text) → IfSome word (λ w. Quotes w (clear_text text))
 named_cleared None text named = tt
 named_cleared (Some word) text named = quotes_cleared word text named
 
-pub speaks_cleared : (files : List File) (r : Refusal) (old text : List ℕ) → Speaks files r text → Speaks files r (old ++ cleared text)
+pub speaks_cleared : (files : List File) (r : Refusal) (old text : List ℕ) → Speaks files r text → Speaks files r (old ++ clear_text text)
 speaks_cleared files r old text (names_row ts read names) =
     let word : Option (List ℕ) = option_and_then (λ (row : Row). subject r.code row.head) (find (is_at r) (rows_of ts)) in
-    names_row ts read (named_behind word old (cleared text) (named_cleared word text names))
+    names_row ts read (named_behind word old (clear_text text) (named_cleared word text names))
 speaks_cleared files r old text (names_syntax q at) = names_syntax q at
