@@ -226,7 +226,7 @@ pub(crate) fn node_below<'s, 'a>(
 ) -> Result<Option<Site<'s, 'a>>, AllocError> {
     let name = local(name);
     tree.look(LOOKS_OF_STEP);
-    if let Some(below) = tree.known(node, steps, name) {
+    if let Some(below) = tree.known_node(node, steps, name) {
         return Ok(below);
     }
     let nodes = nodes_until(tree, node, steps, Some(name))?;

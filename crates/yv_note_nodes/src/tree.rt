@@ -72,7 +72,7 @@ impl<'s, 'a> Tree<'s, 'a> {
     }
 
     /// The node of a name below a node, or that there is none, if this is known.
-    pub(crate) fn known(
+    pub(crate) fn known_node(
         &self,
         node: &Site<'s, 'a>,
         steps: Steps,

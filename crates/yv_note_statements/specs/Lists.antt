@@ -1,4 +1,5 @@
--- The lists in which the numbered statements of the files are: those of a block, the `uses` of a grouping.
+-- The lists in which the numbered statements of the files are: those of a block, and the `uses` of
+-- a grouping.
 use Rattle.std.specs.Prelude.{◌≡◌, ◌≢◌, ℕ, ◌+◌, ◌-◌, ◌<◌, ◌==◌, Bool, false, cond, List, [], ◌∷◌, Option, None, Some, length, codes, drop, slice_index_or}
 use Rattle.std.specs.Str.{bytes_eq}
 use Rattle.yv_note_statements.specs.declared.entry.StatementEntry.{StatementEntry}
