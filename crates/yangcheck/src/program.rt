@@ -2,7 +2,7 @@
 ghost use Rattle.std.specs.Prelude.{◌≡◌, ◌≤◌, length, map, string_bytes, IfOk};
 ghost use Rattle.yv_run.specs.Status.{exit_of};
 ghost use Rattle.yv_job.specs.Jobs.{HasFiles, HasLimit};
-ghost use Rattle.yv_streams.specs.Files.{file_of};
+ghost use Rattle.yv_base_streams.specs.Files.{file_of};
 
 use crate::error_reader::ErrorReader;
 use std::alloc::{AllocError, Global};
@@ -15,7 +15,7 @@ use std::{env, io};
 use yv_job::{Command, Job, JobFault, read_job};
 use yv_note_text::push_shown;
 use yv_run::{RunEnd, Status, run_with_note};
-use yv_streams::{Counted, Input, InputFault, read_input};
+use yv_base_streams::{Counted, Input, InputFault, read_input};
 
 /// Does what the process's arguments ask for, and answers its exit status.
 pub fn program<R: Env + Files + io::Input + Print + Eprint + AllocGlobal>(rt: &R) -> u8 {

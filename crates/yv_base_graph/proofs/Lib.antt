@@ -1,9 +1,9 @@
 pub mod Marks
-pub mod Reaching
+pub mod Reachability
 pub mod Ranks
 pub mod Among
-pub mod Searching
-pub mod Following
-pub mod Found
+pub mod SearchInvariant
+pub mod EdgeStep
+pub mod SearchResult
 pub mod Peers
 pub mod NoEdges

@@ -12,7 +12,7 @@ use Rattle.yv_base_graph.specs.Graph.{Graph, IsGraph, IsMarked, AreOnCycles}
 use Rattle.yv_base_graph.specs.InnerSearch.{Progress, IsSearched, rank_of}
 use Rattle.yv_base_graph.specs.InnerPeers.{HasPeer, ArePeers}
 use Rattle.yv_base_graph.proofs.Ranks.{leads_within}
-use Rattle.yv_base_graph.proofs.Found.{back_edge, cycle_by, length_ranks}
+use Rattle.yv_base_graph.proofs.SearchResult.{back_edge, cycle_by, length_ranks}
 
 -- so many nodes were asked
 pub record Marking (g : Graph) (ranks : List ℕ) (n : ℕ) (marks : List Bool) : Type 0 where

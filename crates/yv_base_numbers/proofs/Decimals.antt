@@ -13,7 +13,7 @@ use Rattle.std.proofs.Math.Seq.{take-append_seam, drop-cons}
 use Rattle.std.proofs.Math.Nat.{pow-succ', pow-zero, mul-one, add-mul, mul_comm, mul-mul-mul_comm, le_of_mul-le-mul_right, one-le-pow, mul-le-mul_right}
 use Rattle.yv_base_numbers.specs.Numbers.{digit_of, is_digit, is_numeral, value_after, within_64_bits, scaled_value, around_point, magnitude_of, scaled_of}
 use Rattle.yv_base_numbers.specs.Numerals.{IsNumeral, last, before, IsScaled, whole, with_point, Within64Bits, IsDecimal}
-use Rattle.yv_base_numbers.proofs.Grown.{is_limited, fits, joined}
+use Rattle.yv_base_numbers.proofs.DigitGrowth.{is_limited, fits, joined}
 use Rattle.yv_base_numbers.proofs.Numerals.{if_some, led, shifted, digits_pass, numeral_passes, numeral_found, value_read}
 use Rattle.yv_base_numbers.proofs.Signs.{IsBare, equal_bytes, signed}
 use Rattle.yv_base_numbers.proofs.Wholes.{numeral_bare, digit_bare}

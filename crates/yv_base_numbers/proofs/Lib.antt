@@ -1,13 +1,13 @@
 pub mod Decimals
-pub mod Grown
+pub mod DigitGrowth
 pub mod Halves
 pub mod Numerals
 pub mod Signs
 pub mod Wholes
 pub mod Along
-pub mod Assigned
+pub mod AssignedNumbers
 pub mod First
 pub mod Pairs
-pub mod Spoken
+pub mod RestrictionParts
 pub mod Texts
 pub mod RestrictionWholes

@@ -7,7 +7,7 @@ use Rattle.std.proofs.lemmas.Bool.Decides.{nat_tests}
 use Rattle.std.proofs.Math.Nat.{pow-succ', pow-zero, mul-one, add-mul}
 use Rattle.yv_base_numbers.specs.Numbers.{digit_of, is_digit, is_numeral, value_after, within_64_bits, natural_of}
 use Rattle.yv_base_numbers.specs.Numerals.{IsDigit, figure, small, capital, IsDigitOf, below, IsNumeral, last, before, Within64Bits}
-use Rattle.yv_base_numbers.proofs.Grown.{is_limited, fits}
+use Rattle.yv_base_numbers.proofs.DigitGrowth.{is_limited, fits}
 
 digit_read : {c d : ℕ} → IsDigit c d → digit_of c ≡ d
 digit_read (figure {c} {d} b e) = grind (arith, nat_tests)

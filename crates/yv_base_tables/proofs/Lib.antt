@@ -1,6 +1,6 @@
-pub mod Parting
-pub mod Chaining
+pub mod ListParts
+pub mod NumberChains
 pub mod Listing
 pub mod Rows
-pub mod Growing
-pub mod Tabling
+pub mod PathTreeGrowth
+pub mod TableEntries

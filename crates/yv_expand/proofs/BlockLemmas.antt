@@ -5,17 +5,17 @@ use Rattle.std.specs.Option.{option_map}
 use Rattle.std.proofs.lemmas.Bool.{cases_lt, false≢true, false_from_ne_true}
 use Rattle.std.proofs.lemmas.List.{length-map}
 use Rattle.std.proofs.lemmas.Option.{same_Some, slice_get_cases, slice_get_within, slice_get-map}
-use Rattle.yv_statement.specs.Tree.{Head, Tree, trees}
-use Rattle.yv_statement.specs.declared.keyword.Keyword.{Keyword}
-use Rattle.yv_statement.specs.declared.keyword.Keyword.TheVariants as word
+use Rattle.yv_text_statement.specs.Tree.{Head, Tree, trees}
+use Rattle.yv_text_statement.specs.declared.keyword.Keyword.{Keyword}
+use Rattle.yv_text_statement.specs.declared.keyword.Keyword.TheVariants as word
 use Rattle.yv_text_grammar.specs.declared.table.Occurs.{Occurs}
-use Rattle.yv_statement.specs.Keywords.{keyword_of, same}
+use Rattle.yv_text_statement.specs.Keywords.{keyword_of, same}
 use Rattle.yv_text_grammar.specs.Table.{Rows as Table, occurs_in, rows_of as table_of}
 use Rattle.yv_text_grammar.specs.Refusals.{is_module, keyword_at}
 use Rattle.yv_text_grammar.specs.Fits.{FitsIn, IsAllowed, extension, occurrences, plain}
-use Rattle.yv_text_grammar.proofs.Counting.{some}
+use Rattle.yv_text_grammar.proofs.KeywordCounts.{some}
 use Rattle.yv_text_grammar.proofs.Keywords.{is_same, one}
-use Rattle.yv_statement.specs.Words.{is_among}
+use Rattle.yv_text_statement.specs.Words.{is_among}
 use Rattle.yv_link_scopes.specs.Blocks.{StandsIn}
 use Rattle.yv_link_scopes.specs.Files.{Briefs, Files, brief_of, module_file_at}
 use Rattle.yv_link_scopes.specs.RowList.{rows_of, statements_of}
@@ -23,7 +23,7 @@ use Rattle.yv_link_scopes.specs.Rows.{Row}
 use Rattle.yv_expand.specs.Units.{nodes, operations}
 use Rattle.yv_expand.specs.Conformance.{Conform, gives_nodes, is_lowest, lowest}
 use Rattle.yv_expand.proofs.Words.{among_all, and_first, and_second}
-use Rattle.yv_expand.proofs.Fitting.{statement_fits}
+use Rattle.yv_expand.proofs.StatementFit.{statement_fits}
 
 -- the keywords of what gives schema nodes, and of what has none below it
 abbrev is_given : Keyword → Bool

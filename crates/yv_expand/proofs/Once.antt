@@ -14,7 +14,7 @@ use Rattle.yv_expand.specs.declared.origin.Origin.TheVariants.{Statement, Input,
 use Rattle.yv_expand.specs.Tree.{Tree, none, item, count, join}
 use Rattle.yv_expand.specs.Expands.{Expands, nothing, other, node, operation, uses, blocks_of}
 use Rattle.yv_expand.proofs.Words.{no_units_no_item, no_units_no_input, no_units_no_output, no_units_no_augment, item_no_input, item_no_output, item_no_augment, input_no_output, input_no_augment, output_no_augment, input_no_item, output_no_item, augment_no_item, item_units, operation_units, operation_item, uses_item, counts_uses, named_no_operation}
-use Rattle.yv_expand.proofs.Referring.{MeansOne, refers_one, refers_word, operation_refers}
+use Rattle.yv_expand.proofs.StatementReferences.{MeansOne, refers_one, refers_word, operation_refers}
 
 -- a statement passes a test or doesn't
 pub not_both : (test : Row → Bool) (rows : List Row) (k : ℕ) (r s : Row) → slice_get rows k ≡ Some r → slice_get rows k ≡ Some s → test r ≡ true → test s ≡ false → ⊥

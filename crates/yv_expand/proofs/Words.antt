@@ -6,10 +6,10 @@ use Rattle.std.specs.Str.{bytes_eq}
 use Rattle.std.proofs.lemmas.List.{length-map}
 use Rattle.std.proofs.lemmas.Option.{slice_get-map, slice_get_read}
 use Rattle.std.proofs.lemmas.Slice.Eq.{bytes_eq-Decides}
-use Rattle.yv_statement.specs.Tree.{Head}
+use Rattle.yv_text_statement.specs.Tree.{Head}
 use Rattle.yv_link_scopes.specs.Files.{has_word}
 use Rattle.yv_link_scopes.specs.Rows.{Row}
-use Rattle.yv_statement.specs.Words.{is_among}
+use Rattle.yv_text_statement.specs.Words.{is_among}
 use Rattle.yv_link_definitions.specs.Refers.{is_type, is_uses}
 use Rattle.yv_expand.specs.Units.{units_of, nodes, operations, keywords_passed}
 use Rattle.yv_expand.specs.StatementBlocks.{is_node_or_uses, is_operation, is_input, is_output, is_augment}

@@ -1,7 +1,7 @@
 -- Only private clauses cite this: the keywords of statements that count.
 use Rattle.std.specs.Prelude.{ℕ, Bool, true, false, ◌||◌, Option, None, Some, if◌then◌else◌}
-use Rattle.yv_statement.specs.declared.keyword.Keyword.{Keyword}
-use Rattle.yv_statement.specs.declared.keyword.Keyword.TheVariants as word
+use Rattle.yv_text_statement.specs.declared.keyword.Keyword.{Keyword}
+use Rattle.yv_text_statement.specs.declared.keyword.Keyword.TheVariants as word
 
 -- a statement of this keyword gives a schema node, but for operations, or is a uses
 abbrev pub is_node_keyword : Keyword → Bool

@@ -5,7 +5,7 @@ use Rattle.yv_link_scopes.specs.Files.{Briefs, module_file_at, has_word}
 use Rattle.yv_link_scopes.specs.Rows.{Row}
 use Rattle.std.specs.List.{filter}
 use Rattle.std.specs.Option.{option_map, unwrap_or}
-use Rattle.yv_statement.specs.Words.{is_among}
+use Rattle.yv_text_statement.specs.Words.{is_among}
 use Rattle.yv_expand.specs.Units.{nodes, operations}
 use Rattle.yv_expand.specs.declared.origin.Origin.{Origin}
 use Rattle.yv_expand.specs.declared.origin.Origin.TheVariants.{Statement}

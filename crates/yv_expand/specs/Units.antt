@@ -1,6 +1,6 @@
 -- What statements count, before any is expanded.
 use Rattle.std.specs.Prelude.{ℕ, List, [], ◌∷◌, Option, Some, None, codes, if◌then◌else◌, min}
-use Rattle.yv_statement.specs.Words.{is_among}
+use Rattle.yv_text_statement.specs.Words.{is_among}
 
 -- a schema node each (RFC 7950, section 3), and a uses, which counts one besides the nodes of its
 -- grouping; a case that is left out (section 7.9.2) isn't counted

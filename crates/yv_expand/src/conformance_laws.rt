@@ -1,6 +1,6 @@
 //! Laws about the definitions only. These functions do nothing: the contract of each is the law.
 ghost use Rattle.std.specs.Prelude.{◌≡◌, ℕ, Some, false, slice_get, true};
-ghost use Rattle.yv_statement.specs.{Tree.{Tree}, declared.refusal.Refusal.{Refusal}, declared.keyword.Keyword.{Keyword}};
+ghost use Rattle.yv_text_statement.specs.{Tree.{Tree}, declared.refusal.Refusal.{Refusal}, declared.keyword.Keyword.{Keyword}};
 ghost use Rattle.yv_text_grammar.specs.{Refusals.{Bad}, Fits.{Fits, FitsIn}};
 ghost use Rattle.yv_link_scopes.specs.{Files.{Files}, RowList.{rows_of, statements_of}, Rows.{Row}};
 ghost use Rattle.yv_expand.specs.Conformance.{Conform, gives_nodes, is_lowest};

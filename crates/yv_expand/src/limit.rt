@@ -1,6 +1,6 @@
 //! Where the units of files pass the limit.
 ghost use Rattle.std.specs.Prelude.{◌≡◌, ◌≤◌, ◌<◌, ◌↔◌, IsTrue, false, if◌then◌else◌, slice_get, slice_index_or, length, IfOk, IfNone};
-ghost use Rattle.yv_statement.specs.Order.{IsLeast};
+ghost use Rattle.yv_text_statement.specs.Order.{IsLeast};
 ghost use Rattle.yv_link_scopes.specs.Views.{lent_in, files_in, rows_in};
 ghost use Rattle.yv_link_definitions.specs.Meanings.{AreNames};
 ghost use Rattle.yv_expand.specs.{Limit.{Fits, TooMany}, InnerLists.{ArePlaced, top_place, top_sum}, InnerSteps.{AreSettled}};
@@ -11,7 +11,7 @@ use crate::weights::weigh_statements;
 use std::alloc::{AllocError, Global};
 use yv_link_definitions::Names;
 use yv_link_scopes::Rows;
-use yv_statement::{Code, Refusal, lesser, refusal_if};
+use yv_text_statement::{Code, Refusal, lesser, refusal_if};
 
 // The units of a file, or none where it isn't given.
 fn file_units(values: &[u64], tops: &[Vec<usize>], given: &[bool], file: usize) -> u64

@@ -7,7 +7,7 @@ use crate::own::is_node_or_uses;
 use crate::unit_keywords::own_units;
 use std::alloc::{AllocError, Global};
 use yv_link_scopes::{Entry, Rows};
-use yv_statement::Keyword;
+use yv_text_statement::Keyword;
 
 // So many empty lists.
 fn no_lists(alloc: Global, count: usize) -> Result<Vec<Vec<usize>>, AllocError>

@@ -4,7 +4,7 @@ ghost use Rattle.yv_link_scopes.specs.Rows.{row};
 ghost use Rattle.yv_expand.specs.{StatementBlocks.{is_node_or_uses, is_operation}, InnerKeywords.{is_item_keyword, is_node_keyword, is_operation_keyword}};
 
 use yv_link_scopes::Entry;
-use yv_statement::Keyword;
+use yv_text_statement::Keyword;
 
 /// Whether a statement of this keyword gives a schema node, but for operations, or is a uses.
 #[inline(always)]

@@ -5,7 +5,7 @@ ghost use Rattle.yv_expand.specs.{Units.{units_of}, InnerKeywords.{is_passed_key
 
 use crate::own::{is_node_keyword, is_operation_keyword};
 use yv_link_scopes::Entry;
-use yv_statement::Keyword;
+use yv_text_statement::Keyword;
 
 // Whether what is in a statement of this keyword counts, but not the statement.
 #[inline(always)]

@@ -1,6 +1,6 @@
 //! The expansion of files.
 ghost use Rattle.std.specs.Prelude.{◌≡◌, ◌≢◌, ◌<◌, ℕ, All, length, slice_get, None, Some, Err, IfOk, OnOk};
-ghost use Rattle.yv_statement.specs.{Order.{IsLeast}, declared.refusal.Refusal.{Refusal}, declared.refusal.Stop.TheVariants.{Fault, PatternBuild}};
+ghost use Rattle.yv_text_statement.specs.{Order.{IsLeast}, declared.refusal.Refusal.{Refusal}, declared.refusal.Stop.TheVariants.{Fault, PatternBuild}};
 ghost use Rattle.yv_link_scopes.specs.Views.{files_in, lent_in, rows_in};
 ghost use Rattle.yv_link_definitions.specs.Meanings.{AreNames};
 ghost use Rattle.yv_expand.specs.{Limit.{Fits, TooMany}, Expansion.{IsWhole}, StatementBlocks.{augments_of}};
@@ -15,7 +15,7 @@ use crate::origin::Origin;
 use std::alloc::{AllocError, Global};
 use yv_link_definitions::Names;
 use yv_link_scopes::Rows;
-use yv_statement::Stop;
+use yv_text_statement::Stop;
 
 // The expansion of files whose units are within the limit.
 fn within(

@@ -8,7 +8,7 @@ use Rattle.yv_expand_uses.specs.RefineTargets.{refined_at}
 use Rattle.yv_expand_augments.specs.RefineMeanings.{refined_from}
 use Rattle.yv_expand_uses.specs.Spots.{Whole}
 use Rattle.yv_expand_uses.specs.declared.spot.Spot.{Spot}
-use Rattle.yv_expand_uses.proofs.Reading.{rest_of}
+use Rattle.yv_expand_uses.proofs.StatementLists.{rest_of}
 
 module _ (w : Whole) (labels : List Label) (copies : ℕ) where
   -- one item more

@@ -3,9 +3,9 @@ use Rattle.std.proofs.Common.{◌≡◌, ℕ, ◌+◌, ◌<◌, ◌==◌, ◌&&�
 use Rattle.std.specs.List.{slice_get}
 use Rattle.std.proofs.lemmas.Bool.{eq-eqb, eqb-false, ne_eqb}
 use Rattle.std.proofs.lemmas.List.{append-nil, drop_more}
-use Rattle.yv_statement.specs.Order.{IsLeast, IsLesser}
-use Rattle.yv_statement.specs.declared.refusal.Refusal.{Refusal}
-use Rattle.yv_statement.proofs.Least.{least_lesser, least_same}
+use Rattle.yv_text_statement.specs.Order.{IsLeast, IsLesser}
+use Rattle.yv_text_statement.specs.declared.refusal.Refusal.{Refusal}
+use Rattle.yv_text_statement.proofs.Least.{least_lesser, least_same}
 use Rattle.yv_link_scopes.specs.Rows.{Row}
 use Rattle.yv_expand_rounds.specs.Tree.{Tree, none, item, tree_list}
 use Rattle.yv_expand_rounds.specs.declared.row.ItemRow.{ItemRow}
@@ -13,8 +13,8 @@ use Rattle.yv_expand_augments.specs.MandatoryNodes.{Around, ImposesMandatory, Is
 use Rattle.yv_expand_augments.specs.InnerMandatoryNodes.{ImposesMandatoryIn, counts, found_in, meet}
 use Rattle.yv_expand_uses.specs.On.{is_marked}
 use Rattle.yv_expand_uses.specs.declared.spot.Spot.{Spot}
-use Rattle.yv_expand_augments.proofs.Configuring.{marks_of}
-use Rattle.yv_expand_uses.proofs.Reading.{rest_of}
+use Rattle.yv_expand_augments.proofs.ItemConfiguration.{marks_of}
+use Rattle.yv_expand_uses.proofs.StatementLists.{rest_of}
 
 -- what is met depends on what was found alone
 pub met_same : (depth : ℕ) (b : Bool) (old found : ℕ → Bool) (d : ℕ) → ((e : ℕ) → old e ≡ found e) → meet depth b old d ≡ meet depth b found d

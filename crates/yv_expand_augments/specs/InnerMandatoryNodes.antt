@@ -1,7 +1,7 @@
 -- Only private clauses cite this: the items of the final tree one by one, first what is around
 -- each, and then what each has, from the last to the first.
 use Rattle.std.specs.Prelude.{◌≡◌, ◌≤◌, ℕ, ◌+◌, ◌==◌, ◌&&◌, ◌||◌, ◌⊎◌, not, Bool, false, List, [], ◌∷◌, if◌then◌else◌, Option, Some, None, slice_get}
-use Rattle.yv_statement.specs.declared.refusal.Refusal.{Refusal}
+use Rattle.yv_text_statement.specs.declared.refusal.Refusal.{Refusal}
 use Rattle.yv_link_scopes.specs.Rows.{Row}
 use Rattle.yv_expand_rounds.specs.declared.row.ItemRow.{ItemRow}
 use Rattle.yv_expand_augments.specs.MandatoryNodes.{Around, IsMandatoryAdded, MarksView, source_of, inside, is_configuration, is_given, is_mandatory}

@@ -1,7 +1,7 @@
 -- Only private clauses cite this: the refusal of an augment for one item.
 use Rattle.std.specs.Prelude.{ℕ, not, Bool, List, Option, Some, None, slice_get}
-use Rattle.yv_statement.specs.declared.refusal.Code.TheVariants as code
-use Rattle.yv_statement.specs.declared.refusal.Refusal.{Refusal}
+use Rattle.yv_text_statement.specs.declared.refusal.Code.TheVariants as code
+use Rattle.yv_text_statement.specs.declared.refusal.Refusal.{Refusal}
 use Rattle.yv_link_scopes.specs.Rows.{Row}
 use Rattle.yv_expand_augments.specs.InnerRefusals.{refusal_of_row}
 use Rattle.yv_expand_augments.specs.Placement.{augment_around}

@@ -2,8 +2,8 @@
 -- sections 3 and 7.17).
 use Rattle.std.specs.Prelude.{◌≡◌, ◌≢◌, ℕ, ◌&&◌, ◌||◌, ◌⊎◌, not, Bool, true, false, List, length, Option, Some, None, slice_get, slice_index_or}
 use Rattle.std.specs.Option.{is_some, unwrap_or}
-use Rattle.yv_statement.specs.declared.refusal.Code.TheVariants as code
-use Rattle.yv_statement.specs.declared.refusal.Refusal.{Refusal}
+use Rattle.yv_text_statement.specs.declared.refusal.Code.TheVariants as code
+use Rattle.yv_text_statement.specs.declared.refusal.Refusal.{Refusal}
 use Rattle.yv_link_scopes.specs.Rows.{Row}
 use Rattle.yv_expand_rounds.specs.Tree.{Tree, none, item}
 use Rattle.yv_expand_augments.specs.Refusals.{RefusesIf}

@@ -2,9 +2,9 @@
 use Rattle.std.specs.Prelude.{◌≡◌, ℕ, ◌+◌, true, List, length, take, drop, if◌then◌else◌, Option, Some, None, slice_get}
 use Rattle.std.specs.List.{filter}
 use Rattle.std.specs.Option.{option_and_then}
-use Rattle.yv_statement.specs.Order.{Among}
-use Rattle.yv_statement.specs.declared.refusal.Code.TheVariants as code
-use Rattle.yv_statement.specs.declared.refusal.Refusal.{Refusal}
+use Rattle.yv_text_statement.specs.Order.{Among}
+use Rattle.yv_text_statement.specs.declared.refusal.Code.TheVariants as code
+use Rattle.yv_text_statement.specs.declared.refusal.Refusal.{Refusal}
 use Rattle.yv_link_scopes.specs.Rows.{Row}
 use Rattle.yv_expand.specs.Tree.{Item}
 use Rattle.yv_expand_rounds.specs.declared.end.End.TheVariants.{Start}

@@ -1,8 +1,8 @@
 -- What augments put where it may not be (RFC 7950, section 7.17).
 use Rattle.std.specs.Prelude.{◌≡◌, ℕ, false, List, length, if◌then◌else◌, Option, Some, None, slice_get}
-use Rattle.yv_statement.specs.Order.{Among}
-use Rattle.yv_statement.specs.declared.refusal.Code.TheVariants as code
-use Rattle.yv_statement.specs.declared.refusal.Refusal.{Refusal}
+use Rattle.yv_text_statement.specs.Order.{Among}
+use Rattle.yv_text_statement.specs.declared.refusal.Code.TheVariants as code
+use Rattle.yv_text_statement.specs.declared.refusal.Refusal.{Refusal}
 use Rattle.yv_link_scopes.specs.Rows.{Row}
 use Rattle.yv_expand_rounds.specs.declared.row.ItemRow.{ItemRow}
 use Rattle.yv_expand_rounds.specs.Kinds.{takes}

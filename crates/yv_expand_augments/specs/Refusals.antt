@@ -1,9 +1,9 @@
 -- What is wrong with the augments of modules, and with the final tree (RFC 7950, section 7.17).
 use Rattle.std.specs.Prelude.{◌≡◌, ℕ, false, List, length, Some, None, slice_get}
-use Rattle.yv_statement.specs.Order.{Among, Stands, refusal_at}
-use Rattle.yv_statement.specs.declared.refusal.Code.{Code}
-use Rattle.yv_statement.specs.declared.refusal.Code.TheVariants as code
-use Rattle.yv_statement.specs.declared.refusal.Refusal.{Refusal}
+use Rattle.yv_text_statement.specs.Order.{Among, Stands, refusal_at}
+use Rattle.yv_text_statement.specs.declared.refusal.Code.{Code}
+use Rattle.yv_text_statement.specs.declared.refusal.Code.TheVariants as code
+use Rattle.yv_text_statement.specs.declared.refusal.Refusal.{Refusal}
 use Rattle.yv_link_scopes.specs.Rows.{Row}
 use Rattle.yv_expand.specs.Tree.{Item}
 use Rattle.yv_expand_rounds.specs.Turns.{State, target_of}

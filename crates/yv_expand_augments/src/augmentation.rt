@@ -1,6 +1,6 @@
 //! Where items are once all augments are applied.
 ghost use Rattle.std.specs.{Prelude.{◌≡◌, ◌≤◌, ◌<◌, ◌==◌, ◌+◌, ◌^◌, ◌&&◌, not, ℕ, List, [], length, map, None, if◌then◌else◌, slice_index_or, IfOk, OnOk}, BTreeMap.{get}, Option.{option_or}, Ordering.{nat_cmp}};
-ghost use Rattle.yv_statement.specs.{Order.{IsLeast}, declared.refusal.Code.TheVariants.{AugmentTarget}};
+ghost use Rattle.yv_text_statement.specs.{Order.{IsLeast}, declared.refusal.Code.TheVariants.{AugmentTarget}};
 ghost use Rattle.yv_link_scopes.specs.{Files.{Briefs}, Rows.{Row}, Views.{files_in, rows_in}};
 ghost use Rattle.yv_expand.specs.Tree.{Item};
 ghost use Rattle.yv_expand_rounds.specs.{declared.label.Label.{Label}, Groups.{group_of_augment, members_of}, Turns.{State, target_of}, InnerState.{IsAugmentation}, Kinds.{is_uses}};
@@ -18,7 +18,7 @@ use yv_expand_refines::Refinements;
 use yv_expand_rounds::{Augmentation, Label};
 use yv_expand_uses::{Layout, Plan, RefineTargets, Spot, is_uses, item_ends};
 use yv_link_scopes::Rows;
-use yv_statement::{Code, Refusal, lesser};
+use yv_text_statement::{Code, Refusal, lesser};
 
 // The last of these; 0 where there is none.
 fn last_of(items: &[usize]) -> usize

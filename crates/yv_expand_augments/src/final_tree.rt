@@ -1,6 +1,6 @@
 //! The final tree.
 ghost use Rattle.std.specs.{Prelude.{◌≡◌, List}, BTreeMap.{get}, Ordering.{nat_cmp}};
-ghost use Rattle.yv_statement.specs.Order.{IsLeast};
+ghost use Rattle.yv_text_statement.specs.Order.{IsLeast};
 ghost use Rattle.yv_expand.specs.Tree.{Item};
 ghost use Rattle.yv_expand_rounds.specs.Turns.{State};
 ghost use Rattle.yv_expand_augments.specs.{FinalItems.{AreAugmentedTree}, MissingTargets.{MissesTarget}};
@@ -10,7 +10,7 @@ use std::collections::BTreeMap;
 use yv_expand_refines::Refinements;
 use yv_expand_rounds::ItemRow;
 use yv_expand_uses::Spot;
-use yv_statement::{Refusal, lesser};
+use yv_text_statement::{Refusal, lesser};
 
 /// The final tree when all augments were applied, and what was known of items and refines before.
 #[derive(Drop)]

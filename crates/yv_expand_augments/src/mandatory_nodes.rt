@@ -1,6 +1,6 @@
 //! Augments of modules that add mandatory nodes to nodes of other modules.
 ghost use Rattle.std.specs.{Prelude.{◌≡◌, ◌<◌, ◌+◌, ◌^◌, ◌==◌, ◌&&◌, ◌||◌, not, ℕ, length, if◌then◌else◌, slice_get, slice_index_or, IfOk, OnOk, None}, Option.{unwrap_or}};
-ghost use Rattle.yv_statement.specs.Order.{IsLeast};
+ghost use Rattle.yv_text_statement.specs.Order.{IsLeast};
 ghost use Rattle.yv_link_scopes.specs.Views.{rows_in};
 ghost use Rattle.yv_expand_rounds.specs.{Tree.{Tree, tree_list}, Kinds.{is_container, is_operation_or_notification}};
 ghost use Rattle.yv_expand_augments.specs.{MandatoryNodes.{ImposesMandatory, source_of, inside, is_configuration, is_container_without, is_given, is_mandatory, is_some_operation, nothing_around, told_in}, InnerMandatoryNodes.{AreShallow, around_marks, configuration_marks, counts, enter, mandatory_refusal, is_mandatory_added, meet}};
@@ -11,7 +11,7 @@ use std::alloc::{AllocError, Global};
 use yv_expand_rounds::{ItemRow, StatementKind};
 use yv_expand_uses::{Spot, is_marked, source_in, spot_at};
 use yv_link_scopes::Rows;
-use yv_statement::{Refusal, lesser};
+use yv_text_statement::{Refusal, lesser};
 
 /// What is known of each item, as refines have left it. A number without a mark has none of these.
 #[derive(Clone, Copy)]

@@ -1,6 +1,6 @@
 //! What is wrong with the augments of modules, and with the final tree.
 ghost use Rattle.std.specs.Prelude.{◌≡◌, List, Some, slice_get};
-ghost use Rattle.yv_statement.specs.{Order.{IsLeast}, declared.refusal.Code.TheVariants.{AugmentTarget}};
+ghost use Rattle.yv_text_statement.specs.{Order.{IsLeast}, declared.refusal.Code.TheVariants.{AugmentTarget}};
 ghost use Rattle.yv_link_scopes.specs.Views.{rows_in};
 ghost use Rattle.yv_expand.specs.Tree.{Item};
 ghost use Rattle.yv_expand_rounds.specs.Turns.{State};
@@ -11,7 +11,7 @@ use crate::augmentation::AugmentedItems;
 use yv_expand_rounds::ItemRow;
 use yv_expand_uses::{Spot, is_uses};
 use yv_link_scopes::Rows;
-use yv_statement::{Code, Refusal, lesser, refusal_if};
+use yv_text_statement::{Code, Refusal, lesser, refusal_if};
 
 // The first depth that isn't kept.
 const TOO_DEEP: usize = 129;

@@ -1,7 +1,7 @@
 //! The augments of `uses` statements in order, worked out once for all copies of a `uses` in one
 //! module.
 ghost use Rattle.std.specs.{Prelude.{◌≡◌, ◌<◌, ◌+◌, ℕ, true, Some, length, slice_get, IfOk, OnOk}, BTreeMap.{get}, Ordering.{nat_cmp}};
-ghost use Rattle.yv_statement.specs.{Order.{IsUpTo}, declared.refusal.Refusal.{Refusal}};
+ghost use Rattle.yv_text_statement.specs.{Order.{IsUpTo}, declared.refusal.Refusal.{Refusal}};
 ghost use Rattle.yv_link_scopes.specs.Views.{rows_in};
 ghost use Rattle.yv_expand_uses.specs.{Spots.{Whole}, AugmentOrder.{augments_in}, InnerPlan.{IsPlan, whole_in}};
 ghost use Rattle.yv_expand_augments.specs.InnerSchedule.{AreSchedules, AreStretches, IsGathering, IsRefusalOf, IsSchedule, stretches_in};
@@ -11,7 +11,7 @@ use std::collections::{BTreeMap, BTreeSet};
 use std::mem;
 use yv_base_tables::PathTree;
 use yv_expand_uses::Plan;
-use yv_statement::{Code, Refusal};
+use yv_text_statement::{Code, Refusal};
 
 /// An augment with its path.
 #[derive(Drop)]

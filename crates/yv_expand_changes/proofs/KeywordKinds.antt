@@ -1,10 +1,10 @@
 -- Which statements may refine which nodes, by what their keywords mean.
 use Rattle.std.proofs.Common.{◌≡◌, ℕ, Bool, true, false, ◌||◌, List, refl, codes, if◌then◌else◌}
-use Rattle.yv_statement.specs.declared.keyword.Keyword.{Keyword}
-use Rattle.yv_statement.specs.declared.keyword.Keyword.TheVariants as word
-use Rattle.yv_statement.specs.Keywords.{keyword_of, same}
-use Rattle.yv_statement.specs.Words.{is_among}
-use Rattle.yv_statement.proofs.Written.{is_by_text}
+use Rattle.yv_text_statement.specs.declared.keyword.Keyword.{Keyword}
+use Rattle.yv_text_statement.specs.declared.keyword.Keyword.TheVariants as word
+use Rattle.yv_text_statement.specs.Keywords.{keyword_of, same}
+use Rattle.yv_text_statement.specs.Words.{is_among}
+use Rattle.yv_text_statement.proofs.KeywordTexts.{is_by_text}
 use Rattle.yv_link_scopes.proofs.Keywords.{extended_by_colon}
 use Rattle.yv_expand.proofs.KeywordKinds.{among_by_kind}
 use Rattle.yv_expand_changes.specs.AllowedRefines.{is_allowed, with_default, with_mandatory, with_presence, with_elements, element_limits, of_any_node}

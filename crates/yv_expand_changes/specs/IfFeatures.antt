@@ -1,7 +1,7 @@
 -- Which conditions of statements and of items hold (RFC 7950, sections 7.13.2 and 7.20.2).
 use Rattle.std.specs.Prelude.{ℕ, ◌&&◌, Bool, List, [], ◌∷◌}
 use Rattle.std.specs.List.{list_all}
-use Rattle.yv_statement.specs.Tree.{Tree, Forest, trees}
+use Rattle.yv_text_statement.specs.Tree.{Tree, Forest, trees}
 use Rattle.yv_link_scopes.specs.Files.{Files}
 use Rattle.yv_link_scopes.specs.Rows.{Row}
 use Rattle.yv_link_scopes.specs.RowList.{rows_of, statements_of}

@@ -1,6 +1,6 @@
 -- Only private clauses cite this: whether a statement that may not be there is on.
 use Rattle.std.specs.Prelude.{ℕ, Bool, true, Option, Some, None}
-use Rattle.yv_statement.specs.Tree.{Tree}
+use Rattle.yv_text_statement.specs.Tree.{Tree}
 use Rattle.yv_expand_changes.specs.Truth.{Truth}
 use Rattle.yv_expand_changes.specs.IfFeatures.{is_on}
 

@@ -1,7 +1,7 @@
 -- Only private clauses cite this: which statements may refine which nodes, by their keywords.
 use Rattle.std.specs.Prelude.{Bool, true, false}
-use Rattle.yv_statement.specs.declared.keyword.Keyword.{Keyword}
-use Rattle.yv_statement.specs.declared.keyword.Keyword.TheVariants as word
+use Rattle.yv_text_statement.specs.declared.keyword.Keyword.{Keyword}
+use Rattle.yv_text_statement.specs.declared.keyword.Keyword.TheVariants as word
 
 -- a node of this keyword may have defaults
 abbrev pub has_defaults : Keyword → Bool

@@ -1,6 +1,6 @@
 -- Which conditions of files hold (RFC 7950, sections 5.6.1 and 7.20.2).
 use Rattle.std.specs.Prelude.{ℕ, Bool, List}
-use Rattle.yv_statement.specs.Selection.{ModuleChoice}
+use Rattle.yv_text_statement.specs.Selection.{ModuleChoice}
 use Rattle.yv_link_scopes.specs.Files.{Files}
 use Rattle.yv_link_features.specs.On.{Holds}
 

@@ -4,7 +4,7 @@ ghost use Rattle.yv_link_scopes.specs.{Files.{has_word}, Views.{lent_in}};
 ghost use Rattle.yv_expand_changes.specs.{AllowedRefines.{is_allowed, is_fit, may_have}, InnerAlike.{is_fit_at}, InnerKeywords.{is_allowed_by}};
 
 use yv_link_scopes::Rows;
-use yv_statement::{Keyword, Statement};
+use yv_text_statement::{Keyword, Statement};
 
 // Whether a statement of a keyword may refine a node of another keyword.
 fn is_allowed_by(keyword: Keyword, target: Keyword) -> bool

@@ -1,6 +1,6 @@
 //! Which conditions hold.
 ghost use Rattle.std.specs.{Prelude.{◌≡◌, ◌&&◌, ◌||◌, true, codes, map, not, slice_get, IfOk}, List.{list_all}};
-ghost use Rattle.yv_statement.specs.Tree.{name_of as name_at};
+ghost use Rattle.yv_text_statement.specs.Tree.{name_of as name_at};
 ghost use Rattle.yv_link_scopes.specs.{Files.{has_word}, Views.{lent_in, trees_in}};
 ghost use Rattle.yv_link.specs.LinkedFiles.{truth_in};
 ghost use Rattle.yv_expand_uses.specs.On.{is_marked};
@@ -13,7 +13,7 @@ use yv_expand_refines::Changes;
 use yv_expand_uses::Spot;
 use yv_link::Linked;
 use yv_link_scopes::{Rows, name_of};
-use yv_statement::{Keyword, Statement};
+use yv_text_statement::{Keyword, Statement};
 
 // Whether a statement isn't a condition, or holds in the file.
 fn holds<'a, 'b>(linked: &Linked<'a, 'b>, file: u32, statement: &'a Statement<'b>) -> bool

@@ -1,6 +1,6 @@
 //! What is wrong with refines.
 ghost use Rattle.std.specs.Prelude.{◌≡◌, List, None, slice_get, slice_index_or, IfOk, IfSome, OnOk};
-ghost use Rattle.yv_statement.specs.Order.{IsLeast};
+ghost use Rattle.yv_text_statement.specs.Order.{IsLeast};
 ghost use Rattle.yv_link_scopes.specs.{Files.{Files}, Views.{lent_in, rows_in}};
 ghost use Rattle.yv_expand_rounds.specs.declared.row.ItemRow.{ItemRow};
 ghost use Rattle.yv_expand_refines.specs.{Targets.{all_meant, meant_at}, declared.targets.RefineTarget.{RefineTarget}};
@@ -15,7 +15,7 @@ use yv_expand_refines::{RefineTarget, RefinedUses, Refinements};
 use yv_expand_rounds::ItemRow;
 use yv_expand_uses::Spot;
 use yv_link_scopes::Rows;
-use yv_statement::{Code, Refusal, lesser, refusal_if};
+use yv_text_statement::{Code, Refusal, lesser, refusal_if};
 
 // The numbers of the items of the final tree.
 fn items_of(alloc: Global, tree: &[ItemRow]) -> Result<BTreeSet<usize>, AllocError>

@@ -11,7 +11,7 @@ use Rattle.yv_link_scopes.specs.declared.kind.NameKind.{NameKind}
 use Rattle.yv_link_scopes.specs.declared.kind.NameKind.TheVariants.{Prefix, Include, Typedef, Grouping, Feature, Identity, Extension}
 use Rattle.yv_link_definitions.specs.BuiltIn.{is_built_in}
 use Rattle.yv_link_definitions.specs.Refers.{is_type, is_uses, names_definition}
-use Rattle.yv_expand_definition.proofs.Giving.{RefersToOne}
+use Rattle.yv_expand_definition.proofs.GivenNodeUniqueness.{RefersToOne}
 
 abbrev pub MeansOne : Type 0
 MeansOne = (files : Briefs) (rows : List Row) (kind : NameKind) (number : ℕ) (name : List ℕ) (d e : Option ℕ) → MeansIn files rows kind number name d → MeansIn files rows kind number name e → d ≡ e

@@ -2,8 +2,8 @@
 use Rattle.std.specs.Prelude.{◌≡◌, ℕ, Bool, true, false, List, [], ◌∷◌, ◌++◌, map, Option, Some, None, codes, slice_get}
 use Rattle.std.specs.List.{list_all}
 use Rattle.std.specs.Option.{option_and_then}
-use Rattle.yv_statement.specs.declared.refusal.Code.{Code}
-use Rattle.yv_statement.specs.declared.refusal.Code.TheVariants as code
+use Rattle.yv_text_statement.specs.declared.refusal.Code.{Code}
+use Rattle.yv_text_statement.specs.declared.refusal.Code.TheVariants as code
 use Rattle.yv_link_scopes.specs.Files.{Files, brief_of}
 use Rattle.yv_link_scopes.specs.RowList.{rows_of, statements_of}
 use Rattle.yv_link_scopes.specs.Rows.{Row}

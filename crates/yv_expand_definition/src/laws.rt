@@ -1,6 +1,6 @@
 //! Laws about the definitions only. These functions do nothing: the contract of each is the law.
 ghost use Rattle.std.specs.{Prelude.{◌≡◌, ◌<◌, ℕ, Bool, false, List, Some, map, slice_get}, List.{Contains}};
-ghost use Rattle.yv_statement.specs.{Order.{refusal_at}, declared.refusal.Refusal.{Refusal}, Selection.{ModuleChoice}};
+ghost use Rattle.yv_text_statement.specs.{Order.{refusal_at}, declared.refusal.Refusal.{Refusal}, Selection.{ModuleChoice}};
 ghost use Rattle.yv_link_scopes.specs.{Files.{Files, brief_of}, RowList.{rows_of}, Rows.{Row}};
 ghost use Rattle.yv_expand.specs.{Expands.{Expands}, StatementBlocks.{is_node_or_uses}, Expansion.{IsWhole}, Tree.{Item, Tree}};
 ghost use Rattle.yv_expand_tree.specs.FileOrder.{marks_of, order_of};

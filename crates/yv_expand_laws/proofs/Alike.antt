@@ -19,7 +19,7 @@ use Rattle.yv_expand_laws.specs.Comes.Adds.{adds, misses, none_left}
 use Rattle.yv_expand_laws.specs.Shows.{Agree, AreLabels, Items, Orders, Shows, Stand}
 use Rattle.yv_expand_laws.specs.Shows.Stand.{no_items as none_stand, not_a_node, shown_node}
 use Rattle.yv_expand_laws.specs.Under.{Keeps, KeepsAdded}
-use Rattle.yv_expand_laws.proofs.Keeping.{all_go_up, goes_up}
+use Rattle.yv_expand_laws.proofs.BlockFrame.{all_go_up, goes_up}
 use Rattle.yv_expand_laws.proofs.Trees.{one_order}
 
 -- a node is as another but for its refines

@@ -15,18 +15,18 @@ use Rattle.yv_expand_changes.specs.Refusals.{IsThere}
 use Rattle.yv_expand_definition.specs.Expansion.{Expand, Tops}
 use Rattle.yv_expand_definition.specs.Gives.{Product, Wrong}
 use Rattle.yv_expand_definition.specs.Nodes.{Forest}
-use Rattle.yv_expand_definition.proofs.Giving.{RefersToOne}
+use Rattle.yv_expand_definition.proofs.GivenNodeUniqueness.{RefersToOne}
 use Rattle.yv_expand_laws.specs.Blocks.{Augments, augment, no_augments}
 use Rattle.yv_expand_laws.specs.Comes.{Comes}
 use Rattle.yv_expand_laws.specs.Files.{AreGiven, ShowFiles, expansion_of, labels_in}
 use Rattle.yv_expand_laws.specs.Marks.{mark_of}
 use Rattle.yv_expand_laws.specs.Shows.{Items}
 use Rattle.yv_expand_laws.specs.Under.{AllStand, FinalStands, Keeps, Under}
-use Rattle.yv_expand_laws.proofs.Begun.{Begins}
-use Rattle.yv_expand_laws.proofs.Making.{are, low}
+use Rattle.yv_expand_laws.proofs.FileBlocks.{Begins}
+use Rattle.yv_expand_laws.proofs.LaterItems.{are, low}
 use Rattle.yv_expand_laws.proofs.Modules.{MadeAt, at_first, begins, facts, start_is, ungiven, within}
-use Rattle.yv_expand_laws.proofs.Refusing.{AskedAt, TellsOf, tells_same}
-use Rattle.yv_expand_laws.proofs.Stood.{beginning_stands}
+use Rattle.yv_expand_laws.proofs.BlockRefusals.{AskedAt, TellsOf, tells_same}
+use Rattle.yv_expand_laws.proofs.InitialBlocks.{beginning_stands}
 use Rattle.yv_expand_laws.proofs.Tops.{AllCome}
 use Rattle.yv_expand_laws.proofs.Whole.{applied_gives, asked_refused}
 

@@ -25,11 +25,11 @@ use Rattle.yv_expand_uses.specs.Paths.{module_paths, path_in}
 use Rattle.yv_expand_uses.specs.Spots.{LayoutView, Whole, copy_group, group_below, labels_of, layout_of, laid_from, one_more, spot_at, spot_of, top_group_of, top_group, used_group}
 use Rattle.yv_expand_uses.specs.declared.spot.Spot.{Spot}
 use Rattle.yv_expand.proofs.UnitListing.{pushed_at}
-use Rattle.yv_expand_laws.proofs.Finding.{not_none}
-use Rattle.yv_expand_laws.proofs.Kinding.{uses_only}
-use Rattle.yv_expand_laws.proofs.Marking.{set_cases}
-use Rattle.yv_expand_laws.proofs.Starting.{none_there}
-use Rattle.yv_expand_laws.proofs.Telling.{laid_many}
+use Rattle.yv_expand_laws.proofs.FoundItems.{not_none}
+use Rattle.yv_expand_laws.proofs.KeywordKinds.{uses_only}
+use Rattle.yv_expand_laws.proofs.GroupMarks.{set_cases}
+use Rattle.yv_expand_laws.proofs.ExpansionStart.{none_there}
+use Rattle.yv_expand_laws.proofs.LabelsAndPaths.{laid_many}
 
 -- the groups in which items are laid
 module _ (w : Whole) where

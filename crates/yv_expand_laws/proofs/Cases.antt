@@ -15,9 +15,9 @@ use Rattle.yv_expand_definition.specs.Paths.{Leads, LeadsNowhere, Step, answers,
 use Rattle.yv_expand_definition.specs.Paths.Leads.{past, into, to_case, into_case}
 use Rattle.yv_expand_laws.specs.Shows.{Agree, AreLabels, Items, Stand}
 use Rattle.yv_expand_laws.specs.Shows.Stand.{no_items as none_stand, not_a_node, shown_node}
-use Rattle.yv_expand_laws.proofs.Finding.{not_none}
+use Rattle.yv_expand_laws.proofs.FoundItems.{not_none}
 use Rattle.yv_expand_laws.proofs.Least.{find}
-use Rattle.yv_expand_laws.proofs.Walking.{arrives, ended_node, finds, named_is, named_no, none_leads, walked, walks_case, walks_past, walks_to}
+use Rattle.yv_expand_laws.proofs.PathAgreement.{arrives, ended_node, finds, named_is, named_no, none_leads, walked, walks_case, walks_past, walks_to}
 
 module _ (labels : List Label) (its : Items) (are : AreLabels labels its) (groups : Groups) (limit : ℕ) where
   -- a path that has taken a step is past the start

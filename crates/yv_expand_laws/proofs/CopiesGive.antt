@@ -23,13 +23,13 @@ use Rattle.yv_expand_uses.specs.AugmentOrder.{augments_in}
 use Rattle.yv_expand_augments.specs.MissingTargets.{next_number}
 use Rattle.yv_expand_uses.specs.declared.spot.Spot.{Spot}
 use Rattle.yv_expand_uses.proofs.Bounds.{laid_whole}
-use Rattle.yv_expand_augments.proofs.Entering.{placed_entered, spot_entered, whole_entered}
-use Rattle.yv_expand_augments.proofs.Given.{once_of}
-use Rattle.yv_expand_augments.proofs.Turning.{number_within}
+use Rattle.yv_expand_augments.proofs.ItemEntry.{placed_entered, spot_entered, whole_entered}
+use Rattle.yv_expand_augments.proofs.ModuleAugments.{once_of}
+use Rattle.yv_expand_augments.proofs.AugmentTurns.{number_within}
 use Rattle.yv_expand_laws.specs.CopiesGive.{CopiesGive}
 use Rattle.yv_expand_laws.specs.CopyEnds.{CopiesEnd}
 use Rattle.yv_expand_laws.proofs.CopyEnds.{placed_keeps, rises, spot_keeps}
-use Rattle.yv_expand_laws.proofs.Finding.{not_none}
+use Rattle.yv_expand_laws.proofs.FoundItems.{not_none}
 use Rattle.yv_expand_laws.proofs.Onward.{KeptInTurns, KeptOnEntry, spot_holds}
 use Rattle.yv_expand_laws.proofs.Parents.{Below, Enters, Many, One, Room, Stand, Stays}
 

@@ -26,13 +26,13 @@ use Rattle.yv_expand_augments.specs.MissingTargets.{after_turns, had_turns, next
 use Rattle.yv_expand_uses.specs.AugmentOrder.{augments_in}
 use Rattle.yv_expand_uses.specs.declared.spot.Spot.{Spot}
 use Rattle.yv_expand_uses.proofs.Bounds.{laid_whole}
-use Rattle.yv_expand_augments.proofs.Entering.{placed_entered, turns_entered}
-use Rattle.yv_expand_augments.proofs.Turning.{giving_filtered, number_within}
-use Rattle.yv_expand_tree.proofs.Standing.{in_first, in_second}
+use Rattle.yv_expand_augments.proofs.ItemEntry.{placed_entered, turns_entered}
+use Rattle.yv_expand_augments.proofs.AugmentTurns.{giving_filtered, number_within}
+use Rattle.yv_expand_tree.proofs.NodePositions.{in_first, in_second}
 use Rattle.yv_expand_laws.specs.CopyEnds.{CopiesEnd}
-use Rattle.yv_expand_laws.proofs.Finding.{not_none}
-use Rattle.yv_expand_laws.proofs.Lying.{last_at, still_at}
-use Rattle.yv_expand_laws.proofs.Telling.{laid_grows}
+use Rattle.yv_expand_laws.proofs.FoundItems.{not_none}
+use Rattle.yv_expand_laws.proofs.LaidBlocks.{last_at, still_at}
+use Rattle.yv_expand_laws.proofs.LabelsAndPaths.{laid_grows}
 
 abbrev pub Many : Type 0
 Many = (labels : List Label) (augments first : ℕ) (st : State) → HaveEntered labels augments first st → length st.ends ≡ augments

@@ -4,7 +4,7 @@ use Rattle.std.specs.List.{slice_get}
 use Rattle.std.specs.Option.{option_map}
 use Rattle.std.proofs.lemmas.Bool.{false≢true}
 use Rattle.std.proofs.lemmas.Option.{same_Some, slice_get-map, slice_get_within}
-use Rattle.yv_statement.specs.declared.refusal.Refusal.{Refusal}
+use Rattle.yv_text_statement.specs.declared.refusal.Refusal.{Refusal}
 use Rattle.yv_link_scopes.specs.Files.{Files, brief_of}
 use Rattle.yv_link_scopes.specs.RowList.{rows_of}
 use Rattle.yv_expand.specs.Origin.{number_of}
@@ -23,10 +23,10 @@ use Rattle.yv_expand_uses.specs.Spots.{Whole, labels_of, layout_of, whole}
 use Rattle.yv_expand_uses.specs.declared.spot.Spot.{Spot}
 use Rattle.yv_expand_tree.specs.Final.{spots_of, final_items}
 use Rattle.yv_expand_tree.specs.FileOrder.{marks_of}
-use Rattle.yv_expand_tree.proofs.Standing.{Every, every_row, in_first, in_lists, in_second}
+use Rattle.yv_expand_tree.proofs.NodePositions.{Every, every_row, in_first, in_lists, in_second}
 use Rattle.yv_expand_definition.specs.Nodes.{Forest, Node, node}
 use Rattle.yv_expand_definition.specs.Refusals.{Stands, here, under, later}
-use Rattle.yv_expand_definition.proofs.Giving.{RefersToOne}
+use Rattle.yv_expand_definition.proofs.GivenNodeUniqueness.{RefersToOne}
 use Rattle.yv_expand_laws.specs.Depths.{DepthsAreOne, RefusesDepth}
 use Rattle.yv_expand_laws.specs.Files.{ShowFiles, expansion_of, labels_in}
 use Rattle.yv_expand_laws.specs.Shows.{Items}
@@ -34,9 +34,9 @@ use Rattle.yv_expand_laws.specs.ItemProperties.{is_some_node}
 use Rattle.yv_expand_laws.specs.Trees.{forest_shown}
 use Rattle.yv_expand_laws.proofs.Below.{AreLowest, IsUses, make_lowest, uses_empty}
 use Rattle.yv_expand_laws.proofs.FinalTree.{EachOnce, final_tree_shows}
-use Rattle.yv_expand_laws.proofs.Finding.{not_none}
-use Rattle.yv_expand_laws.proofs.Kinding.{node_is}
-use Rattle.yv_expand_laws.proofs.Telling.{laid_many, there_is, told_at}
+use Rattle.yv_expand_laws.proofs.FoundItems.{not_none}
+use Rattle.yv_expand_laws.proofs.KeywordKinds.{node_is}
+use Rattle.yv_expand_laws.proofs.LabelsAndPaths.{laid_many, there_is, told_at}
 
 module _ (its : Items) where
   abbrev chosen : Bool → ℕ → Tree → Tree → Forest

@@ -9,12 +9,12 @@ use Rattle.yv_expand_rounds.specs.Turns.{State}
 use Rattle.yv_expand_augments.specs.Augmentation.{AreAugmented}
 use Rattle.yv_expand_uses.specs.Spots.{Whole, labels_of, layout_of, whole}
 use Rattle.yv_expand_tree.specs.FileOrder.{marks_of, order_of}
-use Rattle.yv_expand_definition.proofs.Giving.{RefersToOne}
+use Rattle.yv_expand_definition.proofs.GivenNodeUniqueness.{RefersToOne}
 use Rattle.yv_expand_laws.specs.Files.{expansion_of, labels_in}
 use Rattle.yv_expand_laws.specs.FinalTree.{FinalTreeShows}
 use Rattle.yv_expand_laws.proofs.Givers.{many_labels}
-use Rattle.yv_expand_laws.proofs.Marked.{order_marked}
-use Rattle.yv_expand_laws.proofs.Telling.{labels_tell}
+use Rattle.yv_expand_laws.proofs.FileMarks.{order_marked}
+use Rattle.yv_expand_laws.proofs.LabelsAndPaths.{labels_tell}
 use Rattle.yv_expand_laws.proofs.Trees.{tree_shows}
 use Rattle.yv_expand_laws.proofs.Whole.{files_show}
 

@@ -11,7 +11,7 @@ use Rattle.yv_expand_rounds.specs.Order.{is_given, is_some_given}
 use Rattle.yv_expand_rounds.specs.Placements.{nothing}
 use Rattle.yv_expand_uses.specs.Spots.{Whole, source_in, labels_of, layout_of}
 use Rattle.yv_expand_uses.specs.declared.spot.Spot.{Spot as LaidSpot}
-use Rattle.yv_expand_tree.proofs.Standing.{in_lists}
+use Rattle.yv_expand_tree.proofs.NodePositions.{in_lists}
 use Rattle.yv_expand_laws.specs.FirstItems.{BlocksMarked, first_state}
 use Rattle.yv_expand_laws.specs.Blocks.{Augments, Block, augment, no_augments, run_all, uses}
 use Rattle.yv_expand_laws.specs.Blocks as block
@@ -19,16 +19,16 @@ use Rattle.yv_expand_laws.specs.Comes.{HasMarks, MarksBlock}
 use Rattle.yv_expand_laws.specs.Expansions.{spot_view}
 use Rattle.yv_expand_laws.specs.Files.{begins_at, giver_by, giver_of}
 use Rattle.yv_expand_laws.specs.Layout.{AllLie, Lie, Spot}
-use Rattle.yv_expand_laws.proofs.Beginning.{blocks_mark}
-use Rattle.yv_expand_laws.proofs.Finding.{not_none}
-use Rattle.yv_expand_laws.proofs.Framing.{nothing_stands}
-use Rattle.yv_expand_laws.proofs.Keeping.{all_go_up, goes_up}
-use Rattle.yv_expand_laws.proofs.Lying.{map_append, map_length, still_at}
-use Rattle.yv_expand_laws.proofs.Making.{at_behind}
-use Rattle.yv_expand_laws.proofs.Marking.{run_marks}
+use Rattle.yv_expand_laws.proofs.InitialNodes.{blocks_mark}
+use Rattle.yv_expand_laws.proofs.FoundItems.{not_none}
+use Rattle.yv_expand_laws.proofs.FrameSequences.{nothing_stands}
+use Rattle.yv_expand_laws.proofs.BlockFrame.{all_go_up, goes_up}
+use Rattle.yv_expand_laws.proofs.LaidBlocks.{map_append, map_length, still_at}
+use Rattle.yv_expand_laws.proofs.LaterItems.{at_behind}
+use Rattle.yv_expand_laws.proofs.GroupMarks.{run_marks}
 use Rattle.yv_expand_laws.proofs.Marks.{Told, lie_marked, told_first, told_rest}
-use Rattle.yv_expand_laws.proofs.Starting.{none_there}
-use Rattle.yv_expand_laws.proofs.Telling.{laid_many, told_at}
+use Rattle.yv_expand_laws.proofs.ExpansionStart.{none_there}
+use Rattle.yv_expand_laws.proofs.LabelsAndPaths.{laid_many, told_at}
 
 -- the blocks of augments are those of trees, one behind the other
 abbrev pub Spans : {lo hi c e k own : ℕ} → Augments lo hi c e k own → List Tree → Type 0

@@ -5,9 +5,9 @@ use Rattle.std.specs.List.{list_any, slice_get}
 use Rattle.std.specs.Option.{is_some, option_map, unwrap_or}
 use Rattle.std.proofs.lemmas.Bool.{false≢true}
 use Rattle.std.proofs.lemmas.Option.{same_Some, slice_get-map}
-use Rattle.yv_statement.specs.Order.{refusal_at}
-use Rattle.yv_statement.specs.declared.refusal.Code.TheVariants as code
-use Rattle.yv_statement.specs.declared.refusal.Refusal.{Refusal}
+use Rattle.yv_text_statement.specs.Order.{refusal_at}
+use Rattle.yv_text_statement.specs.declared.refusal.Code.TheVariants as code
+use Rattle.yv_text_statement.specs.declared.refusal.Refusal.{Refusal}
 use Rattle.yv_link_scopes.specs.Files.{Files, brief_of}
 use Rattle.yv_link_scopes.specs.RowList.{rows_of}
 use Rattle.yv_link_scopes.specs.Rows.{Row}
@@ -37,27 +37,27 @@ use Rattle.yv_node_properties.specs.declared.properties.StatedProperties.{Stated
 use Rattle.yv_expand_changes.specs.Properties.{said_of_all, told_of}
 use Rattle.yv_expand_changes.specs.Properties as marked
 use Rattle.yv_expand_tree.specs.FileOrder.{marks_of, order_of}
-use Rattle.yv_expand_tree.proofs.Standing.{Every, every_row}
+use Rattle.yv_expand_tree.proofs.NodePositions.{Every, every_row}
 use Rattle.yv_expand_definition.specs.Nodes.{Forest, Node, node}
 use Rattle.yv_expand_definition.specs.Nodes as nodes
 use Rattle.yv_expand_definition.specs.Refusals.{Imposes, Stands, has_mandatory, here, is_config, is_configuration, is_needed, later, under}
 use Rattle.yv_expand_definition.specs.Refusals as by_node
-use Rattle.yv_expand_definition.proofs.Giving.{RefersToOne}
+use Rattle.yv_expand_definition.proofs.GivenNodeUniqueness.{RefersToOne}
 use Rattle.yv_expand_laws.specs.Files.{ShowFiles, expansion_of, giver_by, labels_in}
 use Rattle.yv_expand_laws.specs.Impositions.{ImpositionsAreOne, UsesAreOptional}
 use Rattle.yv_expand_laws.specs.Shows.{Items}
 use Rattle.yv_expand_laws.specs.ItemProperties.{is_some_node}
 use Rattle.yv_expand_laws.specs.Trees.{forest_shown}
 use Rattle.yv_expand_laws.proofs.Below.{AreLowest, IsUses, make_lowest, uses_empty}
-use Rattle.yv_expand_laws.proofs.Choosing.{left_is, right_is}
+use Rattle.yv_expand_laws.proofs.BlockStatements.{left_is, right_is}
 use Rattle.yv_expand_laws.proofs.Depths.{AllWithin, uses_is}
 use Rattle.yv_expand_laws.proofs.FinalTree.{EachOnce, final_tree_shows}
-use Rattle.yv_expand_laws.proofs.Finding.{not_none}
-use Rattle.yv_expand_laws.proofs.Kinding.{node_is, uses_only}
-use Rattle.yv_expand_laws.proofs.Meant.{no_changes}
+use Rattle.yv_expand_laws.proofs.FoundItems.{not_none}
+use Rattle.yv_expand_laws.proofs.KeywordKinds.{node_is, uses_only}
+use Rattle.yv_expand_laws.proofs.RefineTargets.{no_changes}
 use Rattle.yv_expand_laws.proofs.Scopes.{item_uses}
 use Rattle.yv_expand_laws.proofs.StatementMarks.{both_true}
-use Rattle.yv_expand_laws.proofs.Telling.{laid_many, there_is, told_at}
+use Rattle.yv_expand_laws.proofs.LabelsAndPaths.{laid_many, there_is, told_at}
 
 read_at : {A B : Type 0} (f : A → B) (d : B) (xs : List A) (i : ℕ) (x : A) → slice_get xs i ≡ Some x → slice_index_or (map f xs) i d ≡ f x
 read_at f d [] i x at = absurd (not_none at)

@@ -11,9 +11,9 @@ use Rattle.yv_expand_rounds.specs.Paths.{before, first_named, least, lesser}
 use Rattle.yv_expand_laws.specs.Order.{comes_before}
 use Rattle.yv_expand_laws.specs.Shows.{Ascend, Orders}
 use Rattle.yv_expand_laws.specs.Shows.Ascend.{no_items, one_more}
-use Rattle.yv_expand_laws.proofs.Finding.{found, least_there, not_none, there_first, there_later}
-use Rattle.yv_expand_laws.proofs.Framing.{nothing_stands}
-use Rattle.yv_expand_laws.proofs.Showing.{first_or}
+use Rattle.yv_expand_laws.proofs.FoundItems.{found, least_there, not_none, there_first, there_later}
+use Rattle.yv_expand_laws.proofs.FrameSequences.{nothing_stands}
+use Rattle.yv_expand_laws.proofs.BlockNodes.{first_or}
 
 -- the first that passes, of a list in order
 abbrev pub find : (passes : ℕ → Bool) → List ℕ → Option ℕ

@@ -4,7 +4,7 @@ use Rattle.yv_expand_tree.specs.FileOrder.{marks_of, order_of}
 use Rattle.yv_expand_laws.specs.Files.{ItemsShow}
 use Rattle.yv_expand_laws.specs.LeftSchema.{LeftIsSchema}
 use Rattle.yv_expand_laws.specs.Schema.{LeftShows}
-use Rattle.yv_expand_laws.proofs.Marked.{order_marked}
+use Rattle.yv_expand_laws.proofs.FileMarks.{order_marked}
 use Rattle.yv_expand_laws.proofs.RefusalsJoined.{ExpandToSome}
 
 pub left_is_schema : (files : Files) → ExpandToSome → ItemsShow files → LeftShows files → LeftIsSchema files

@@ -3,7 +3,7 @@ use Rattle.std.proofs.Common.{inl, inr, ◌≡◌, ℕ, ◌+◌, ◌<◌, ◌≤
 use Rattle.std.specs.List.{Contains, filter, flat_map, slice_get}
 use Rattle.std.proofs.lemmas.List.{append-nil}
 use Rattle.std.proofs.lemmas.Option.{same_Some}
-use Rattle.yv_statement.specs.declared.refusal.Code.TheVariants as code
+use Rattle.yv_text_statement.specs.declared.refusal.Code.TheVariants as code
 use Rattle.yv_link_scopes.specs.Files.{Files, brief_of, has_word}
 use Rattle.yv_link_scopes.specs.RowList.{rows_of}
 use Rattle.yv_link_scopes.specs.Rows.{Row}
@@ -28,7 +28,7 @@ use Rattle.yv_expand_definition.specs.Gives.AugmentsGive.{none_left as augmented
 use Rattle.yv_expand_definition.specs.Nodes.{Forest, Node, node}
 use Rattle.yv_expand_definition.specs.Nodes as nodes
 use Rattle.yv_expand_definition.specs.Paths.{Leads, at as end_at_node, path_of}
-use Rattle.yv_expand_definition.proofs.Giving.{RefersToOne}
+use Rattle.yv_expand_definition.proofs.GivenNodeUniqueness.{RefersToOne}
 use Rattle.yv_expand_definition.proofs.Nothing.{adds_none, gives_none}
 use Rattle.yv_expand_laws.specs.Blocks.{Augments, augment, no_augments, run_all}
 use Rattle.yv_expand_laws.specs.Comes.{AllMarked, HasMarks}
@@ -39,21 +39,21 @@ use Rattle.yv_expand_laws.specs.Marks.{mark_of}
 use Rattle.yv_expand_laws.specs.Shows.{Agree, Items}
 use Rattle.yv_expand_laws.specs.ItemProperties.{HaveStatements}
 use Rattle.yv_expand_laws.specs.Under.{Keeps, KeepsAdded}
-use Rattle.yv_expand_laws.proofs.Choosing.{block_scope, nothing_given, ordinal_is}
-use Rattle.yv_expand_laws.proofs.Finding.{there_first, there_later}
-use Rattle.yv_expand_laws.proofs.Framing.{narrower, nothing_stands}
-use Rattle.yv_expand_laws.proofs.Joining.{count_joined, joined_assoc, laid_append, listed_joined}
-use Rattle.yv_expand_laws.proofs.Keeping.{AllKept, MayAll, all_go_up, all_keep, goes_up}
-use Rattle.yv_expand_laws.proofs.Kinding.{right_is}
-use Rattle.yv_expand_laws.proofs.Lying.{AllLies, Lies, laid_as, map_append, map_length, still_at}
-use Rattle.yv_expand_laws.proofs.Marking.{all_marks}
-use Rattle.yv_expand_laws.proofs.Reaching.{adds_of, judged_list}
-use Rattle.yv_expand_laws.proofs.Reaching.Goes.{adds, hits_still, misses, misses_still}
-use Rattle.yv_expand_laws.proofs.Refusing.{AskedAt, Go, TellsMore, added_tells, go_none, go_same, judged_tells, missed_tells}
-use Rattle.yv_expand_laws.proofs.Showing.{first_or, may_block, may_others}
-use Rattle.yv_expand_laws.proofs.Staging.{noted, noted_alike}
-use Rattle.yv_expand_laws.proofs.Using.{group_of_used, no_item}
-use Rattle.yv_expand_laws.proofs.Making.{IsHere, Makes, MayRun, all_state_is, drop_at, each_label, first_stops, low, new_long, node_stays, split_here}
+use Rattle.yv_expand_laws.proofs.BlockStatements.{block_scope, nothing_given, ordinal_is}
+use Rattle.yv_expand_laws.proofs.FoundItems.{there_first, there_later}
+use Rattle.yv_expand_laws.proofs.FrameSequences.{narrower, nothing_stands}
+use Rattle.yv_expand_laws.proofs.JoinedBlocks.{count_joined, joined_assoc, laid_append, listed_joined}
+use Rattle.yv_expand_laws.proofs.BlockFrame.{AllKept, MayAll, all_go_up, all_keep, goes_up}
+use Rattle.yv_expand_laws.proofs.KeywordKinds.{right_is}
+use Rattle.yv_expand_laws.proofs.LaidBlocks.{AllLies, Lies, laid_as, map_append, map_length, still_at}
+use Rattle.yv_expand_laws.proofs.GroupMarks.{all_marks}
+use Rattle.yv_expand_laws.proofs.AugmentTargets.{adds_of, judged_list}
+use Rattle.yv_expand_laws.proofs.AugmentTargets.Goes.{adds, hits_still, misses, misses_still}
+use Rattle.yv_expand_laws.proofs.BlockRefusals.{AskedAt, Go, TellsMore, added_tells, go_none, go_same, judged_tells, missed_tells}
+use Rattle.yv_expand_laws.proofs.BlockNodes.{first_or, may_block, may_others}
+use Rattle.yv_expand_laws.proofs.RefineStages.{noted, noted_alike}
+use Rattle.yv_expand_laws.proofs.UsesBlocks.{group_of_used, no_item}
+use Rattle.yv_expand_laws.proofs.LaterItems.{IsHere, Makes, MayRun, all_state_is, drop_at, each_label, first_stops, low, new_long, node_stays, split_here}
 use Rattle.yv_expand_laws.proofs.MakingNodes.{Given, PartsMake, StandsBelow, all_make, joined_nothing}
 use Rattle.yv_expand_laws.proofs.MakingRefines.{agree_at}
 use Rattle.yv_expand_laws.proofs.MakingNodes.PartsMake.{no_parts, one_part}

@@ -30,13 +30,13 @@ use Rattle.yv_expand_uses.specs.RefineTargets.{node_meant, refines_in}
 use Rattle.yv_expand_augments.specs.RefineMeanings.{refined_from}
 use Rattle.yv_expand_uses.specs.Spots.{LayoutView, Whole, group_below, module_file_below, labels_of, layout_of, spot_at, spot_of, whole}
 use Rattle.yv_expand_uses.specs.declared.spot.Spot.{Spot}
-use Rattle.yv_expand_uses.proofs.Ending.{drop_drop}
+use Rattle.yv_expand_uses.proofs.SubtreeEnds.{drop_drop}
 use Rattle.yv_expand_refines.specs.Targets.{RefineMeaning}
 use Rattle.yv_expand_definition.specs.Gives.{Gives, Product, nothing as made_none}
 use Rattle.yv_expand_definition.specs.Gives.Gives.{no_statements as gives_nothing, other as gives_other, one_node as gives_node, operation as gives_operation, uses as gives_uses}
 use Rattle.yv_expand_definition.specs.Nodes.{Forest, Node, node}
 use Rattle.yv_expand_definition.specs.Nodes as nodes
-use Rattle.yv_expand_definition.proofs.Giving.{clash}
+use Rattle.yv_expand_definition.proofs.GivenNodeUniqueness.{clash}
 use Rattle.yv_expand_laws.specs.Blocks.{Augments, Block, augment, no_augments, enter_block, run_all}
 use Rattle.yv_expand_laws.specs.Blocks as block
 use Rattle.yv_expand_laws.specs.Comes.Comes.{no_items as none_come, one_node}
@@ -44,15 +44,15 @@ use Rattle.yv_expand_laws.specs.StatementItems.{ShowNodes, around, under_of}
 use Rattle.yv_expand_laws.specs.Shows.{Items}
 use Rattle.yv_expand_laws.specs.Under.{Keeps}
 use Rattle.yv_expand_laws.specs.ItemProperties.{is_some_node, name_at, name_of}
-use Rattle.yv_expand_laws.proofs.Expanding.{no_uses}
-use Rattle.yv_expand_laws.proofs.Finding.{there_first, there_later}
-use Rattle.yv_expand_laws.proofs.Joining.{count_joined, listed_joined}
-use Rattle.yv_expand_laws.proofs.Keeping.{goes_up}
-use Rattle.yv_expand_laws.proofs.Kinding.{input_is, input_no_uses, operation_item, output_is, output_no_uses, statement_kind}
-use Rattle.yv_expand_laws.proofs.Lying.{Lies, empty_lies, group_of_node, item_lies, laid_as, last_at, lies_then, part_no_uses, spot_stays, still_at}
-use Rattle.yv_expand_laws.proofs.Refusing.{Come, come_as, come_none, node_tells}
-use Rattle.yv_expand_laws.proofs.Staging.{all_above, changes_away, noted}
-use Rattle.yv_expand_laws.proofs.Making.{IsHere, Makes, MayRun, first_stops, item_here, spot_here, then_makes}
+use Rattle.yv_expand_laws.proofs.ExpansionBlocks.{no_uses}
+use Rattle.yv_expand_laws.proofs.FoundItems.{there_first, there_later}
+use Rattle.yv_expand_laws.proofs.JoinedBlocks.{count_joined, listed_joined}
+use Rattle.yv_expand_laws.proofs.BlockFrame.{goes_up}
+use Rattle.yv_expand_laws.proofs.KeywordKinds.{input_is, input_no_uses, operation_item, output_is, output_no_uses, statement_kind}
+use Rattle.yv_expand_laws.proofs.LaidBlocks.{Lies, empty_lies, group_of_node, item_lies, laid_as, last_at, lies_then, part_no_uses, spot_stays, still_at}
+use Rattle.yv_expand_laws.proofs.BlockRefusals.{Come, come_as, come_none, node_tells}
+use Rattle.yv_expand_laws.proofs.RefineStages.{all_above, changes_away, noted}
+use Rattle.yv_expand_laws.proofs.LaterItems.{IsHere, Makes, MayRun, first_stops, item_here, spot_here, then_makes}
 
 module _ (files : Files) (augments : List ℕ) (many : ℕ) (items : List Item) (its : Items) where
   abbrev pub w : Whole

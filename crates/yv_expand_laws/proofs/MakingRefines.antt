@@ -44,12 +44,12 @@ use Rattle.yv_expand_laws.specs.RefusedRefines.{Refuse}
 use Rattle.yv_expand_laws.specs.Under.{Keeps}
 use Rattle.yv_expand_laws.proofs.RefusedRefines.{fits, means_none, none_refused, unfit}
 use Rattle.yv_expand_laws.proofs.Alike.{AreAlike, IsLike, Same, comes_kept, same_then}
-use Rattle.yv_expand_laws.proofs.Finding.{not_none, there_first, there_later}
-use Rattle.yv_expand_laws.proofs.Lying.{map_length}
-use Rattle.yv_expand_laws.proofs.Refined.{block_is_missed, refined_kept}
-use Rattle.yv_expand_laws.proofs.Staging.{Targets, changes_first, changes_then, noted, noted_alike, noted_labels}
-use Rattle.yv_expand_laws.proofs.Telling.{paths_agree, there_is, told_at}
-use Rattle.yv_expand_laws.proofs.Making.{MayRun, are, low}
+use Rattle.yv_expand_laws.proofs.FoundItems.{not_none, there_first, there_later}
+use Rattle.yv_expand_laws.proofs.LaidBlocks.{map_length}
+use Rattle.yv_expand_laws.proofs.RefinedBlocks.{block_is_missed, refined_kept}
+use Rattle.yv_expand_laws.proofs.RefineStages.{Targets, changes_first, changes_then, noted, noted_alike, noted_labels}
+use Rattle.yv_expand_laws.proofs.LabelsAndPaths.{paths_agree, there_is, told_at}
+use Rattle.yv_expand_laws.proofs.LaterItems.{MayRun, are, low}
 
 module _ (files : Files) (augments : List ℕ) (many : ℕ) (items : List Item) (its : Items) where
   abbrev pub w : Whole

@@ -37,15 +37,15 @@ use Rattle.yv_expand_augments.specs.RefineMeanings.{refined_from}
 use Rattle.yv_expand_uses.specs.Spots.{LayoutView, Whole, copy_group, module_file_below, labels_of, layout_of, spot_at, spot_of, whole}
 use Rattle.yv_expand_uses.specs.AugmentOrder.{augments_in}
 use Rattle.yv_expand_uses.specs.declared.spot.Spot.{Spot}
-use Rattle.yv_expand_uses.proofs.Ending.{drop_drop, run_yes}
-use Rattle.yv_expand_augments.proofs.Turning.{giving_filtered}
+use Rattle.yv_expand_uses.proofs.SubtreeEnds.{drop_drop, run_yes}
+use Rattle.yv_expand_augments.proofs.AugmentTurns.{giving_filtered}
 use Rattle.yv_expand_changes.specs.Changes.{changes}
 use Rattle.yv_expand_refines.specs.Targets.{RefineMeaning}
 use Rattle.yv_expand_definition.specs.Gives.{AugmentsGive, Gives, Product, takes_block, RefinesGive as AreRefined}
 use Rattle.yv_expand_definition.specs.Gives.Gives.{no_statements as gives_nothing, other as gives_other, one_node as gives_node, operation as gives_operation, uses as gives_uses}
 use Rattle.yv_expand_definition.specs.Nodes.{Forest, Node, node}
 use Rattle.yv_expand_definition.specs.Nodes as nodes
-use Rattle.yv_expand_definition.proofs.Giving.{RefersToOne, clash}
+use Rattle.yv_expand_definition.proofs.GivenNodeUniqueness.{RefersToOne, clash}
 use Rattle.yv_expand_laws.specs.Blocks.{Augments, Block, augment, no_augments, enter_block, run_all}
 use Rattle.yv_expand_laws.specs.Blocks as block
 use Rattle.yv_expand_laws.specs.Comes.{Comes, MarksBlock}
@@ -57,22 +57,22 @@ use Rattle.yv_expand_laws.specs.Shows.{AreLabels, Items}
 use Rattle.yv_expand_laws.specs.ItemProperties.{HaveStatements, is_some_node}
 use Rattle.yv_expand_laws.specs.Under.{Keeps, KeepsAdded}
 use Rattle.yv_expand_laws.proofs.Alike.{Same}
-use Rattle.yv_expand_laws.proofs.Choosing.{augments_are, block_scope, filter_in, no_augment_gives, refines_are, row_at}
-use Rattle.yv_expand_laws.proofs.Expanding.{no_uses}
-use Rattle.yv_expand_laws.proofs.Framing.{narrower, still}
-use Rattle.yv_expand_laws.proofs.Joining.{count_joined, listed_joined}
-use Rattle.yv_expand_laws.proofs.Keeping.{AllKept, MayAll, all_go_up, all_keep, goes_up}
-use Rattle.yv_expand_laws.proofs.Kinding.{refers_uses, statement_kind, uses_no_augment, uses_no_refine}
-use Rattle.yv_expand_laws.proofs.Lying.{AllLies, Lies, empty_lies, laid_as, last_at, map_length, still_at, uses_lies}
-use Rattle.yv_expand_laws.proofs.Marking.{all_marks}
-use Rattle.yv_expand_laws.proofs.Reaching.{EndsFrom, adds_of, bad_reach, copies_show, due, goes_reach, missed_reach, shows_made}
-use Rattle.yv_expand_laws.proofs.Refusing.{Come, Go, come_as, come_none, go_same, refined_by, uses_tell}
-use Rattle.yv_expand_laws.proofs.Showing.{may_all, may_copies}
-use Rattle.yv_expand_laws.proofs.Staging.{Targets, changes_away, changes_then, noted, noted_alike, noted_labels}
-use Rattle.yv_expand_laws.proofs.Starting.{count_listed}
-use Rattle.yv_expand_laws.proofs.Telling.{laid_grows, there_is}
-use Rattle.yv_expand_laws.proofs.Using.{group_of_used}
-use Rattle.yv_expand_laws.proofs.Making.{IsHere, Makes, MayRun, all_state_is, are, at_behind, drop_at, drop_front, each_label, end_before, first_stops, item_here, low, marked, new_long, node_stays, split_here, spot_here, state_is}
+use Rattle.yv_expand_laws.proofs.BlockStatements.{augments_are, block_scope, filter_in, no_augment_gives, refines_are, row_at}
+use Rattle.yv_expand_laws.proofs.ExpansionBlocks.{no_uses}
+use Rattle.yv_expand_laws.proofs.FrameSequences.{narrower, still}
+use Rattle.yv_expand_laws.proofs.JoinedBlocks.{count_joined, listed_joined}
+use Rattle.yv_expand_laws.proofs.BlockFrame.{AllKept, MayAll, all_go_up, all_keep, goes_up}
+use Rattle.yv_expand_laws.proofs.KeywordKinds.{refers_uses, statement_kind, uses_no_augment, uses_no_refine}
+use Rattle.yv_expand_laws.proofs.LaidBlocks.{AllLies, Lies, empty_lies, laid_as, last_at, map_length, still_at, uses_lies}
+use Rattle.yv_expand_laws.proofs.GroupMarks.{all_marks}
+use Rattle.yv_expand_laws.proofs.AugmentTargets.{EndsFrom, adds_of, bad_reach, copies_show, due, goes_reach, missed_reach, shows_made}
+use Rattle.yv_expand_laws.proofs.BlockRefusals.{Come, Go, come_as, come_none, go_same, refined_by, uses_tell}
+use Rattle.yv_expand_laws.proofs.BlockNodes.{may_all, may_copies}
+use Rattle.yv_expand_laws.proofs.RefineStages.{Targets, changes_away, changes_then, noted, noted_alike, noted_labels}
+use Rattle.yv_expand_laws.proofs.ExpansionStart.{count_listed}
+use Rattle.yv_expand_laws.proofs.LabelsAndPaths.{laid_grows, there_is}
+use Rattle.yv_expand_laws.proofs.UsesBlocks.{group_of_used}
+use Rattle.yv_expand_laws.proofs.LaterItems.{IsHere, Makes, MayRun, all_state_is, are, at_behind, drop_at, drop_front, each_label, end_before, first_stops, item_here, low, marked, new_long, node_stays, split_here, spot_here, state_is}
 use Rattle.yv_expand_laws.proofs.MakingNodes.{Given, PartMakes, PartsMake, StandsBelow, all_make, makes_for, node_makes, operation_makes, spot_above}
 use Rattle.yv_expand_laws.proofs.MakingRefines.{meant_all, refines_come}
 use Rattle.yv_expand_laws.proofs.MakingAugments.{AllMakes, MayAllRun, all_given_make}

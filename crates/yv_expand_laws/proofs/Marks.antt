@@ -16,10 +16,10 @@ use Rattle.yv_expand_laws.specs.Comes.{AllMarked, MarksBlock}
 use Rattle.yv_expand_laws.specs.Expansions.{spot_view}
 use Rattle.yv_expand_laws.specs.Layout.{AllLie, Lie, Spot}
 use Rattle.yv_expand_laws.specs.Marks.{BlocksAreMarked, mark_of}
-use Rattle.yv_expand_laws.proofs.Finding.{not_none}
-use Rattle.yv_expand_laws.proofs.Keeping.{all_go_up, goes_up}
-use Rattle.yv_expand_laws.proofs.Lying.{map_length, still_at}
-use Rattle.yv_expand_laws.proofs.Telling.{laid_many, told_at}
+use Rattle.yv_expand_laws.proofs.FoundItems.{not_none}
+use Rattle.yv_expand_laws.proofs.BlockFrame.{all_go_up, goes_up}
+use Rattle.yv_expand_laws.proofs.LaidBlocks.{map_length, still_at}
+use Rattle.yv_expand_laws.proofs.LabelsAndPaths.{laid_many, told_at}
 
 past_front : {A : Type 0} (xs ys : List A) (j : ℕ) → slice_get (xs ++ ys) (length xs + j) ≡ slice_get ys j
 past_front [] ys j = ap (slice_get ys) (let e : 0 + j ≡ j = omega arith in e)

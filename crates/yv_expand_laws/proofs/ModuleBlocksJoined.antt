@@ -3,7 +3,7 @@ use Rattle.std.proofs.Common.{◌≡◌, ℕ, ◌<◌, Bool, true, false, if◌t
 use Rattle.std.specs.List.{slice_get}
 use Rattle.std.specs.Option.{option_and_then}
 use Rattle.std.proofs.lemmas.Option.{same_Some, slice_get_within}
-use Rattle.yv_statement.specs.declared.refusal.Code.TheVariants as code
+use Rattle.yv_text_statement.specs.declared.refusal.Code.TheVariants as code
 use Rattle.yv_link_scopes.specs.Files.{Files, brief_of}
 use Rattle.yv_link_scopes.specs.RowList.{rows_of}
 use Rattle.yv_expand.specs.StatementBlocks.{augments_of}
@@ -17,16 +17,16 @@ use Rattle.yv_expand_uses.specs.Spots.{Whole, layout_of, whole}
 use Rattle.yv_expand_uses.specs.declared.spot.Spot.{Spot}
 use Rattle.yv_expand_tree.specs.FileOrder.{marks_of, order_of}
 use Rattle.yv_expand_definition.specs.Gives.{Wrong, takes_block}
-use Rattle.yv_expand_definition.proofs.Giving.{RefersToOne}
+use Rattle.yv_expand_definition.proofs.GivenNodeUniqueness.{RefersToOne}
 use Rattle.yv_expand_laws.specs.Files.{AreGiven, expansion_of, labels_in}
 use Rattle.yv_expand_laws.specs.ModuleBlocks.{ModuleBlocksAreOne, ModuleUntaken}
-use Rattle.yv_expand_laws.proofs.Asking.{block_below}
-use Rattle.yv_expand_laws.proofs.Finding.{not_none}
-use Rattle.yv_expand_laws.proofs.Lying.{map_length}
-use Rattle.yv_expand_laws.proofs.Marked.{order_marked}
+use Rattle.yv_expand_laws.proofs.OuterConditions.{block_below}
+use Rattle.yv_expand_laws.proofs.FoundItems.{not_none}
+use Rattle.yv_expand_laws.proofs.LaidBlocks.{map_length}
+use Rattle.yv_expand_laws.proofs.FileMarks.{order_marked}
 use Rattle.yv_expand_laws.proofs.Orders.{at_there}
 use Rattle.yv_expand_laws.proofs.Targets.{IsInner, contains_at, gives_known, near, tops_known}
-use Rattle.yv_expand_laws.proofs.Telling.{there_is}
+use Rattle.yv_expand_laws.proofs.LabelsAndPaths.{there_is}
 use Rattle.yv_expand_laws.proofs.Whole.{block_refused}
 
 -- an item that is a target is there

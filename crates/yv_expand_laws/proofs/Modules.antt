@@ -24,7 +24,7 @@ use Rattle.yv_expand_definition.specs.Expansion.{Tops}
 use Rattle.yv_expand_definition.specs.Gives.{Gives, Product}
 use Rattle.yv_expand_definition.specs.Nodes.{Forest, nodes_given}
 use Rattle.yv_expand_definition.specs.Rounds.{IsModuleFile}
-use Rattle.yv_expand_definition.proofs.Giving.{RefersToOne}
+use Rattle.yv_expand_definition.proofs.GivenNodeUniqueness.{RefersToOne}
 use Rattle.yv_expand_laws.specs.FirstItems.{AllShow, first_state}
 use Rattle.yv_expand_laws.specs.Blocks.{Augments, augment, no_augments}
 use Rattle.yv_expand_laws.specs.Comes.{Comes}
@@ -33,18 +33,18 @@ use Rattle.yv_expand_laws.specs.StatementItems.{ShowNodes, around, one_of, under
 use Rattle.yv_expand_laws.specs.Marks.{mark_of}
 use Rattle.yv_expand_laws.specs.Shows.{Items, Shows}
 use Rattle.yv_expand_laws.specs.ItemProperties.{HaveStatements}
-use Rattle.yv_expand_laws.proofs.Beginning.{beginning_shows}
-use Rattle.yv_expand_laws.proofs.Begun.{Begins, begins_are}
-use Rattle.yv_expand_laws.proofs.Finding.{there_first, there_later}
+use Rattle.yv_expand_laws.proofs.InitialNodes.{beginning_shows}
+use Rattle.yv_expand_laws.proofs.FileBlocks.{Begins, begins_are}
+use Rattle.yv_expand_laws.proofs.FoundItems.{there_first, there_later}
 use Rattle.yv_expand_laws.proofs.Givers.{Spans, begins_first, giver_here, giver_low, giver_place, givers_stand, many_labels, own_givers}
-use Rattle.yv_expand_laws.proofs.Inserting.{given_shown, stands_by}
-use Rattle.yv_expand_laws.proofs.Joining.{count_joined}
-use Rattle.yv_expand_laws.proofs.Making.{are, low}
+use Rattle.yv_expand_laws.proofs.InsertionOrder.{given_shown, stands_by}
+use Rattle.yv_expand_laws.proofs.JoinedBlocks.{count_joined}
+use Rattle.yv_expand_laws.proofs.LaterItems.{are, low}
 use Rattle.yv_expand_laws.proofs.MakingUses.{parts_make}
 use Rattle.yv_expand_laws.proofs.Orders.{augment_in, augments_rise, at_there, block_of_file, place_is, place_none, top_in}
-use Rattle.yv_expand_laws.proofs.Starting.{count_listed}
+use Rattle.yv_expand_laws.proofs.ExpansionStart.{count_listed}
 use Rattle.yv_expand_laws.proofs.Statements.{all_listed_there}
-use Rattle.yv_expand_laws.proofs.Telling.{there_is}
+use Rattle.yv_expand_laws.proofs.LabelsAndPaths.{there_is}
 use Rattle.yv_expand_laws.proofs.Tops.{AllCome, BlocksMake, FilesMake, TopPart}
 use Rattle.yv_expand_laws.proofs.Tops.FilesMake.{no_files_make, one_file}
 use Rattle.yv_expand_laws.proofs.Tops.BlocksMake.{no_blocks, one_block}

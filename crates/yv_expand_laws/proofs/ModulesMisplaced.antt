@@ -30,28 +30,28 @@ use Rattle.yv_expand_uses.specs.Kinds.{kind_at, kind_of}
 use Rattle.yv_expand_augments.specs.Placement.{augment_around}
 use Rattle.yv_expand_uses.specs.Spots.{Whole, copy_group, source_in, group_below, labels_of, layout_of, spot_at, top_group_of, top_group, used_group, whole}
 use Rattle.yv_expand_uses.specs.declared.spot.Spot.{Spot}
-use Rattle.yv_expand_augments.proofs.Entering.{whole_entered}
+use Rattle.yv_expand_augments.proofs.ItemEntry.{whole_entered}
 use Rattle.yv_expand_tree.specs.Final.{final_items}
 use Rattle.yv_expand_tree.specs.FileOrder.{marks_of, order_of}
-use Rattle.yv_expand_tree.proofs.Standing.{parents_first}
-use Rattle.yv_expand_definition.proofs.Giving.{RefersToOne}
+use Rattle.yv_expand_tree.proofs.NodePositions.{parents_first}
+use Rattle.yv_expand_definition.proofs.GivenNodeUniqueness.{RefersToOne}
 use Rattle.yv_expand_laws.specs.Files.{AreGiven, ShowFiles, expansion_of, giver_by, giver_of, labels_in, start_of}
 use Rattle.yv_expand_laws.specs.Misplacements.{HasMisplaced, MisplacedByModule, MisplacementsByModulesAreOne}
 use Rattle.yv_expand_laws.specs.ModuleBlocks.{IsUntaken, ModuleBlocksAreOne}
 use Rattle.yv_expand_laws.specs.Shows.{Items}
 use Rattle.yv_expand_laws.specs.Under.{FinalStands}
 use Rattle.yv_expand_laws.specs.Under.Under.{in_group}
-use Rattle.yv_expand_laws.proofs.Finding.{not_none}
+use Rattle.yv_expand_laws.proofs.FoundItems.{not_none}
 use Rattle.yv_expand_laws.proofs.Givers.{giver_here, giver_high, giver_low, giver_place, many_labels}
-use Rattle.yv_expand_laws.proofs.Laid.{group_at}
-use Rattle.yv_expand_laws.proofs.Lying.{still_at}
-use Rattle.yv_expand_laws.proofs.Marked.{order_marked}
+use Rattle.yv_expand_laws.proofs.ItemPositions.{group_at}
+use Rattle.yv_expand_laws.proofs.LaidBlocks.{still_at}
+use Rattle.yv_expand_laws.proofs.FileMarks.{order_marked}
 use Rattle.yv_expand_laws.proofs.Modules.{at_first, stand_givers, start_is}
-use Rattle.yv_expand_laws.proofs.Nested.{MayBelow, items_stand}
+use Rattle.yv_expand_laws.proofs.AugmentBlocks.{MayBelow, items_stand}
 use Rattle.yv_expand_laws.proofs.Orders.{IsModuleAugment, at_there, augment_in, augments_rise, place_is, rises_one}
 use Rattle.yv_expand_laws.proofs.TakenBlocks.{scope_of, stands_there, targets_take}
 use Rattle.yv_expand_laws.proofs.Targets.{contains_at}
-use Rattle.yv_expand_laws.proofs.Telling.{laid_many, there_is, told_at}
+use Rattle.yv_expand_laws.proofs.LabelsAndPaths.{laid_many, there_is, told_at}
 use Rattle.yv_expand_laws.proofs.TopItems.{all_have, expands_top, joined_second, listed_has}
 use Rattle.yv_expand_laws.proofs.Trees.{contained}
 use Rattle.yv_expand_laws.proofs.Trees as often

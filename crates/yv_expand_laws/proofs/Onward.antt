@@ -12,7 +12,7 @@ use Rattle.yv_expand_uses.specs.InnerLayout.{Fits}
 use Rattle.yv_expand_rounds.specs.Kinds.{is_uses}
 use Rattle.yv_expand_uses.specs.Spots.{Whole, copies_of}
 use Rattle.yv_expand_uses.specs.declared.spot.Spot.{Spot}
-use Rattle.yv_expand_augments.proofs.Entering.{placed_entered}
+use Rattle.yv_expand_augments.proofs.ItemEntry.{placed_entered}
 
 abbrev pub KeptInTurns : (labels : List Label) (copies : ℕ) → (State → Type 0) → Type 0
 KeptInTurns labels copies P =

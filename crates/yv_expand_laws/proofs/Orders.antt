@@ -5,7 +5,7 @@ use Rattle.std.specs.List.{Contains, filter, position_from, slice_get}
 use Rattle.std.proofs.lemmas.Bool.{cases_lt, false≢true, ne_eqb}
 use Rattle.std.proofs.lemmas.List.Elements.{Contains-append_cases}
 use Rattle.std.proofs.lemmas.Option.{same_Some, slice_get_within}
-use Rattle.yv_statement.specs.Tree.{Forest, Then, End}
+use Rattle.yv_text_statement.specs.Tree.{Forest, Then, End}
 use Rattle.yv_link_scopes.specs.Files.{Briefs, Files, brief_of, module_file_at, module_file_in}
 use Rattle.yv_link_scopes.specs.RowList.{bodies, body_of, roots_from, rows_of}
 use Rattle.yv_link_scopes.specs.Rows.{Row, is_extended, row_list}
@@ -13,12 +13,12 @@ use Rattle.yv_link_scopes.proofs.Within.{rows_of_roots}
 use Rattle.yv_expand.specs.StatementBlocks.{given_at, given_before, block_of, stands_in, top_of, augments_of, is_at, is_augment}
 use Rattle.yv_expand.specs.StatementBlocks as blocks
 use Rattle.yv_expand_uses.specs.AugmentOrder.{place_of}
-use Rattle.yv_expand_tree.proofs.Nesting.{block_file}
-use Rattle.yv_expand_tree.proofs.Standing.{in_lists}
-use Rattle.yv_expand_laws.proofs.Choosing.{block_scope, filter_in, left_is, numbered_in, right_is, row_at}
-use Rattle.yv_expand_laws.proofs.Finding.{not_none, there_first, there_later}
-use Rattle.yv_expand_laws.proofs.Framing.{nothing_stands}
-use Rattle.yv_expand_laws.proofs.Telling.{there_is}
+use Rattle.yv_expand_tree.proofs.BlockFiles.{block_file}
+use Rattle.yv_expand_tree.proofs.NodePositions.{in_lists}
+use Rattle.yv_expand_laws.proofs.BlockStatements.{block_scope, filter_in, left_is, numbered_in, right_is, row_at}
+use Rattle.yv_expand_laws.proofs.FoundItems.{not_none, there_first, there_later}
+use Rattle.yv_expand_laws.proofs.FrameSequences.{nothing_stands}
+use Rattle.yv_expand_laws.proofs.LabelsAndPaths.{there_is}
 
 -- each number is less than all behind it
 abbrev pub Rises : List ℕ → Type 0

@@ -17,9 +17,9 @@ use Rattle.yv_expand_uses.specs.InnerLayout.{AreLaid, Fits}
 use Rattle.yv_expand_uses.specs.Spots.{LayoutView, Whole, labels_of, layout_of}
 use Rattle.yv_expand_uses.specs.declared.spot.Spot.{Spot}
 use Rattle.yv_expand_uses.proofs.Bounds.{laid_whole}
-use Rattle.yv_expand_augments.proofs.Entering.{placed_entered, spot_entered, whole_entered}
-use Rattle.yv_expand_augments.proofs.Given.{once_of}
-use Rattle.yv_expand_laws.proofs.Finding.{not_none}
+use Rattle.yv_expand_augments.proofs.ItemEntry.{placed_entered, spot_entered, whole_entered}
+use Rattle.yv_expand_augments.proofs.ModuleAugments.{once_of}
+use Rattle.yv_expand_laws.proofs.FoundItems.{not_none}
 use Rattle.yv_expand_laws.proofs.Onward.{KeptInTurns, KeptOnEntry, spot_holds}
 
 -- the laws of augments

@@ -14,11 +14,11 @@ use Rattle.yv_expand_definition.specs.Paths.{Step}
 use Rattle.yv_expand_laws.specs.Comes.{Hits, Misses}
 use Rattle.yv_expand_laws.specs.PathTargets.{PathsReach, reached_in}
 use Rattle.yv_expand_laws.specs.Shows.{Agree, AreLabels, IsWithin, Items, Shows}
-use Rattle.yv_expand_laws.proofs.Finding.{not_none}
+use Rattle.yv_expand_laws.proofs.FoundItems.{not_none}
 use Rattle.yv_expand_laws.proofs.Least.{answer_is}
-use Rattle.yv_expand_laws.proofs.Showing.{less_first}
-use Rattle.yv_expand_laws.proofs.Waiting.{target_may}
-use Rattle.yv_expand_laws.proofs.Walking.{finds, hits, walked}
+use Rattle.yv_expand_laws.proofs.BlockNodes.{less_first}
+use Rattle.yv_expand_laws.proofs.WaitingAugments.{target_may}
+use Rattle.yv_expand_laws.proofs.PathAgreement.{finds, hits, walked}
 
 module _ (labels : List Label) (its : Items) (are : AreLabels labels its) (groups : Groups) (g lo hi limit : ℕ) (ss : List Step) (m : Forest) (low : hi ≤ limit)
     (others : (i : ℕ) → Contains (members_of groups g) i → ((lo ≤ i) × (i < hi)) ⊎ (limit ≤ i))

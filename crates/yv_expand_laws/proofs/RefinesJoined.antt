@@ -2,9 +2,9 @@
 use Rattle.std.proofs.Common.{inl, inr, ◌≡◌, ℕ, zero, suc, ◌+◌, Bool, true, false, if◌then◌else◌, List, [], ◌∷◌, length, map, drop, Option, Some, None, refl, sym, ◌∙◌, ap, subst, arith}
 use Rattle.std.specs.List.{slice_get}
 use Rattle.std.proofs.lemmas.Option.{same_Some, slice_get_within}
-use Rattle.yv_statement.specs.Order.{refusal_at}
-use Rattle.yv_statement.specs.declared.refusal.Code.{Code}
-use Rattle.yv_statement.specs.declared.refusal.Code.TheVariants as code
+use Rattle.yv_text_statement.specs.Order.{refusal_at}
+use Rattle.yv_text_statement.specs.declared.refusal.Code.{Code}
+use Rattle.yv_text_statement.specs.declared.refusal.Code.TheVariants as code
 use Rattle.yv_link_scopes.specs.Files.{Files, brief_of}
 use Rattle.yv_link_scopes.specs.RowList.{rows_of}
 use Rattle.yv_expand.specs.Tree.{Item}
@@ -22,17 +22,17 @@ use Rattle.yv_expand_changes.specs.Refusals.{BadRefines, IsThere}
 use Rattle.yv_expand_refines.specs.Targets.{RefineMeaning}
 use Rattle.yv_expand_tree.specs.Final.{final_items}
 use Rattle.yv_expand_tree.specs.FileOrder.{marks_of, order_of}
-use Rattle.yv_expand_tree.proofs.Standing.{in_first, in_lists, in_second}
+use Rattle.yv_expand_tree.proofs.NodePositions.{in_first, in_lists, in_second}
 use Rattle.yv_expand_definition.specs.Gives.{Wrong}
-use Rattle.yv_expand_definition.proofs.Giving.{RefersToOne}
+use Rattle.yv_expand_definition.proofs.GivenNodeUniqueness.{RefersToOne}
 use Rattle.yv_expand_laws.specs.Files.{AreGiven, expansion_of, labels_in}
 use Rattle.yv_expand_laws.specs.Refines.{IsOfRefine, RefinesAreOne}
 use Rattle.yv_expand_laws.specs.RefusedRefines.{IsAnyRefused, IsRefused}
 use Rattle.yv_expand_laws.specs.Under.{FinalStands}
-use Rattle.yv_expand_laws.proofs.Finding.{not_none}
-use Rattle.yv_expand_laws.proofs.Marked.{order_marked}
+use Rattle.yv_expand_laws.proofs.FoundItems.{not_none}
+use Rattle.yv_expand_laws.proofs.FileMarks.{order_marked}
 use Rattle.yv_expand_laws.proofs.AskedJoined.{asked_joined}
-use Rattle.yv_expand_laws.proofs.Refusing.{AskedAt, RefusedAt, refined_by}
+use Rattle.yv_expand_laws.proofs.BlockRefusals.{AskedAt, RefusedAt, refined_by}
 
 -- a list has this
 abbrev IsIn : List RefineMeaning → RefineMeaning → Type 0

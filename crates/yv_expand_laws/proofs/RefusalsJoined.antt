@@ -1,11 +1,11 @@
 -- The refusals of the final tree by number are those of what the files expand to.
 use Rattle.std.proofs.Common.{◌⊎◌, inl, inr, ◌≡◌, ◌↔◌, ℕ, Bool, List, map, refl, ◌∙◌, ap, subst, Some, None}
 use Rattle.std.specs.List.{Contains, slice_get}
-use Rattle.yv_statement.specs.Order.{refusal_at}
-use Rattle.yv_statement.specs.declared.refusal.Code.{Code}
-use Rattle.yv_statement.specs.declared.refusal.Code.TheVariants as code
-use Rattle.yv_statement.specs.declared.refusal.Refusal.{Refusal}
-use Rattle.yv_statement.specs.Selection.{ModuleChoice}
+use Rattle.yv_text_statement.specs.Order.{refusal_at}
+use Rattle.yv_text_statement.specs.declared.refusal.Code.{Code}
+use Rattle.yv_text_statement.specs.declared.refusal.Code.TheVariants as code
+use Rattle.yv_text_statement.specs.declared.refusal.Refusal.{Refusal}
+use Rattle.yv_text_statement.specs.Selection.{ModuleChoice}
 use Rattle.yv_link_scopes.specs.Files.{Files, brief_of}
 use Rattle.yv_link_scopes.specs.RowList.{rows_of}
 use Rattle.yv_link_scopes.specs.Rows.{Row}
@@ -33,7 +33,7 @@ use Rattle.yv_expand_laws.specs.Refusals.{FinalRefusalsAreOne, RefusalsAreOne}
 use Rattle.yv_expand_laws.specs.Targets.{RefusesTarget, TargetsAreOne}
 use Rattle.yv_expand_laws.specs.UsesTargets.{RefusesUsesTarget, UsesTargetsAreOne}
 use Rattle.yv_expand_laws.proofs.Among.{is_or_not}
-use Rattle.yv_expand_laws.proofs.Marked.{order_marked}
+use Rattle.yv_expand_laws.proofs.FileMarks.{order_marked}
 use Rattle.yv_expand_laws.proofs.RefusedKinds.{IsOfEither, refused_is}
 
 -- files expand to one tree (yv_expand_definition::laws::files_expand_to_one_tree)

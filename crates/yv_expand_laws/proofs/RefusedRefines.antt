@@ -4,8 +4,8 @@ use Rattle.std.specs.List.{Contains}
 use Rattle.std.proofs.lemmas.Bool.{false≢true}
 use Rattle.std.proofs.lemmas.List.Elements.{Contains-append_left, Contains-push, Contains-push_cases}
 use Rattle.std.proofs.lemmas.Option.{same_Some}
-use Rattle.yv_statement.specs.declared.refusal.Code.{Code}
-use Rattle.yv_statement.specs.declared.refusal.Code.TheVariants as code
+use Rattle.yv_text_statement.specs.declared.refusal.Code.{Code}
+use Rattle.yv_text_statement.specs.declared.refusal.Code.TheVariants as code
 use Rattle.yv_link_scopes.specs.Files.{Files}
 use Rattle.yv_expand_refines.specs.Targets.{RefineMeaning}
 use Rattle.yv_expand_uses.specs.declared.spot.Spot.{Spot}
@@ -13,7 +13,7 @@ use Rattle.yv_expand_changes.specs.Changes.{is_fit_at_item}
 use Rattle.yv_expand_changes.specs.Refusals.{IsUnfit}
 use Rattle.yv_expand_definition.specs.Gives.{Wrong}
 use Rattle.yv_expand_laws.specs.RefusedRefines.{IsRefused, Refuse}
-use Rattle.yv_expand_laws.proofs.Finding.{not_none}
+use Rattle.yv_expand_laws.proofs.FoundItems.{not_none}
 
 module _ (files : Files) (spots : List Spot) where
   pub none_refused : (old : List Wrong) → Refuse files spots [] old old

@@ -14,12 +14,12 @@ use Rattle.yv_expand_definition.specs.Nodes.{Node, insert, is_later}
 use Rattle.yv_expand_laws.specs.Order.{comes_before}
 use Rattle.yv_expand_laws.specs.Rounds.{AreSources, RoundAdds}
 use Rattle.yv_expand_laws.specs.Shows.{AreLabels, IsWithin, Items, Shows, Stand}
-use Rattle.yv_expand_laws.proofs.Finding.{not_none}
-use Rattle.yv_expand_laws.proofs.Framing.{moved_other, moved_to}
-use Rattle.yv_expand_laws.proofs.Inserting.{Merged, merged}
+use Rattle.yv_expand_laws.proofs.FoundItems.{not_none}
+use Rattle.yv_expand_laws.proofs.FrameSequences.{moved_other, moved_to}
+use Rattle.yv_expand_laws.proofs.InsertionOrder.{Merged, merged}
 use Rattle.yv_expand_laws.proofs.Least.{answer_is}
-use Rattle.yv_expand_laws.proofs.Standing.{either, or_cases, stands_on}
-use Rattle.yv_expand_laws.proofs.Walking.{Hit, hits, not_so, walked}
+use Rattle.yv_expand_laws.proofs.StableItems.{either, or_cases, stands_on}
+use Rattle.yv_expand_laws.proofs.PathAgreement.{Hit, hits, not_so, walked}
 use Rattle.yv_expand_rounds.specs.Paths.{path_end}
 
 module _ (labels : List Label) (its : Items) (are : AreLabels labels its) (giver_of : ℕ → Option ℕ) where

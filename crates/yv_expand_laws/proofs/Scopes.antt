@@ -20,12 +20,12 @@ use Rattle.yv_expand.specs.Expands.{Expands, node, nothing, operation, other, us
 use Rattle.yv_expand_rounds.specs.declared.statement_kind.StatementKind.TheVariants as kind
 use Rattle.yv_expand_rounds.specs.Kinds.{is_uses, kind_of_keyword}
 use Rattle.yv_expand_uses.specs.Kinds.{kind_at, kind_of}
-use Rattle.yv_expand_tree.proofs.Standing.{in_first, in_lists, in_second, listed_long}
+use Rattle.yv_expand_tree.proofs.NodePositions.{in_first, in_lists, in_second, listed_long}
 use Rattle.yv_expand_laws.specs.Conditions.{gives_node, is_node_kind, stands_in_node}
-use Rattle.yv_expand_laws.proofs.Choosing.{block_scope, filter_in, first_passes, row_at}
-use Rattle.yv_expand_laws.proofs.Finding.{not_none, there_first, there_later}
-use Rattle.yv_expand_laws.proofs.Framing.{nothing_stands}
-use Rattle.yv_expand_laws.proofs.Kinding.{input_is, item_kind, node_is, output_is, operation_item, refers_uses, statement_kind}
+use Rattle.yv_expand_laws.proofs.BlockStatements.{block_scope, filter_in, first_passes, row_at}
+use Rattle.yv_expand_laws.proofs.FoundItems.{not_none, there_first, there_later}
+use Rattle.yv_expand_laws.proofs.FrameSequences.{nothing_stands}
+use Rattle.yv_expand_laws.proofs.KeywordKinds.{input_is, item_kind, node_is, output_is, operation_item, refers_uses, statement_kind}
 
 input_gives : is_node_kind (kind_of_keyword (codes "input")) ≡ true
 unfolding kind_of_keyword

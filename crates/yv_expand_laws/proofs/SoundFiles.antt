@@ -7,16 +7,16 @@ use Rattle.std.proofs.lemmas.Bool.{cases_lt, false≢true, false_from_ne_true}
 use Rattle.std.proofs.lemmas.List.{length-map}
 use Rattle.std.proofs.lemmas.Option.{same_Some, slice_get_cases, slice_get_within}
 use Rattle.std.proofs.lemmas.Slice.Eq.{bytes_eq-Decides}
-use Rattle.yv_statement.specs.Tree.{Tree, trees}
-use Rattle.yv_statement.specs.Order.{IsLeast, refusal_at}
-use Rattle.yv_statement.specs.Keywords.{keyword_of}
-use Rattle.yv_statement.specs.declared.keyword.Keyword.{Keyword}
-use Rattle.yv_statement.specs.declared.keyword.Keyword.TheVariants as word
-use Rattle.yv_statement.specs.declared.refusal.Code.TheVariants as code
+use Rattle.yv_text_statement.specs.Tree.{Tree, trees}
+use Rattle.yv_text_statement.specs.Order.{IsLeast, refusal_at}
+use Rattle.yv_text_statement.specs.Keywords.{keyword_of}
+use Rattle.yv_text_statement.specs.declared.keyword.Keyword.{Keyword}
+use Rattle.yv_text_statement.specs.declared.keyword.Keyword.TheVariants as word
+use Rattle.yv_text_statement.specs.declared.refusal.Code.TheVariants as code
 use Rattle.yv_text_grammar.specs.Fits.{FitsIn, occurrences}
 use Rattle.yv_text_grammar.specs.Refusals.{keyword_at}
 use Rattle.yv_text_grammar.specs.Table.{occurs_in, rows_of as table_of}
-use Rattle.yv_text_grammar.proofs.Counting.{some}
+use Rattle.yv_text_grammar.proofs.KeywordCounts.{some}
 use Rattle.yv_text_grammar.proofs.Keywords.{is_same}
 use Rattle.yv_link_scopes.specs.Blocks.{StandsIn}
 use Rattle.yv_link_scopes.specs.Files.{Briefs, Files, brief_of, module_file_at}
@@ -25,7 +25,7 @@ use Rattle.yv_link_scopes.specs.Rows.{Row, name_in}
 use Rattle.yv_link_scopes.specs.Scopes.{MeansIn}
 use Rattle.yv_link_scopes.specs.declared.kind.NameKind.{NameKind}
 use Rattle.yv_link_scopes.specs.declared.kind.NameKind.TheVariants.{Grouping}
-use Rattle.yv_statement.specs.Words.{is_among}
+use Rattle.yv_text_statement.specs.Words.{is_among}
 use Rattle.yv_link_definitions.specs.Refers.{RefersTo}
 use Rattle.yv_link_definitions.specs.Refusals.{BadNames}
 use Rattle.yv_base_tables.specs.Families.{numbers_at}
@@ -41,9 +41,9 @@ use Rattle.yv_expand_uses.specs.AugmentOrder as order
 use Rattle.yv_expand_rounds.specs.Kinds.{kind_in, kind_of_keyword, kinds}
 use Rattle.yv_expand_definition.specs.Expansion.{AllRefer}
 use Rattle.yv_expand_laws.specs.StatementItems.{AreSound}
-use Rattle.yv_expand_laws.proofs.Choosing.{left_is, right_is}
-use Rattle.yv_expand_laws.proofs.Finding.{there_first}
-use Rattle.yv_expand_laws.proofs.Conforming.{HaveRows, StatementsFit, augment_word, have_roots, head_is, none_stands, statement_of_row}
+use Rattle.yv_expand_laws.proofs.BlockStatements.{left_is, right_is}
+use Rattle.yv_expand_laws.proofs.FoundItems.{there_first}
+use Rattle.yv_expand_laws.proofs.FileConformance.{HaveRows, StatementsFit, augment_word, have_roots, head_is, none_stands, statement_of_row}
 
 -- a name means something or nothing (yv_link_scopes::laws::a_name_means_something_or_nothing)
 abbrev pub NamesMean : Type 0

@@ -4,24 +4,24 @@ use Rattle.std.specs.List.{list_all, slice_get}
 use Rattle.std.specs.Option.{option_map}
 use Rattle.std.proofs.lemmas.Bool.{cases_lt, false≢true}
 use Rattle.std.proofs.lemmas.Option.{same_Some, slice_get-map, slice_get_within}
-use Rattle.yv_statement.specs.Tree.{End, Forest, Head, Then, Tree, name_of, trees}
+use Rattle.yv_text_statement.specs.Tree.{End, Forest, Head, Then, Tree, name_of, trees}
 use Rattle.yv_link_scopes.specs.Files.{Briefs, Files, brief_of, has_word, module_file_at, module_file_in}
 use Rattle.yv_link_scopes.specs.RowList.{bodies, body_of, inner_statements, roots_from, rows_of, statements_in, statements_of}
 use Rattle.yv_link_scopes.specs.Rows.{Row, is_extended, row_list, name_in}
 use Rattle.yv_link_scopes.proofs.Blocks.{statements_stand}
 use Rattle.yv_link_scopes.proofs.Bodies.{module_file_at_within}
-use Rattle.yv_link_scopes.proofs.Telling.{heads_same}
+use Rattle.yv_link_scopes.proofs.StatementTraversal.{heads_same}
 use Rattle.yv_link_scopes.proofs.Within.{rows_of_roots}
 use Rattle.yv_link_features.specs.On.{AllHoldBy}
 use Rattle.yv_expand_uses.specs.On.{is_marked}
 use Rattle.yv_expand_changes.specs.Truth.{Truth}
 use Rattle.yv_expand_changes.specs.IfFeatures.{is_on, marks_of}
-use Rattle.yv_expand_tree.proofs.Nesting.{block_file}
-use Rattle.yv_expand_tree.proofs.Standing.{in_lists}
+use Rattle.yv_expand_tree.proofs.BlockFiles.{block_file}
+use Rattle.yv_expand_tree.proofs.NodePositions.{in_lists}
 use Rattle.yv_expand_laws.specs.Conditions.{MarksAreConditions}
-use Rattle.yv_expand_laws.proofs.Choosing.{left_is, right_is}
-use Rattle.yv_expand_laws.proofs.Finding.{not_none}
-use Rattle.yv_expand_laws.proofs.Telling.{there_is}
+use Rattle.yv_expand_laws.proofs.BlockStatements.{left_is, right_is}
+use Rattle.yv_expand_laws.proofs.FoundItems.{not_none}
+use Rattle.yv_expand_laws.proofs.LabelsAndPaths.{there_is}
 
 -- as many rows as statements
 abbrev inner_of : {A : Type 0} → Bool → List A → List A

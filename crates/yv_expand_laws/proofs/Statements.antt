@@ -12,8 +12,8 @@ use Rattle.yv_expand.specs.declared.origin.Origin.TheVariants.{Input, Output}
 use Rattle.yv_expand.specs.Expands.{Expands}
 use Rattle.yv_expand.specs.Expands.Expands.{nothing, other, node, operation, uses}
 use Rattle.yv_expand_laws.specs.ItemProperties.{HaveStatements}
-use Rattle.yv_expand_laws.proofs.Choosing.{first_passes, row_at}
-use Rattle.yv_expand_laws.proofs.Finding.{not_none}
+use Rattle.yv_expand_laws.proofs.BlockStatements.{first_passes, row_at}
+use Rattle.yv_expand_laws.proofs.FoundItems.{not_none}
 
 module _ (files : Briefs) (rows : List Row) where
   abbrev AllThere : Tree → Type 0

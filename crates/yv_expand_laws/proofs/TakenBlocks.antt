@@ -16,11 +16,11 @@ use Rattle.yv_expand_rounds.specs.Kinds.{kind_of_keyword, takes}
 use Rattle.yv_expand_augments.specs.Placement.{augment_around, augment_at}
 use Rattle.yv_expand_definition.specs.Gives.{is_taken, takes_block}
 use Rattle.yv_expand_laws.specs.TakenBlocks.{IsNotTaken, TargetsTake}
-use Rattle.yv_expand_laws.proofs.Choosing.{block_scope, filter_in, row_at}
-use Rattle.yv_expand_laws.proofs.Finding.{not_none, there_first, there_later}
-use Rattle.yv_expand_laws.proofs.Framing.{nothing_stands}
-use Rattle.yv_expand_laws.proofs.Kinding.{among_all, either_is, item_kind}
-use Rattle.yv_expand_laws.proofs.Showing.{first_or}
+use Rattle.yv_expand_laws.proofs.BlockStatements.{block_scope, filter_in, row_at}
+use Rattle.yv_expand_laws.proofs.FoundItems.{not_none, there_first, there_later}
+use Rattle.yv_expand_laws.proofs.FrameSequences.{nothing_stands}
+use Rattle.yv_expand_laws.proofs.KeywordKinds.{among_all, either_is, item_kind}
+use Rattle.yv_expand_laws.proofs.BlockNodes.{first_or}
 use Rattle.yv_expand_laws.proofs.StatementMarks.{both_true}
 
 pub item_no_augment : (r : Row) → is_node_or_uses r ≡ true → is_augment r ≡ false

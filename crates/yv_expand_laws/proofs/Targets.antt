@@ -4,8 +4,8 @@ use Rattle.std.specs.List.{Contains, slice_get}
 use Rattle.std.proofs.lemmas.List.{length-map}
 use Rattle.std.proofs.lemmas.List.Elements.{Contains-append_cases, Contains-push_cases}
 use Rattle.std.proofs.lemmas.Option.{same_Some, slice_get_within}
-use Rattle.yv_statement.specs.declared.refusal.Code.{Code}
-use Rattle.yv_statement.specs.declared.refusal.Code.TheVariants as code
+use Rattle.yv_text_statement.specs.declared.refusal.Code.{Code}
+use Rattle.yv_text_statement.specs.declared.refusal.Code.TheVariants as code
 use Rattle.yv_link_scopes.specs.Files.{Briefs, Files, brief_of, module_file_at}
 use Rattle.yv_link_scopes.specs.RowList.{rows_of}
 use Rattle.yv_link_scopes.specs.Rows.{Row}
@@ -22,16 +22,16 @@ use Rattle.yv_expand_definition.specs.Gives.AugmentsGive.{none_left as all_added
 use Rattle.yv_expand_definition.specs.Gives.Gives.{no_statements, other, one_node, operation, uses}
 use Rattle.yv_expand_definition.specs.Gives.RefinesGive.{none_left as all_refined, changes, unfit, without_target as refine_misses}
 use Rattle.yv_expand_definition.specs.Nodes.{Forest}
-use Rattle.yv_expand_definition.proofs.Giving.{RefersToOne}
+use Rattle.yv_expand_definition.proofs.GivenNodeUniqueness.{RefersToOne}
 use Rattle.yv_expand_laws.specs.Files.{AreGiven}
 use Rattle.yv_expand_laws.specs.Targets.{TargetsAreOne}
-use Rattle.yv_expand_laws.proofs.Asking.{IsBelow, block_below, top_below}
-use Rattle.yv_expand_laws.proofs.Choosing.{block_scope, filter_in, left_is, numbered_in}
-use Rattle.yv_expand_laws.proofs.Finding.{there_first, there_later}
-use Rattle.yv_expand_laws.proofs.Framing.{nothing_stands}
-use Rattle.yv_expand_laws.proofs.Marked.{order_marked}
+use Rattle.yv_expand_laws.proofs.OuterConditions.{IsBelow, block_below, top_below}
+use Rattle.yv_expand_laws.proofs.BlockStatements.{block_scope, filter_in, left_is, numbered_in}
+use Rattle.yv_expand_laws.proofs.FoundItems.{there_first, there_later}
+use Rattle.yv_expand_laws.proofs.FrameSequences.{nothing_stands}
+use Rattle.yv_expand_laws.proofs.FileMarks.{order_marked}
 use Rattle.yv_expand_laws.proofs.Orders.{at_there}
-use Rattle.yv_expand_laws.proofs.Showing.{first_or}
+use Rattle.yv_expand_laws.proofs.BlockNodes.{first_or}
 use Rattle.yv_expand_laws.proofs.StatementMarks.{past_roots}
 use Rattle.yv_expand_laws.proofs.Whole.{target_refused}
 

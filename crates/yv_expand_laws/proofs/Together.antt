@@ -26,18 +26,18 @@ use Rattle.yv_expand_augments.specs.MissingTargets.{after_turns, had_turns, limi
 use Rattle.yv_expand_uses.specs.AugmentOrder.{augments_in}
 use Rattle.yv_expand_uses.specs.declared.spot.Spot.{Spot}
 use Rattle.yv_expand_uses.proofs.Bounds.{laid_whole}
-use Rattle.yv_expand_augments.proofs.Entering.{placed_entered, turns_entered}
-use Rattle.yv_expand_augments.proofs.Given.{once_of}
-use Rattle.yv_expand_augments.proofs.Turning.{giving_filtered}
-use Rattle.yv_expand_tree.proofs.Standing.{in_second}
+use Rattle.yv_expand_augments.proofs.ItemEntry.{placed_entered, turns_entered}
+use Rattle.yv_expand_augments.proofs.ModuleAugments.{once_of}
+use Rattle.yv_expand_augments.proofs.AugmentTurns.{giving_filtered}
+use Rattle.yv_expand_tree.proofs.NodePositions.{in_second}
 use Rattle.yv_expand_laws.specs.Under.{Under}
 use Rattle.yv_expand_laws.specs.Under.Under.{below_item, in_group}
 use Rattle.yv_expand_laws.proofs.AugmentLaws.{Laws}
 use Rattle.yv_expand_laws.proofs.CopiesGive.{follows_after, follows_in_turns, follows_laid, follows_on_entry}
 use Rattle.yv_expand_laws.proofs.CopyEnds.{placed_keeps, rises, split_at, turns_append, turns_keep}
-use Rattle.yv_expand_laws.proofs.Finding.{not_none}
-use Rattle.yv_expand_laws.proofs.Grafted.{target_node}
-use Rattle.yv_expand_laws.proofs.Laid.{laid_earlier}
+use Rattle.yv_expand_laws.proofs.FoundItems.{not_none}
+use Rattle.yv_expand_laws.proofs.FinalTreeOrigins.{target_node}
+use Rattle.yv_expand_laws.proofs.ItemPositions.{laid_earlier}
 use Rattle.yv_expand_laws.proofs.Onward.{KeptInTurns, KeptOnEntry, placed_holds, turns_hold}
 use Rattle.yv_expand_laws.proofs.Parents.{stays_after, stays_in_turns, stays_laid, stays_on_entry}
 use Rattle.yv_expand_laws.proofs.Trees.{contained, counted, in_all}

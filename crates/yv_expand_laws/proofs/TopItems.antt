@@ -11,10 +11,10 @@ use Rattle.yv_expand.specs.declared.origin.Origin.TheVariants.{Statement}
 use Rattle.yv_expand.specs.Expands.{Expands}
 use Rattle.yv_expand.specs.StatementBlocks.{is_node_or_uses}
 use Rattle.yv_expand.specs.Expands.Expands.{nothing, other, node, operation, uses}
-use Rattle.yv_expand_tree.proofs.Standing.{in_second}
-use Rattle.yv_expand_laws.proofs.Finding.{not_none}
-use Rattle.yv_expand_laws.proofs.Framing.{nothing_stands}
-use Rattle.yv_expand_laws.proofs.Showing.{first_or}
+use Rattle.yv_expand_tree.proofs.NodePositions.{in_second}
+use Rattle.yv_expand_laws.proofs.FoundItems.{not_none}
+use Rattle.yv_expand_laws.proofs.FrameSequences.{nothing_stands}
+use Rattle.yv_expand_laws.proofs.BlockNodes.{first_or}
 
 -- a statement has an item among those that statements give
 abbrev pub HasTop : ℕ → Expansion → Type 0

@@ -28,17 +28,17 @@ use Rattle.yv_expand_laws.specs.StatementItems.{ShowNodes, around}
 use Rattle.yv_expand_laws.specs.Marks.{mark_of}
 use Rattle.yv_expand_laws.specs.Shows.{Items}
 use Rattle.yv_expand_laws.proofs.Alike.{AreAlike}
-use Rattle.yv_expand_laws.proofs.Beginning.{blocks_mark}
-use Rattle.yv_expand_laws.proofs.Finding.{not_none}
+use Rattle.yv_expand_laws.proofs.InitialNodes.{blocks_mark}
+use Rattle.yv_expand_laws.proofs.FoundItems.{not_none}
 use Rattle.yv_expand_laws.proofs.Givers.{Spans}
-use Rattle.yv_expand_laws.proofs.Joining.{count_joined, laid_append, listed_joined}
-use Rattle.yv_expand_laws.proofs.Keeping.{AllKept, MayAll, all_go_up, all_keep, goes_up}
-use Rattle.yv_expand_laws.proofs.Lying.{AllLies, Lies, empty_lies, laid_as, lies_then, map_append, map_length}
-use Rattle.yv_expand_laws.proofs.Making.{IsHere, Makes, MayRun, all_state_is, drop_at, first_stops, low, new_long, node_stays, refined, split_here, stage, state, then_makes}
+use Rattle.yv_expand_laws.proofs.JoinedBlocks.{count_joined, laid_append, listed_joined}
+use Rattle.yv_expand_laws.proofs.BlockFrame.{AllKept, MayAll, all_go_up, all_keep, goes_up}
+use Rattle.yv_expand_laws.proofs.LaidBlocks.{AllLies, Lies, empty_lies, laid_as, lies_then, map_append, map_length}
+use Rattle.yv_expand_laws.proofs.LaterItems.{IsHere, Makes, MayRun, all_state_is, drop_at, first_stops, low, new_long, node_stays, refined, split_here, stage, state, then_makes}
 use Rattle.yv_expand_laws.proofs.MakingNodes.{PartsMake, all_make}
-use Rattle.yv_expand_laws.proofs.Refusing.{Come, come_as, come_none, come_same}
-use Rattle.yv_expand_laws.proofs.Showing.{may_block, may_others}
-use Rattle.yv_expand_laws.proofs.Staging.{noted_alike}
+use Rattle.yv_expand_laws.proofs.BlockRefusals.{Come, come_as, come_none, come_same}
+use Rattle.yv_expand_laws.proofs.BlockNodes.{may_block, may_others}
+use Rattle.yv_expand_laws.proofs.RefineStages.{noted_alike}
 
 module _ (files : Files) (augments : List ℕ) (many : ℕ) (items : List Item) where
   -- the blocks of augments give what this says of each, by its place, and at their items that is

@@ -19,9 +19,9 @@ use Rattle.yv_expand_laws.specs.Shows.{AreLabels, Ascend, Items, Orders, Stand}
 use Rattle.yv_expand_laws.specs.Shows.Ascend.{no_items as none_ascend, one_more as more_ascend}
 use Rattle.yv_expand_laws.specs.Shows.Stand.{no_items as none_stand, not_a_node, shown_node}
 use Rattle.yv_expand_laws.specs.Trees.{TreeShows, forest_shown as shown_by}
-use Rattle.yv_expand_laws.proofs.Finding.{there_first, there_later}
-use Rattle.yv_expand_laws.proofs.Framing.{nothing_stands}
-use Rattle.yv_expand_laws.proofs.Showing.{first_or}
+use Rattle.yv_expand_laws.proofs.FoundItems.{there_first, there_later}
+use Rattle.yv_expand_laws.proofs.FrameSequences.{nothing_stands}
+use Rattle.yv_expand_laws.proofs.BlockNodes.{first_or}
 
 -- how often a number stands in a list
 abbrev pub one_if : Bool → ℕ

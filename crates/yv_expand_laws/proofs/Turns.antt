@@ -17,12 +17,12 @@ use Rattle.yv_expand_laws.specs.Frames.{MayEnter}
 use Rattle.yv_expand_definition.specs.Paths.{Step}
 use Rattle.yv_expand_laws.specs.Shows.{Agree, AreLabels, IsWithin, Items, Shows}
 use Rattle.yv_expand_laws.specs.Turn.{IsTurn, TurnAdds, TurnMisses}
-use Rattle.yv_expand_laws.proofs.Finding.{not_none}
-use Rattle.yv_expand_laws.proofs.Framing.{moved_other, moved_to}
+use Rattle.yv_expand_laws.proofs.FoundItems.{not_none}
+use Rattle.yv_expand_laws.proofs.FrameSequences.{moved_other, moved_to}
 use Rattle.yv_expand_laws.proofs.Least.{answer_is}
-use Rattle.yv_expand_laws.proofs.Showing.{block_shows, less_first}
-use Rattle.yv_expand_laws.proofs.Standing.{ascend_joined, either, or_cases, stands_joined, stands_on}
-use Rattle.yv_expand_laws.proofs.Walking.{Hit, finds, hits, not_so, owned, walked}
+use Rattle.yv_expand_laws.proofs.BlockNodes.{block_shows, less_first}
+use Rattle.yv_expand_laws.proofs.StableItems.{ascend_joined, either, or_cases, stands_joined, stands_on}
+use Rattle.yv_expand_laws.proofs.PathAgreement.{Hit, finds, hits, not_so, owned, walked}
 use Rattle.yv_expand_rounds.specs.Paths.{path_end}
 
 module _ (labels : List Label) (its : Items) (are : AreLabels labels its) (mark : ℕ → Bool) where

@@ -17,8 +17,8 @@ use Rattle.yv_expand_rounds.specs.Placements.{enter}
 use Rattle.yv_expand_rounds.specs.Turns.{State}
 use Rattle.yv_expand_laws.specs.Under.{Under}
 use Rattle.yv_expand_laws.specs.Under.Under.{below_item, in_group}
-use Rattle.yv_expand_laws.proofs.Finding.{found, not_none}
-use Rattle.yv_expand_laws.proofs.Framing.{moved_from, moved_other, moved_to, nothing_stands}
+use Rattle.yv_expand_laws.proofs.FoundItems.{found, not_none}
+use Rattle.yv_expand_laws.proofs.FrameSequences.{moved_from, moved_other, moved_to, nothing_stands}
 
 pub none_under : (groups : Groups) (g : ℕ) {x : ℕ} → members_of groups g ≡ [] → Under groups g x → ⊥
 none_under groups g {x = x} empty (in_group there) = nothing_stands x (subst (λ ms. Contains ms x) empty there)

@@ -2,9 +2,9 @@
 use Rattle.std.proofs.Common.{inl, inr, ◌≡◌, ℕ, List, length, map, Option, Some, None, refl, sym, ◌∙◌, subst}
 use Rattle.std.specs.List.{Contains, slice_get}
 use Rattle.std.proofs.lemmas.Option.{slice_get_within}
-use Rattle.yv_statement.specs.Order.{refusal_at}
-use Rattle.yv_statement.specs.declared.refusal.Code.TheVariants as code
-use Rattle.yv_statement.specs.declared.refusal.Refusal.{Refusal}
+use Rattle.yv_text_statement.specs.Order.{refusal_at}
+use Rattle.yv_text_statement.specs.declared.refusal.Code.TheVariants as code
+use Rattle.yv_text_statement.specs.declared.refusal.Refusal.{Refusal}
 use Rattle.yv_link_scopes.specs.Files.{Files, brief_of}
 use Rattle.yv_link_scopes.specs.RowList.{rows_of}
 use Rattle.yv_link_scopes.specs.Rows.{Row}
@@ -19,14 +19,14 @@ use Rattle.yv_expand_changes.specs.Refusals.{IsThere}
 use Rattle.yv_expand_tree.specs.Final.{final_items}
 use Rattle.yv_expand_tree.specs.FileOrder.{marks_of, order_of}
 use Rattle.yv_expand_definition.specs.Gives.{Wrong}
-use Rattle.yv_expand_definition.proofs.Giving.{RefersToOne}
+use Rattle.yv_expand_definition.proofs.GivenNodeUniqueness.{RefersToOne}
 use Rattle.yv_expand_laws.specs.Files.{AreGiven, expansion_of, labels_in}
 use Rattle.yv_expand_laws.specs.Refines.{IsOfRefine}
 use Rattle.yv_expand_laws.specs.Under.{FinalStands}
 use Rattle.yv_expand_laws.specs.UsesBlocks.{HasUntaken, Untaken, UsesBlocksAreOne}
 use Rattle.yv_expand_laws.proofs.AskedJoined.{asked_joined}
-use Rattle.yv_expand_laws.proofs.Marked.{order_marked}
-use Rattle.yv_expand_laws.proofs.Refusing.{AskedAt, OwnAt, UntakenBy}
+use Rattle.yv_expand_laws.proofs.FileMarks.{order_marked}
+use Rattle.yv_expand_laws.proofs.BlockRefusals.{AskedAt, OwnAt, UntakenBy}
 use Rattle.yv_expand_laws.proofs.UsesTargetsJoined.{no_module, of_refines}
 
 no_refine : (e : Wrong) → e.code ≡ code.BadAugment → IsOfRefine e → ⊥

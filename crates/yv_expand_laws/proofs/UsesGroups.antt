@@ -14,12 +14,12 @@ use Rattle.yv_expand_uses.specs.AugmentOrder.{augments_in}
 use Rattle.yv_expand_augments.specs.MissingTargets.{had_turns, next_number}
 use Rattle.yv_expand_uses.specs.Spots.{Whole, copy_group, group_below, layout_of, spot_at, used_group}
 use Rattle.yv_expand_uses.specs.declared.spot.Spot.{Spot}
-use Rattle.yv_expand_augments.proofs.Turning.{giving_filtered}
-use Rattle.yv_expand_laws.proofs.Choosing.{nothing_given, ordinal_is}
+use Rattle.yv_expand_augments.proofs.AugmentTurns.{giving_filtered}
+use Rattle.yv_expand_laws.proofs.BlockStatements.{nothing_given, ordinal_is}
 use Rattle.yv_expand_laws.proofs.CopyEnds.{filter_split}
-use Rattle.yv_expand_laws.proofs.Kinding.{item_kind}
-use Rattle.yv_expand_laws.proofs.Lying.{still_at}
-use Rattle.yv_expand_laws.proofs.Laid.{group_at}
+use Rattle.yv_expand_laws.proofs.KeywordKinds.{item_kind}
+use Rattle.yv_expand_laws.proofs.LaidBlocks.{still_at}
+use Rattle.yv_expand_laws.proofs.ItemPositions.{group_at}
 
 -- an augment of a block gives something where an item stands in its own
 pub item_gives : (rows : List Row) (u a j : ℕ) (q r : Row) → slice_get rows a ≡ Some q → is_augment q ≡ true → q.scope ≡ u → slice_get rows j ≡ Some r → r.scope ≡ a

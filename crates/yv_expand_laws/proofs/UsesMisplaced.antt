@@ -32,9 +32,9 @@ use Rattle.yv_expand_uses.specs.AugmentOrder.{augments_in}
 use Rattle.yv_expand_augments.specs.Placement.{augment_around, augment_at}
 use Rattle.yv_expand_uses.specs.Spots.{Whole, copy_group, group_below, layout_of, spot_at, top_group, top_group_of}
 use Rattle.yv_expand_uses.specs.declared.spot.Spot.{Spot}
-use Rattle.yv_expand_augments.proofs.Given.{once_of}
+use Rattle.yv_expand_augments.proofs.ModuleAugments.{once_of}
 use Rattle.yv_expand_changes.specs.Refusals.{IsThere}
-use Rattle.yv_expand_tree.proofs.Standing.{parents_first}
+use Rattle.yv_expand_tree.proofs.NodePositions.{parents_first}
 use Rattle.yv_expand_definition.specs.Expansion.{AllRefer}
 use Rattle.yv_expand_laws.specs.CopiesGive.{CopiesGive}
 use Rattle.yv_expand_laws.specs.CopyEnds.{CopiesEnd}
@@ -43,22 +43,22 @@ use Rattle.yv_expand_laws.specs.Misplacements.{HasMisplaced}
 use Rattle.yv_expand_laws.specs.Under.{Under}
 use Rattle.yv_expand_laws.specs.Under.Under.{below_item}
 use Rattle.yv_expand_laws.specs.UsesBlocks.{HasUntaken}
-use Rattle.yv_expand_laws.proofs.Added.{item_added}
+use Rattle.yv_expand_laws.proofs.AugmentItems.{item_added}
 use Rattle.yv_expand_laws.proofs.AugmentLaws.{Laws}
-use Rattle.yv_expand_laws.proofs.Choosing.{augments_are, block_scope, filter_in, row_at}
+use Rattle.yv_expand_laws.proofs.BlockStatements.{augments_are, block_scope, filter_in, row_at}
 use Rattle.yv_expand_laws.proofs.CopiesGive.{copy_fits, follows_laid}
-use Rattle.yv_expand_laws.proofs.Finding.{not_none}
-use Rattle.yv_expand_laws.proofs.Grafted.{tree_under, under_tree}
-use Rattle.yv_expand_laws.proofs.Kinding.{statement_kind, uses_no_augment}
-use Rattle.yv_expand_laws.proofs.Laid.{group_at}
+use Rattle.yv_expand_laws.proofs.FoundItems.{not_none}
+use Rattle.yv_expand_laws.proofs.FinalTreeOrigins.{tree_under, under_tree}
+use Rattle.yv_expand_laws.proofs.KeywordKinds.{statement_kind, uses_no_augment}
+use Rattle.yv_expand_laws.proofs.ItemPositions.{group_at}
 use Rattle.yv_expand_laws.proofs.ModulesMisplaced.{GivenBelow, StandsBelow, part_taken}
-use Rattle.yv_expand_laws.proofs.Nested.{IsOf, MayBelow, items_stand}
+use Rattle.yv_expand_laws.proofs.AugmentBlocks.{IsOf, MayBelow, items_stand}
 use Rattle.yv_expand_laws.proofs.Orders.{at_there, place_none}
 use Rattle.yv_expand_laws.proofs.Parents.{stays_laid}
 use Rattle.yv_expand_laws.proofs.Scopes.{item_uses}
 use Rattle.yv_expand_laws.proofs.TakenBlocks.{scope_of, stands_there, targets_take}
 use Rattle.yv_expand_laws.proofs.Targets.{contains_at}
-use Rattle.yv_expand_laws.proofs.Telling.{laid_many, there_is, told_at}
+use Rattle.yv_expand_laws.proofs.LabelsAndPaths.{laid_many, there_is, told_at}
 use Rattle.yv_expand_laws.proofs.Together.{above, there_in, with_target}
 use Rattle.yv_expand_laws.proofs.UsesGroups.{copy_laid, item_gives}
 

@@ -4,9 +4,9 @@ use Rattle.std.specs.List.{Contains, flat_map, slice_get}
 use Rattle.std.proofs.lemmas.Bool.{false≢true}
 use Rattle.std.proofs.lemmas.List.Elements.{Contains-append_cases}
 use Rattle.std.proofs.lemmas.Option.{same_Some, slice_get_within}
-use Rattle.yv_statement.specs.Order.{refusal_at}
-use Rattle.yv_statement.specs.declared.refusal.Code.TheVariants as code
-use Rattle.yv_statement.specs.declared.refusal.Refusal.{Refusal}
+use Rattle.yv_text_statement.specs.Order.{refusal_at}
+use Rattle.yv_text_statement.specs.declared.refusal.Code.TheVariants as code
+use Rattle.yv_text_statement.specs.declared.refusal.Refusal.{Refusal}
 use Rattle.yv_link_scopes.specs.Files.{Briefs, Files, brief_of}
 use Rattle.yv_link_scopes.specs.RowList.{rows_of}
 use Rattle.yv_link_scopes.specs.Rows.{Row}
@@ -32,24 +32,24 @@ use Rattle.yv_expand_refines.specs.Targets.{RefineMeaning}
 use Rattle.yv_expand_tree.specs.Final.{final_items}
 use Rattle.yv_expand_tree.specs.FileOrder.{marks_of, order_of}
 use Rattle.yv_expand_definition.specs.Gives.{Wrong}
-use Rattle.yv_expand_definition.proofs.Giving.{RefersToOne}
+use Rattle.yv_expand_definition.proofs.GivenNodeUniqueness.{RefersToOne}
 use Rattle.yv_expand_laws.specs.Files.{AreGiven, expansion_of, labels_in}
 use Rattle.yv_expand_laws.specs.RefusedRefines.{IsAnyRefused}
 use Rattle.yv_expand_laws.specs.Refines.{IsOfRefine}
 use Rattle.yv_expand_laws.specs.Under.{FinalStands}
 use Rattle.yv_expand_laws.specs.UsesTargets.{UsesTargetsAreOne}
 use Rattle.yv_expand_laws.proofs.AskedJoined.{asked_joined}
-use Rattle.yv_expand_laws.proofs.Asking.{IsBelow, block_below, top_below}
-use Rattle.yv_expand_laws.proofs.Choosing.{filter_in}
-use Rattle.yv_expand_laws.proofs.Finding.{not_none, there_first, there_later}
-use Rattle.yv_expand_laws.proofs.Framing.{nothing_stands}
-use Rattle.yv_expand_laws.proofs.Marked.{order_marked}
+use Rattle.yv_expand_laws.proofs.OuterConditions.{IsBelow, block_below, top_below}
+use Rattle.yv_expand_laws.proofs.BlockStatements.{filter_in}
+use Rattle.yv_expand_laws.proofs.FoundItems.{not_none, there_first, there_later}
+use Rattle.yv_expand_laws.proofs.FrameSequences.{nothing_stands}
+use Rattle.yv_expand_laws.proofs.FileMarks.{order_marked}
 use Rattle.yv_expand_laws.proofs.Orders.{at_there}
-use Rattle.yv_expand_laws.proofs.Refusing.{AskedAt, OwnAt, UntargetedBy}
-use Rattle.yv_expand_laws.proofs.Showing.{first_or}
+use Rattle.yv_expand_laws.proofs.BlockRefusals.{AskedAt, OwnAt, UntargetedBy}
+use Rattle.yv_expand_laws.proofs.BlockNodes.{first_or}
 use Rattle.yv_expand_laws.proofs.StatementMarks.{past_roots}
 use Rattle.yv_expand_laws.proofs.Targets.{contains_at, near}
-use Rattle.yv_expand_laws.proofs.Telling.{there_is, told_at}
+use Rattle.yv_expand_laws.proofs.LabelsAndPaths.{there_is, told_at}
 
 -- each item is made of a statement in a block
 module _ (briefs : Briefs) (rows : List Row) where

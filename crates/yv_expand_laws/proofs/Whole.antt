@@ -8,7 +8,7 @@ use Rattle.std.proofs.lemmas.List.{length-map}
 use Rattle.std.proofs.lemmas.List.Elements.{Contains-append_cases, Contains-append_left, Contains-append_right, Contains-push, Contains-push_cases}
 use Rattle.std.proofs.lemmas.List.Splits.{length-slice_split}
 use Rattle.std.proofs.lemmas.Option.{same_Some, slice_get-map, slice_get_within}
-use Rattle.yv_statement.specs.declared.refusal.Code.TheVariants as code
+use Rattle.yv_text_statement.specs.declared.refusal.Code.TheVariants as code
 use Rattle.yv_link_scopes.specs.Files.{Briefs, Files, brief_of, has_word, module_file_at}
 use Rattle.yv_link_scopes.specs.RowList.{rows_of}
 use Rattle.yv_link_scopes.specs.Rows.{Row, name_in}
@@ -33,7 +33,7 @@ use Rattle.yv_expand_definition.specs.Paths.{Leads, Step, at as end_at, path_of}
 use Rattle.yv_expand_definition.specs.Rounds.{IsModuleFile, Round, Rounds}
 use Rattle.yv_expand_definition.specs.Rounds.Round.{none_left as round_over, adds as round_adds, without_target as round_misses, waits as round_waits}
 use Rattle.yv_expand_definition.specs.Rounds.Rounds.{last as last_round, one_more as one_more_round}
-use Rattle.yv_expand_definition.proofs.Giving.{RefersToOne, gives_one}
+use Rattle.yv_expand_definition.proofs.GivenNodeUniqueness.{RefersToOne, gives_one}
 use Rattle.yv_expand_laws.specs.Blocks.{run_all}
 use Rattle.yv_expand_laws.specs.Files.{AreGiven, FilesShow, ShowFiles, begins_at, expansion_of, giver_of, labels_in}
 use Rattle.yv_expand_laws.specs.Frames.{Frame, MayEnter}
@@ -44,20 +44,20 @@ use Rattle.yv_expand_laws.specs.WholeRounds.{AreBetween, ArePlaces, AreWaiting, 
 use Rattle.yv_expand_laws.specs.WholeRounds.AreWaiting.{no_places, waits as waiting_here}
 use Rattle.yv_expand_laws.specs.WholeRounds.RoundOn.{none_left, adds, without_target, waits}
 use Rattle.yv_expand_laws.specs.WholeRounds.RoundsOn.{no_more, one_more}
-use Rattle.yv_expand_laws.proofs.Beginning.{blocks_enter, own_enters}
-use Rattle.yv_expand_laws.proofs.Begun.{Begins}
-use Rattle.yv_expand_laws.proofs.Finding.{not_none, there_first, there_later}
-use Rattle.yv_expand_laws.proofs.Framing.{nothing_stands}
+use Rattle.yv_expand_laws.proofs.InitialNodes.{blocks_enter, own_enters}
+use Rattle.yv_expand_laws.proofs.FileBlocks.{Begins}
+use Rattle.yv_expand_laws.proofs.FoundItems.{not_none, there_first, there_later}
+use Rattle.yv_expand_laws.proofs.FrameSequences.{nothing_stands}
 use Rattle.yv_expand_laws.proofs.Givers.{begins_apart, begins_up, given_is, giver_low, giver_place, giver_spans}
-use Rattle.yv_expand_laws.proofs.Keeping.{AllKept, MayAll, all_go_up, all_keep, block_keeps, goes_up}
-use Rattle.yv_expand_laws.proofs.Kinding.{right_is}
-use Rattle.yv_expand_laws.proofs.Making.{are, low}
+use Rattle.yv_expand_laws.proofs.BlockFrame.{AllKept, MayAll, all_go_up, all_keep, block_keeps, goes_up}
+use Rattle.yv_expand_laws.proofs.KeywordKinds.{right_is}
+use Rattle.yv_expand_laws.proofs.LaterItems.{are, low}
 use Rattle.yv_expand_laws.proofs.Modules.{MadeAt, all_items, at_first, begins, begins_most, block_shows, facts, have, stand_givers, start_is, top_shows, ungiven, within}
 use Rattle.yv_expand_laws.proofs.Orders.{augment_in, augments_rise, at_there, rises_back, rises_one}
-use Rattle.yv_expand_laws.proofs.Refusing.{IsAsked, judged_alike, not_module, target_alike}
-use Rattle.yv_expand_laws.proofs.Showing.{first_or}
-use Rattle.yv_expand_laws.proofs.Starting.{none_applied, none_there}
-use Rattle.yv_expand_laws.proofs.Telling.{labels_tell, paths_agree, there_is}
+use Rattle.yv_expand_laws.proofs.BlockRefusals.{IsAsked, judged_alike, not_module, target_alike}
+use Rattle.yv_expand_laws.proofs.BlockNodes.{first_or}
+use Rattle.yv_expand_laws.proofs.ExpansionStart.{none_applied, none_there}
+use Rattle.yv_expand_laws.proofs.LabelsAndPaths.{labels_tell, paths_agree, there_is}
 use Rattle.yv_expand_laws.proofs.WholeRounds.{AddsTo, AllAddTo, added_of, all_added, all_added_give, all_added_to, all_missed, missed_of, rounds_by, rounds_sort, targets_of}
 
 -- a place for each of a list

@@ -22,13 +22,13 @@ use Rattle.yv_expand_laws.specs.WholeRounds.{AreBetween, ArePlaces, AreWaiting, 
 use Rattle.yv_expand_laws.specs.WholeRounds.AreWaiting.{no_places, was_applied, waits as waiting_here}
 use Rattle.yv_expand_laws.specs.WholeRounds.RoundOn.{none_left, adds, without_target, waits}
 use Rattle.yv_expand_laws.specs.WholeRounds.RoundsOn.{no_more as last_round, one_more}
-use Rattle.yv_expand_laws.proofs.Finding.{not_none, there_first, there_later}
-use Rattle.yv_expand_laws.proofs.Framing.{moved_long, moved_other, moved_to, nothing_stands}
+use Rattle.yv_expand_laws.proofs.FoundItems.{not_none, there_first, there_later}
+use Rattle.yv_expand_laws.proofs.FrameSequences.{moved_long, moved_other, moved_to, nothing_stands}
 use Rattle.yv_expand_laws.proofs.Rounds.{round_adds}
-use Rattle.yv_expand_laws.proofs.Showing.{first_or}
-use Rattle.yv_expand_laws.proofs.Standing.{or_left, or_right, shows_on}
-use Rattle.yv_expand_laws.proofs.Waiting.{hit_target, miss_target, round_misses, round_takes, round_waits}
-use Rattle.yv_expand_laws.proofs.Walking.{not_so}
+use Rattle.yv_expand_laws.proofs.BlockNodes.{first_or}
+use Rattle.yv_expand_laws.proofs.StableItems.{or_left, or_right, shows_on}
+use Rattle.yv_expand_laws.proofs.WaitingAugments.{hit_target, miss_target, round_misses, round_takes, round_waits}
+use Rattle.yv_expand_laws.proofs.PathAgreement.{not_so}
 
 module _ (labels : List Label) where
   -- a turn leaves where other augments' paths ended

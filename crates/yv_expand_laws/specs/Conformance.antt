@@ -3,10 +3,10 @@
 -- gives something has more in its block than an `input` or an `output` (RFC 7950, sections 7.1,
 -- 7.2, 7.13.1 and 7.17.1).
 use Rattle.std.specs.Prelude.{◌≡◌, ◌≤◌, ◌↔◌, ℕ, List, None, Some, length, slice_get}
-use Rattle.yv_statement.specs.Order.{IsLeast}
-use Rattle.yv_statement.specs.declared.refusal.Refusal.{Refusal}
-use Rattle.yv_statement.specs.Selection.{ModuleChoice}
-use Rattle.yv_statement.specs.Tree.{Tree}
+use Rattle.yv_text_statement.specs.Order.{IsLeast}
+use Rattle.yv_text_statement.specs.declared.refusal.Refusal.{Refusal}
+use Rattle.yv_text_statement.specs.Selection.{ModuleChoice}
+use Rattle.yv_text_statement.specs.Tree.{Tree}
 use Rattle.yv_text_grammar.specs.Refusals.{Bad}
 use Rattle.yv_link_scopes.specs.Files.{Files}
 use Rattle.yv_link_scopes.specs.RowList.{rows_of}

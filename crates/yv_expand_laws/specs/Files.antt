@@ -1,7 +1,7 @@
 -- What the items of files show (RFC 7950, sections 7.12, 7.13 and 7.17).
 use Rattle.std.specs.Prelude.{◌≡◌, ℕ, ◌+◌, zero, suc, Bool, true, false, List, [], ◌∷◌, length, map, Option, Some, None, codes, slice_get, slice_index_or}
 use Rattle.std.specs.List.{Contains}
-use Rattle.yv_statement.specs.Tree as statement
+use Rattle.yv_text_statement.specs.Tree as statement
 use Rattle.yv_link_scopes.specs.Files.{Files, brief_of, has_word}
 use Rattle.yv_link_scopes.specs.RowList.{rows_of}
 use Rattle.yv_expand.specs.StatementBlocks.{block_of, augments_of}

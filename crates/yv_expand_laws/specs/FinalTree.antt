@@ -1,7 +1,7 @@
 -- The final tree of files is the forest to which they expand (RFC 7950, sections 7.12, 7.13 and
 -- 7.17).
 use Rattle.std.specs.Prelude.{◌≡◌}
-use Rattle.yv_statement.specs.Selection.{ModuleChoice}
+use Rattle.yv_text_statement.specs.Selection.{ModuleChoice}
 use Rattle.yv_link_scopes.specs.Files.{Files}
 use Rattle.yv_expand_definition.specs.Expansion.{Expand}
 use Rattle.yv_expand_definition.specs.Gives.{Product}

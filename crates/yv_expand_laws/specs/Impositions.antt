@@ -1,10 +1,10 @@
 -- An augment of a module is refused for a mandatory node in the final tree by number exactly where
 -- the definition on trees refuses it (RFC 7950, sections 3 and 7.17).
 use Rattle.std.specs.Prelude.{◌≡◌, ◌↔◌, ℕ, true, false, None, Some, slice_get}
-use Rattle.yv_statement.specs.Order.{refusal_at}
-use Rattle.yv_statement.specs.declared.refusal.Code.TheVariants as code
-use Rattle.yv_statement.specs.declared.refusal.Refusal.{Refusal}
-use Rattle.yv_statement.specs.Selection.{ModuleChoice}
+use Rattle.yv_text_statement.specs.Order.{refusal_at}
+use Rattle.yv_text_statement.specs.declared.refusal.Code.TheVariants as code
+use Rattle.yv_text_statement.specs.declared.refusal.Refusal.{Refusal}
+use Rattle.yv_text_statement.specs.Selection.{ModuleChoice}
 use Rattle.yv_link_scopes.specs.Files.{Files}
 use Rattle.yv_link_scopes.specs.RowList.{rows_of}
 use Rattle.yv_link_scopes.specs.Rows.{Row}

@@ -1,8 +1,8 @@
 -- The nodes that are left when conditions are asked show the schema of the files (RFC 7950, section
 -- 7.20.2).
 use Rattle.std.specs.Prelude.{ℕ, List, None}
-use Rattle.yv_statement.specs.Order.{IsLeast}
-use Rattle.yv_statement.specs.Selection.{ModuleChoice}
+use Rattle.yv_text_statement.specs.Order.{IsLeast}
+use Rattle.yv_text_statement.specs.Selection.{ModuleChoice}
 use Rattle.yv_link_scopes.specs.Files.{Files}
 use Rattle.yv_link_features.specs.Refusals.{BadFeatures}
 use Rattle.yv_link_features.specs.On.{Holds}

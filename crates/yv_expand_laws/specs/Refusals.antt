@@ -1,8 +1,8 @@
 -- The refusals of the final tree by number are those of the definition on trees (RFC 7950, sections
 -- 7.12 to 7.17).
 use Rattle.std.specs.Prelude.{◌↔◌}
-use Rattle.yv_statement.specs.declared.refusal.Refusal.{Refusal}
-use Rattle.yv_statement.specs.Selection.{ModuleChoice}
+use Rattle.yv_text_statement.specs.declared.refusal.Refusal.{Refusal}
+use Rattle.yv_text_statement.specs.Selection.{ModuleChoice}
 use Rattle.yv_link_scopes.specs.Files.{Files}
 use Rattle.yv_expand_tree.specs.Final.{Final, IsFinal}
 use Rattle.yv_expand_tree.specs.Refusals.{BadFinal, BadStanding}

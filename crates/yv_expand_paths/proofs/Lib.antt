@@ -1,4 +1,4 @@
-pub mod Placing
-pub mod Keeping
-pub mod Stepping
-pub mod Reading
+pub mod NamePlaces
+pub mod NameTableGrowth
+pub mod StepNumbers
+pub mod PathReading

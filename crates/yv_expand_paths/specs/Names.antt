@@ -1,6 +1,6 @@
 -- The names of schema nodes as numbers.
 use Rattle.std.specs.Prelude.{ℕ, ◌||◌, List, if◌then◌else◌, codes}
-use Rattle.yv_statement.specs.Tree.{Head, name_of}
+use Rattle.yv_text_statement.specs.Tree.{Head, name_of}
 use Rattle.yv_link_scopes.specs.Files.{has_word}
 
 -- the name of the node that a statement gives: its argument, or of an operation's input or output,

@@ -6,7 +6,7 @@ ghost use Rattle.yv_expand_paths.specs.{Names.{node_name}, InnerNameNumbers.{own
 use crate::table::Table;
 use std::alloc::{AllocError, Global};
 use yv_link_scopes::{Rows, name_of};
-use yv_statement::{Keyword, Statement};
+use yv_text_statement::{Keyword, Statement};
 
 /// The name of the node that a statement gives: its argument, or of an input or output, which has
 /// none, its keyword (RFC 7950, section 7.14).

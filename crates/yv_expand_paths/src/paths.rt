@@ -7,7 +7,7 @@ use crate::names::NodeNames;
 use crate::step::SchemaStep;
 use std::alloc::{AllocError, Global};
 use yv_link_scopes::{Entry, PrefixTable, Rows, local, name_of, prefix_of};
-use yv_statement::Keyword;
+use yv_text_statement::Keyword;
 
 // A step whose name has this number.
 fn named_step<'a>(

@@ -1,3 +1,3 @@
-pub mod Eaching
-pub mod Joining
+pub mod ItemRefines
+pub mod RunSequences
 pub mod Meaning

@@ -15,7 +15,7 @@ use Rattle.yv_expand_rounds.specs.Groups.{Groups, IsIn, members_of, times}
 use Rattle.yv_expand_rounds.specs.Placements.{StandOnce}
 use Rattle.yv_expand_rounds.specs.Tree.{Tree, none, item, AreInOrder, IsTree, Make, no_items, one_more, group_under, tree_list}
 use Rattle.yv_expand_rounds.proofs.Parents.{back, front, side}
-use Rattle.yv_expand_rounds.proofs.Taking.{sum_taken}
+use Rattle.yv_expand_rounds.proofs.GroupRemoval.{sum_taken}
 
 abbrev one_if : Bool → ℕ
 one_if b = if b then 1 else 0

@@ -13,7 +13,7 @@ use Rattle.yv_expand_rounds.specs.Turns.{State, target, give, settle, is_applied
 use Rattle.yv_expand_rounds.specs.Rounds.{AreApplied, round, rounds}
 use Rattle.yv_expand_rounds.specs.Placements.{nothing, enter, HaveEntered, none_yet, one_turn, one_more, StandOnce}
 use Rattle.yv_expand_rounds.proofs.Empty.{length_replicate, length_ends}
-use Rattle.yv_expand_rounds.proofs.Grouped.{moved_each}
+use Rattle.yv_expand_rounds.proofs.GroupMembers.{moved_each}
 use Rattle.yv_expand_rounds.proofs.Targets.{target_within}
 
 -- as often as before, in as many groups

@@ -9,7 +9,7 @@ use Rattle.yv_expand_rounds.specs.Paths.{lesser}
 use Rattle.yv_expand_rounds.specs.Turns.{target_of}
 use Rattle.yv_expand_rounds.specs.MissingTargets.{IsFirstWithoutTarget}
 use Rattle.yv_expand_rounds.specs.InnerMissingTargets.{place_without, least_from}
-use Rattle.yv_expand_rounds.proofs.Going.{rest_of}
+use Rattle.yv_expand_rounds.proofs.RoundProgress.{rest_of}
 use Rattle.yv_expand_rounds.proofs.Least.{lesser_assoc}
 
 -- one more place

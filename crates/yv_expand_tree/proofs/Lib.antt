@@ -1,15 +1,15 @@
-pub mod Giving
-pub mod Noding
+pub mod GivenFiles
+pub mod ItemNodes
 pub mod Phases
-pub mod Standing
+pub mod NodePositions
 pub mod Finals
 pub mod Targets
-pub mod Nesting
+pub mod BlockFiles
 pub mod ModuleFiles
-pub mod Judging
-pub mod Finishing
-pub mod Shutting
-pub mod Holding
-pub mod Lowering
+pub mod TreeJudgements
+pub mod ExpansionResult
+pub mod TerminalNodes
+pub mod ChildlessItems
+pub mod ParentKinds
 mod Numbering
-mod Leaving
+mod TreeRemains

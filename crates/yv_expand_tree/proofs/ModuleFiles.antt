@@ -3,8 +3,8 @@ use Rattle.std.proofs.Common.{inl, inr, ◌≡◌, ℕ, zero, suc, ◌+◌, ◌<
 use Rattle.std.specs.List.{filter, slice_get}
 use Rattle.std.proofs.lemmas.Bool.{cases_lt, eq-eqb, eqb-true, false≢true}
 use Rattle.std.proofs.lemmas.Option.{same_Some, slice_get_within}
-use Rattle.yv_statement.specs.Tree.{Tree as Root}
-use Rattle.yv_statement.specs.Selection.{ModuleChoice, is_implemented}
+use Rattle.yv_text_statement.specs.Tree.{Tree as Root}
+use Rattle.yv_text_statement.specs.Selection.{ModuleChoice, is_implemented}
 use Rattle.yv_link_scopes.specs.Files.{Briefs, Files, brief_of, module_file_at, module_name}
 use Rattle.yv_link_scopes.specs.RowList.{rows_of}
 use Rattle.yv_link_scopes.specs.Rows.{Row}
@@ -20,9 +20,9 @@ use Rattle.yv_expand_uses.proofs.Bounds.{pushed_at}
 use Rattle.yv_expand_tree.specs.Final.{Final, IsFinal, spots_of, whole_of}
 use Rattle.yv_expand_tree.specs.FileOrder.{HaveModuleFiles, is_given, marks_of, order_of}
 use Rattle.yv_expand_tree.proofs.Finals.{slice_get_absent}
-use Rattle.yv_expand_tree.proofs.Giving.{Each, and_first, each_both}
-use Rattle.yv_expand_tree.proofs.Nesting.{block_file}
-use Rattle.yv_expand_tree.proofs.Standing.{in_lists, parents_first}
+use Rattle.yv_expand_tree.proofs.GivenFiles.{Each, and_first, each_both}
+use Rattle.yv_expand_tree.proofs.BlockFiles.{block_file}
+use Rattle.yv_expand_tree.proofs.NodePositions.{in_lists, parents_first}
 
 and_second : (a b : Bool) → (a && b) ≡ true → b ≡ true
 and_second true b e = e

@@ -8,7 +8,7 @@ use Rattle.yv_expand.specs.Tree.{Node, count}
 use Rattle.yv_expand_rounds.specs.Tree.{Tree, none, item, tree_list}
 use Rattle.yv_expand_rounds.specs.declared.row.ItemRow.{ItemRow}
 use Rattle.yv_expand_tree.specs.Remains.{nodes_of}
-use Rattle.yv_expand_tree.proofs.Standing.{in_first, in_lists, in_second}
+use Rattle.yv_expand_tree.proofs.NodePositions.{in_first, in_lists, in_second}
 
 abbrev pub IsIn : ℕ → List ℕ → Type 0
 IsIn n xs = (k : ℕ) × (slice_get xs k ≡ Some n)

@@ -1,11 +1,11 @@
 -- The phases of what is wrong with the final tree, and the least of it.
 use Rattle.std.proofs.Common.{◌≡◌, ℕ, ◌<◌, ◌≤◌, inl, inr, Option, Some, None, Bool, List, refl, ap, arith}
-use Rattle.yv_statement.specs.Codes.{phase_of}
-use Rattle.yv_statement.specs.declared.refusal.Code.{Code}
-use Rattle.yv_statement.specs.declared.refusal.Refusal.{Refusal}
-use Rattle.yv_statement.specs.Order.{IsLeast}
-use Rattle.yv_statement.proofs.Least.{least_lesser}
-use Rattle.yv_statement.specs.Selection.{ModuleChoice}
+use Rattle.yv_text_statement.specs.Codes.{phase_of}
+use Rattle.yv_text_statement.specs.declared.refusal.Code.{Code}
+use Rattle.yv_text_statement.specs.declared.refusal.Refusal.{Refusal}
+use Rattle.yv_text_statement.specs.Order.{IsLeast}
+use Rattle.yv_text_statement.proofs.Least.{least_lesser}
+use Rattle.yv_text_statement.specs.Selection.{ModuleChoice}
 use Rattle.yv_link_scopes.specs.Files.{Files}
 use Rattle.yv_link_scopes.specs.Rows.{Row}
 use Rattle.yv_link_scopes.specs.RowList.{rows_of}

@@ -1,7 +1,7 @@
 -- Which files give schema nodes, and in which order (RFC 7950, sections 5.1 and 5.6.5).
 use Rattle.std.specs.Prelude.{◌≡◌, ℕ, ◌+◌, ◌==◌, ◌&&◌, Bool, true, List, [], ◌∷◌, ◌++◌, map, if◌then◌else◌, Option, Some, None, slice_get}
-use Rattle.yv_statement.specs.Tree.{Tree}
-use Rattle.yv_statement.specs.Selection.{ModuleChoice, is_implemented}
+use Rattle.yv_text_statement.specs.Tree.{Tree}
+use Rattle.yv_text_statement.specs.Selection.{ModuleChoice, is_implemented}
 use Rattle.yv_base_tables.specs.Families.{numbers_at}
 use Rattle.yv_link_scopes.specs.Files.{Briefs, Files, brief_of, module_file_at, is_module, module_name, tree_name}
 

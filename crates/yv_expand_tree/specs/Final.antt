@@ -1,7 +1,7 @@
 -- What the files of implemented modules come to when all augments were applied (RFC 7950, sections
 -- 7.12, 7.13 and 7.17).
 use Rattle.std.specs.Prelude.{◌≡◌, ℕ, List, length, map, None}
-use Rattle.yv_statement.specs.Selection.{ModuleChoice}
+use Rattle.yv_text_statement.specs.Selection.{ModuleChoice}
 use Rattle.yv_link_scopes.specs.Files.{Files, brief_of}
 use Rattle.yv_link_scopes.specs.RowList.{rows_of}
 use Rattle.yv_expand.specs.Tree.{Item}

@@ -1,6 +1,6 @@
 -- What is kept of a final tree.
 use Rattle.std.specs.Prelude.{◌≡◌, ℕ, ◌+◌, ◌-◌, ◌&&◌, nat_lt, List, [], ◌∷◌, length, if◌then◌else◌, Option, Some, None, slice_get, slice_index_or}
-use Rattle.yv_statement.specs.Selection.{ModuleChoice}
+use Rattle.yv_text_statement.specs.Selection.{ModuleChoice}
 use Rattle.yv_link_scopes.specs.Files.{Files}
 use Rattle.yv_expand.specs.Tree.{Item, Node, Nodes, item_list}
 use Rattle.yv_expand.specs.declared.origin.Origin.{Origin}

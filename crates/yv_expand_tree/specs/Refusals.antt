@@ -1,8 +1,8 @@
 -- What is wrong with the expansion of the files of implemented modules (RFC 7950, sections 7.12,
 -- 7.13 and 7.17).
 use Rattle.std.specs.Prelude.{◌⊎◌, ℕ, None}
-use Rattle.yv_statement.specs.declared.refusal.Refusal.{Refusal}
-use Rattle.yv_statement.specs.Selection.{ModuleChoice}
+use Rattle.yv_text_statement.specs.declared.refusal.Refusal.{Refusal}
+use Rattle.yv_text_statement.specs.Selection.{ModuleChoice}
 use Rattle.yv_link_scopes.specs.Files.{Files}
 use Rattle.yv_link_scopes.specs.RowList.{rows_of}
 use Rattle.yv_expand.specs.Limit.{TooMany}

@@ -1,13 +1,13 @@
 //! Which files give schema nodes, and in which order.
 ghost use Rattle.std.specs.Prelude.{◌≡◌, ◌<◌, ◌==◌, ℕ, All, length, slice_get, None, Some, if◌then◌else◌, IfOk};
-ghost use Rattle.yv_statement.specs.Selection.{selected_of};
+ghost use Rattle.yv_text_statement.specs.Selection.{selected_of};
 ghost use Rattle.yv_link_scopes.specs.{Files.{module_file_at}, Views.{files_in, lent_in}};
 ghost use Rattle.yv_expand_tree.specs.FileOrder.{is_given, marks_of, order_of, part_places};
 
 use std::alloc::{AllocError, Global};
 use yv_base_tables::Families;
 use yv_link_scopes::Rows;
-use yv_statement::{Keyword, Selection, Statement};
+use yv_text_statement::{Keyword, Selection, Statement};
 
 /// A mark for each file that belongs to a module that is implemented.
 pub(crate) fn marks(

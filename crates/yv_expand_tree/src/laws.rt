@@ -1,6 +1,6 @@
 //! Laws about the definitions only. These functions do nothing: the contract of each is the law.
 ghost use Rattle.std.specs.Prelude.{◌≡◌, ◌≤◌, ◌<◌, false, ℕ, List, true, None, Some, length, map, slice_get, slice_index_or};
-ghost use Rattle.yv_statement.specs.{Codes.{phase_of}, Tree.{Tree as Root}, declared.refusal.Refusal.{Refusal}, Selection.{ModuleChoice}};
+ghost use Rattle.yv_text_statement.specs.{Codes.{phase_of}, Tree.{Tree as Root}, declared.refusal.Refusal.{Refusal}, Selection.{ModuleChoice}};
 ghost use Rattle.yv_link_scopes.specs.{Files.{Files, brief_of}, RowList.{rows_of}};
 ghost use Rattle.yv_expand.specs.{StatementBlocks.{given_before}, Weigh.{Weigh}, Tree.{Item, Node, Nodes, count, item_list}, Conformance.{Conform}};
 ghost use Rattle.yv_expand_rounds.specs.Kinds.{is_uses};

@@ -1,6 +1,6 @@
 //! The final tree of files.
 ghost use Rattle.std.specs.Prelude.{◌≡◌, ◌≢◌, None, Some, Err, length, IfOk, OnOk};
-ghost use Rattle.yv_statement.specs.{Order.{IsLeast}, declared.refusal.Refusal.{Refusal}, declared.refusal.Stop.TheVariants.{Fault, PatternBuild}, Selection.{ModuleChoice, selected_of}};
+ghost use Rattle.yv_text_statement.specs.{Order.{IsLeast}, declared.refusal.Refusal.{Refusal}, declared.refusal.Stop.TheVariants.{Fault, PatternBuild}, Selection.{ModuleChoice, selected_of}};
 ghost use Rattle.yv_link_scopes.specs.Views.{files_in, lent_in, rows_in};
 ghost use Rattle.yv_link_definitions.specs.Meanings.{AreNames};
 ghost use Rattle.yv_link.specs.LinkedFiles.{truth_in};
@@ -24,7 +24,7 @@ use yv_expand_uses::items_on;
 use yv_link::Linked;
 use yv_link_definitions::Names;
 use yv_link_scopes::Rows;
-use yv_statement::{Refusal, Selection, Stop};
+use yv_text_statement::{Refusal, Selection, Stop};
 
 // The expansion of the files of implemented modules, module by module, or the refusal of the first
 // file with which their units pass the limit.

@@ -1,6 +1,6 @@
 //! What is wrong with a final tree.
 ghost use Rattle.std.specs.Prelude.{◌≡◌, None, IfOk};
-ghost use Rattle.yv_statement.specs.Order.{IsLeast};
+ghost use Rattle.yv_text_statement.specs.Order.{IsLeast};
 ghost use Rattle.yv_link_scopes.specs.Views.{lent_in, rows_in};
 ghost use Rattle.yv_expand_refines.specs.Changes.{each};
 ghost use Rattle.yv_expand_augments.specs.{Refusals.{BadTarget}, MandatoryNodes.{ImposesMandatory, nothing_around}, FinalItems.{AreAugmentedTree}};
@@ -13,7 +13,7 @@ use yv_expand_augments::{AugmentedTree, first_imposed, first_misplaced, first_to
 use yv_expand_changes::{ItemProperties, first_wrong, said_of_all};
 use yv_expand_refines::Changes;
 use yv_link_scopes::Rows;
-use yv_statement::{Refusal, lesser};
+use yv_text_statement::{Refusal, lesser};
 
 /// What is judged: the statements, the items, the augments of modules, the final tree, and what
 /// refines change.

@@ -10,8 +10,8 @@ use Rattle.yv_expand_uses.specs.AugmentOrder.{augments_giving, giving_places, is
 use Rattle.yv_expand_uses.specs.Spots.{LayoutView, Whole, copies_of, group_below, layout_of, laid_from, one_more, spot_at, spot_of, top_group_of, top_group, used_group}
 use Rattle.yv_expand_uses.specs.InnerLayout.{AllFit, AreLaid, AreNumbered, Fits, IsNumbered}
 use Rattle.yv_expand_uses.specs.declared.spot.Spot.{Spot}
-use Rattle.yv_expand_uses.proofs.Counting.{before_within, place_within}
-use Rattle.yv_expand_uses.proofs.Reading.{rest_of}
+use Rattle.yv_expand_uses.proofs.PlaceNumbers.{before_within, place_within}
+use Rattle.yv_expand_uses.proofs.StatementLists.{rest_of}
 
 pub pushed_at : {A : Type 0} (xs : List A) (y x : A) (i : ℕ) → slice_get (xs ++ y ∷ []) i ≡ Some x → (slice_get xs i ≡ Some x) ⊎ (y ≡ x)
 pushed_at [] y x zero h = inr (same_Some y x h)

@@ -11,7 +11,7 @@ use crate::kinds::kind_given;
 use std::alloc::{AllocError, Global};
 use yv_base_tables::Families;
 use yv_link_scopes::{Entry, Rows};
-use yv_statement::Keyword;
+use yv_text_statement::Keyword;
 
 // The block in which a statement is that is an item.
 fn item_place(entry: &Entry<'_, '_>) -> Option<usize>

@@ -10,7 +10,7 @@ use crate::spot::Spot;
 use std::alloc::{AllocError, Global};
 use yv_expand::Item;
 use yv_link_scopes::{Entry, Rows};
-use yv_statement::Keyword;
+use yv_text_statement::Keyword;
 
 /// Whether a number has a mark.
 pub fn is_marked(marks: &[bool], number: usize) -> bool

@@ -9,7 +9,7 @@ use yv_expand::Origin;
 use yv_expand_paths::{NodeNames, qualified_name};
 use yv_expand_rounds::{Label, StatementKind};
 use yv_link_scopes::{Entry, Rows};
-use yv_statement::Keyword;
+use yv_text_statement::Keyword;
 
 // The kind of the items that statements of a keyword give; others give none.
 #[inline(always)]

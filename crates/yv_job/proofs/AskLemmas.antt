@@ -9,9 +9,9 @@ use Rattle.clap.specs.Words.{Text, Row, subcommand_of}
 use Rattle.yv_job.specs.Asks.{IsAsked, IsLimit, IsSupportFor, IsImportsFor, IsKindFor, IsChoice, IsFiles, Asks, AsksIn, WordsAsk}
 use Rattle.yv_job.specs.CommandLine.{yangcheck_app}
 use Rattle.yv_job.specs.Jobs.{Task, CommandAsked, Compiles, Draws, Checks}
-use Rattle.yv_statement.specs.Selection.{ModuleChoice, Entry}
-use Rattle.yv_statement.specs.declared.document_kind.Kind.{Kind}
-use Rattle.yv_statement.specs.declared.document_kind.Kind.TheVariants.{All, ConfigOnly}
+use Rattle.yv_text_statement.specs.Selection.{ModuleChoice, Entry}
+use Rattle.yv_text_statement.specs.declared.document_kind.Kind.{Kind}
+use Rattle.yv_text_statement.specs.declared.document_kind.Kind.TheVariants.{All, ConfigOnly}
 use Rattle.yv_job.specs.Names.{JoinsNames, IsNames, IsIdentifier, HasIdentifiers, entry_text}
 use Rattle.yv_job.proofs.NameLemmas.{free_name, split_names, split_entries}
 

@@ -6,8 +6,8 @@ use Rattle.clap.specs.declared.error.kind.ErrorKind.TheVariants as kind
 use Rattle.yv_job.specs.Asks.{AreUnderstood, IsLimit, IsKindFor, IsSupportFor}
 use Rattle.yv_job.specs.CommandLine.{yangcheck_app}
 use Rattle.yv_job.specs.Faults.{IfUsage, AreRefused, IsReason, of_limit, of_kind, of_support, value_line}
-use Rattle.yv_statement.specs.Selection.{Entry}
-use Rattle.yv_statement.specs.declared.document_kind.Kind.{Kind}
+use Rattle.yv_text_statement.specs.Selection.{Entry}
+use Rattle.yv_text_statement.specs.declared.document_kind.Kind.{Kind}
 use Rattle.yv_job.specs.Matches.{IsFaultFor}
 use Rattle.yv_job.specs.declared.job.JobFault.{JobFault}
 use Rattle.yv_job.specs.declared.job.JobFault.TheVariants.{Usage, Help, NoMemory}

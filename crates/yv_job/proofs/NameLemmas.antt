@@ -10,7 +10,7 @@ use Rattle.std.proofs.Math.Dec.{eqb}
 use Rattle.std.proofs.lemmas.Bool.{eqb-true, eq-eqb}
 use Rattle.yv_text_if_feature.specs.Names.{is_identifier, is_part, is_start}
 use Rattle.yv_job.specs.Names.{IsIdentifier, IsNames, entry_text, HasIdentifiers, IsEntry, IsSupport}
-use Rattle.yv_statement.specs.Selection.{Entry}
+use Rattle.yv_text_statement.specs.Selection.{Entry}
 
 both : (a b : Bool) → (a && b) ≡ true → (a ≡ true) × (b ≡ true)
 both true true h = (refl, refl)

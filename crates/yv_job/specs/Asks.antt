@@ -3,9 +3,9 @@ use Rattle.std.specs.Prelude.{◌≡◌, ◌≤◌, ℕ, List, [], Option, Some,
 use Rattle.std.specs.Str.Parse.{IsNumeral, digits_value}
 use Rattle.clap.specs.Words.{Text, Row, all_of, first_of, fault_of, subcommand_of}
 use Rattle.yv_job.specs.Jobs.{Task, CommandAsked, Compiles, Draws, Checks}
-use Rattle.yv_statement.specs.Selection.{ModuleChoice, Entry}
-use Rattle.yv_statement.specs.declared.document_kind.Kind.{Kind}
-use Rattle.yv_statement.specs.declared.document_kind.Kind.TheVariants.{All, ConfigOnly}
+use Rattle.yv_text_statement.specs.Selection.{ModuleChoice, Entry}
+use Rattle.yv_text_statement.specs.declared.document_kind.Kind.{Kind}
+use Rattle.yv_text_statement.specs.declared.document_kind.Kind.TheVariants.{All, ConfigOnly}
 use Rattle.yv_job.specs.CommandLine.{yangcheck_app}
 use Rattle.yv_job.specs.Names.{IsNames, IsSupport}
 

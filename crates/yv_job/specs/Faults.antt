@@ -8,8 +8,8 @@ use Rattle.clap.specs.declared.error.kind.ErrorKind.TheVariants as kind
 use Rattle.yv_job.specs.Asks.{WordsAsk, IsAsked, IsFiles, IsLimit, IsSupportFor, IsImportsFor, IsKindFor}
 use Rattle.yv_job.specs.CommandLine.{yangcheck_app}
 use Rattle.yv_job.specs.Jobs.{Task, CommandAsked}
-use Rattle.yv_statement.specs.Selection.{Entry}
-use Rattle.yv_statement.specs.declared.document_kind.Kind.{Kind}
+use Rattle.yv_text_statement.specs.Selection.{Entry}
+use Rattle.yv_text_statement.specs.declared.document_kind.Kind.{Kind}
 use Rattle.yv_job.specs.declared.job.JobFault.{JobFault}
 use Rattle.yv_job.specs.declared.job.JobFault.TheVariants.{Usage, Help, NoMemory}
 

@@ -3,8 +3,8 @@ use Rattle.std.specs.Prelude.{◌≤◌, length, ℕ, List, map, string_bytes}
 use Rattle.yv_job.specs.declared.job.Job.{Job}
 use Rattle.yv_job.specs.declared.job.Command.{Command}
 use Rattle.yv_job.specs.declared.job.Command.TheVariants.{Compile, Tree, Validate}
-use Rattle.yv_statement.specs.Selection.{ModuleChoice, selected_of}
-use Rattle.yv_statement.specs.declared.document_kind.Kind.{Kind}
+use Rattle.yv_text_statement.specs.Selection.{ModuleChoice, selected_of}
+use Rattle.yv_text_statement.specs.declared.document_kind.Kind.{Kind}
 
 -- a command: it compiles, or it draws the tree of a module, or it checks the document of a file
 pub data CommandAsked : Type 0 where

@@ -2,7 +2,7 @@
 use Rattle.std.specs.Prelude.{◌≡◌, ◌<◌, ℕ, true, List, ◌∷◌, ◌++◌, length, map}
 use Rattle.std.specs.List.{All, join_with_byte}
 use Rattle.yv_text_if_feature.specs.Names.{is_identifier}
-use Rattle.yv_statement.specs.Selection.{Entry}
+use Rattle.yv_text_statement.specs.Selection.{Entry}
 
 -- the text is an identifier (RFC 7950, section 6.2)
 abbrev pub IsIdentifier : List ℕ → Type 0

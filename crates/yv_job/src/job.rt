@@ -2,7 +2,7 @@
 
 use std::alloc::AllocError;
 use thiserror::Error;
-use yv_statement::{Kind, Selection};
+use yv_text_statement::{Kind, Selection};
 
 /// The command: what is to be done with the modules.
 #[derive(Debug, Drop)]

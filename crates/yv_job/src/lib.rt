@@ -14,4 +14,4 @@ mod words;
 pub use job::{Command, Job, JobFault};
 pub use laws::words_ask_once;
 pub use words::read_job;
-pub use yv_statement::Kind;
+pub use yv_text_statement::Kind;

@@ -2,7 +2,7 @@
 ghost use Rattle.std.specs.Prelude.{◌≡◌, ◌≤◌, ℕ, List, length, IfSome, IfOk, IfErr, MatchOption, map, option_map, string_bytes};
 ghost use Rattle.clap.specs.Words.{subcommand_rows_of, found_of, rows_of, all_of, first_of};
 ghost use Rattle.yv_job.specs.{Asks.{AsksIn, Asks, IsChoice, IsAsked, IsFiles}, Jobs.{CommandAsked, task_of, asked_of, HasFiles, HasLimit}, Faults.{IsReason, TellsReason}, Matches.{AsksForNothing}};
-ghost use Rattle.yv_statement.specs.Selection.{ModuleChoice, selected_of};
+ghost use Rattle.yv_text_statement.specs.Selection.{ModuleChoice, selected_of};
 
 use crate::job::{Command, Job};
 use crate::names::copy_texts;
@@ -10,7 +10,7 @@ use crate::options::{imports_value, kind_value, limit_of, support_value};
 use crate::reasons::{COMMAND, IMPORTS, KINDS, NODES, SUPPORT, files_line, usage, value_line};
 use clap::ArgMatches;
 use std::alloc::{AllocError, Global};
-use yv_statement::Selection;
+use yv_text_statement::Selection;
 
 const MOST_FILES: usize = 256;
 

@@ -2,7 +2,7 @@
 ghost use Rattle.std.specs.{Prelude.{◌≡◌, ◌<◌, ◌==◌, ◌++◌, ◌∷◌, ℕ, List, map, length, IfOk, IfSome, MatchOption, string_bytes}, List.{All, AllZip, list_all, slice_split}};
 ghost use Rattle.yv_text_if_feature.specs.Names.{is_identifier};
 ghost use Rattle.yv_job.specs.Names.{IsIdentifier, IsNames, JoinsNames, IsEntry, IsSupport};
-ghost use Rattle.yv_statement.specs.Selection.{Entry, entry_of};
+ghost use Rattle.yv_text_statement.specs.Selection.{Entry, entry_of};
 
 use std::alloc::{AllocError, Global};
 use yv_text_if_feature::is_identifier;

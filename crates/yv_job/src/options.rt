@@ -1,11 +1,11 @@
 //! The values of the options that all commands share.
 ghost use Rattle.std.specs.Prelude.{◌≡◌, ◌≤◌, ◌==◌, ℕ, List, slice_index, IfSome, IfOk, MatchOption, map, option_map, string_bytes};
 ghost use Rattle.yv_job.specs.Asks.{IsDecimal, IsLimit, IsSupportFor, IsImportsFor, IsKindFor};
-ghost use Rattle.yv_statement.specs.{Selection.{Entry, entry_of}, declared.document_kind.Kind.{Kind as TheKind}};
+ghost use Rattle.yv_text_statement.specs.{Selection.{Entry, entry_of}, declared.document_kind.Kind.{Kind as TheKind}};
 
 use crate::names::{names_of, support_of};
 use std::alloc::{AllocError, Global};
-use yv_statement::Kind;
+use yv_text_statement::Kind;
 
 const MOST_NODES: u32 = 1_000_000;
 

@@ -1,12 +1,12 @@
 -- The phases of what is wrong with files.
 use Rattle.std.proofs.Common.{◌≡◌, ℕ, ◌<◌, ◌≤◌, ◌⊎◌, inl, inr, List, map, Option, Some, None, Result, Ok, Err, refl, ap, ◌∙◌, arith}
-use Rattle.yv_statement.specs.Tree.{Head}
-use Rattle.yv_statement.specs.Codes.{phase_of}
-use Rattle.yv_statement.specs.declared.refusal.Refusal.{Refusal}
-use Rattle.yv_statement.specs.declared.refusal.Code.{Code}
-use Rattle.yv_statement.specs.declared.refusal.Code.TheVariants as code
-use Rattle.yv_statement.specs.Order.{IsLeast, Stands, refusal_at}
-use Rattle.yv_statement.proofs.Least.{least_lesser}
+use Rattle.yv_text_statement.specs.Tree.{Head}
+use Rattle.yv_text_statement.specs.Codes.{phase_of}
+use Rattle.yv_text_statement.specs.declared.refusal.Refusal.{Refusal}
+use Rattle.yv_text_statement.specs.declared.refusal.Code.{Code}
+use Rattle.yv_text_statement.specs.declared.refusal.Code.TheVariants as code
+use Rattle.yv_text_statement.specs.Order.{IsLeast, Stands, refusal_at}
+use Rattle.yv_text_statement.proofs.Least.{least_lesser}
 use Rattle.yv_link_scopes.specs.Files.{Briefs, Files, brief_of}
 use Rattle.yv_link_scopes.specs.RowList.{rows_of}
 use Rattle.yv_link_scopes.specs.Rows.{Row}

@@ -1,6 +1,6 @@
 -- What is known of files that were linked.
 use Rattle.std.specs.Prelude.{◌≡◌, ℕ, Bool, List}
-use Rattle.yv_statement.specs.Selection.{ModuleChoice}
+use Rattle.yv_text_statement.specs.Selection.{ModuleChoice}
 use Rattle.yv_link_scopes.specs.Files.{Files}
 use Rattle.yv_link_scopes.specs.Views.{lent_in, files_in}
 use Rattle.yv_link_features.specs.Features.{AreFeatures, truth_of}

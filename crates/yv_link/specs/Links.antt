@@ -1,6 +1,6 @@
 -- What is wrong with modules, features and identities.
 use Rattle.std.specs.Prelude.{◌⊎◌, map}
-use Rattle.yv_statement.specs.declared.refusal.Refusal.{Refusal}
+use Rattle.yv_text_statement.specs.declared.refusal.Refusal.{Refusal}
 use Rattle.yv_link_scopes.specs.Files.{Files, brief_of}
 use Rattle.yv_link_scopes.specs.RowList.{rows_of}
 use Rattle.yv_link_modules.specs.Modules.{BadModules}

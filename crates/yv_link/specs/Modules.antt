@@ -1,7 +1,7 @@
 -- Which module a name or a prefix means (RFC 7950, sections 5.1, 5.6.5 and 6.2.1).
 use Rattle.std.specs.Prelude.{◌≡◌, ◌<◌, ℕ, List, length, Option, Some, None, if◌then◌else◌, slice_get}
 use Rattle.std.specs.Option.{option_and_then}
-use Rattle.yv_statement.specs.Selection.{ModuleChoice, is_implemented}
+use Rattle.yv_text_statement.specs.Selection.{ModuleChoice, is_implemented}
 use Rattle.yv_link_scopes.specs.Files.{Brief, Briefs, file_named}
 use Rattle.yv_link_scopes.specs.Rows.{Row}
 use Rattle.yv_link_scopes.specs.Scopes.{module_of}

@@ -1,6 +1,6 @@
 //! Laws about the definitions only. These functions do nothing: the contract of each is the law.
 ghost use Rattle.std.specs.Prelude.{◌≡◌, ◌≤◌, ℕ, List};
-ghost use Rattle.yv_statement.specs.{Codes.{phase_of}, declared.refusal.Refusal.{Refusal}, Selection.{ModuleChoice}};
+ghost use Rattle.yv_text_statement.specs.{Codes.{phase_of}, declared.refusal.Refusal.{Refusal}, Selection.{ModuleChoice}};
 ghost use Rattle.yv_link_scopes.specs.Files.{Files};
 ghost use Rattle.yv_link_features.specs.On.{Holds};
 ghost use Rattle.yv_link.specs.{Links.{BadLinks}, LinkedFiles.{AreLinked, truth_in}, declared.linked_files.Linked.{Linked}};

@@ -11,4 +11,4 @@ pub use link_files::link;
 pub use linked_files::Linked;
 pub use modules::ModuleRef;
 pub use yv_link_identities::IdentityRef;
-pub use yv_statement::Selection;
+pub use yv_text_statement::Selection;

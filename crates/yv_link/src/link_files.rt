@@ -1,6 +1,6 @@
 //! Linking files.
 ghost use Rattle.std.specs.Prelude.{◌≡◌, ◌≢◌, ◌<◌, length, map, IfOk, OnOk, Some, None, Err};
-ghost use Rattle.yv_statement.specs.{declared.refusal.Refusal.{Refusal}, declared.refusal.Stop.TheVariants.{Fault, NoMemory, PatternBuild}, Order.{IsLeast}, Selection.{selected_of}};
+ghost use Rattle.yv_text_statement.specs.{declared.refusal.Refusal.{Refusal}, declared.refusal.Stop.TheVariants.{Fault, NoMemory, PatternBuild}, Order.{IsLeast}, Selection.{selected_of}};
 ghost use Rattle.yv_link_scopes.specs.{Files.{brief_of}, RowList.{rows_of}, Views.{lent_in}};
 ghost use Rattle.yv_link_modules.specs.Modules.{BadModules};
 ghost use Rattle.yv_link.specs.{LinkedFiles.{AreLinked}, Links.{BadLinks}};
@@ -12,7 +12,7 @@ use yv_link_features::Features;
 use yv_link_identities::identities;
 use yv_link_modules::first_bad;
 use yv_link_scopes::Rows;
-use yv_statement::{Selection, Statement, Stop};
+use yv_text_statement::{Selection, Statement, Stop};
 
 // The statements of the files, or the least refusal of their modules.
 fn read_rows<'a, 'b>(alloc: Global, files: &'a [Statement<'b>]) -> Result<Rows<'a, 'b>, Stop>

@@ -1,6 +1,6 @@
 //! Files that were linked, and what is asked of them.
 ghost use Rattle.std.specs.Prelude.{◌≡◌, ◌↔◌, map, IsTrue, IfOk};
-ghost use Rattle.yv_statement.specs.Selection.{ModuleChoice};
+ghost use Rattle.yv_text_statement.specs.Selection.{ModuleChoice};
 ghost use Rattle.yv_link_scopes.specs.{Files.{Files, brief_of}, RowList.{rows_of}};
 
 use crate::modules::ModuleRef;
@@ -8,7 +8,7 @@ use std::alloc::{AllocError, Global};
 use yv_link_features::Features;
 use yv_link_identities::{Identities, IdentityRef};
 use yv_link_scopes::Rows;
-use yv_statement::Statement;
+use yv_text_statement::Statement;
 
 /// Linked files: nothing is wrong in them with modules, features and identities. A file is meant by
 /// its place in the list of files. Of the readers only `descendants` allocates memory.
@@ -84,7 +84,7 @@ impl<'a, 'b> Linked<'a, 'b> {
     /// Whether an identity is derived from another, in one step or more (RFC 7950, section 7.18.2).
     /// Where identities have several bases each it may take one step for each way to a base: use
     /// `descendants` for files from strangers.
-    pub fn derived(&self, identity: IdentityRef, base: IdentityRef) -> bool
+    pub fn is_derived(&self, identity: IdentityRef, base: IdentityRef) -> bool
         ensures { (files : Files) (choice : ModuleChoice) → AreLinked files choice self.now
             → IsTrue result ↔ IsDerived (map brief_of files) (rows_of files) identity base }
     {

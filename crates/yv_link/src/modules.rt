@@ -1,12 +1,12 @@
 //! The modules among the files.
 ghost use Rattle.std.specs.Prelude.{◌≡◌, map, IfOk};
-ghost use Rattle.yv_statement.specs.Selection.{selected_of};
+ghost use Rattle.yv_text_statement.specs.Selection.{selected_of};
 ghost use Rattle.yv_link_scopes.specs.{Files.{brief}, Views.{files_in}};
 ghost use Rattle.yv_link.specs.Modules.{AreModules, ref_at, ref_of};
 
 use std::alloc::{AllocError, Global};
 use yv_link_scopes::{File, Rows};
-use yv_statement::Selection;
+use yv_text_statement::Selection;
 
 /// A module among the given files.
 #[derive(Clone, Copy, Debug, PartialEq, Eq)]

@@ -1,7 +1,7 @@
 -- The names of the built-in types by their first bytes.
 use Rattle.std.proofs.Common.{◌≡◌, ℕ, false, nat_eq, List, [], ◌∷◌, codes, None, Some, refl, sym, subst, eqb-true}
 use Rattle.std.specs.List.{slice_get}
-use Rattle.yv_statement.specs.Words.{is_among}
+use Rattle.yv_text_statement.specs.Words.{is_among}
 use Rattle.yv_link_definitions.specs.BuiltIn.{is_built_in}
 use Rattle.yv_link_definitions.proofs.Words.{not_true}
 

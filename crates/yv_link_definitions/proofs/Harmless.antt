@@ -1,8 +1,8 @@
 -- Statements that define nothing and mean no definition: nothing is wrong with their names.
 use Rattle.std.proofs.Common.{◌≡◌, ℕ, ◌↔◌, ◌&&◌, false, not, IsTrue, List, None, refl, sym, ◌∙◌, ap}
 use Rattle.std.proofs.lemmas.Bool.{false≢true}
-use Rattle.yv_statement.specs.Order.{IsLeast, refusal_at}
-use Rattle.yv_statement.specs.declared.refusal.Code.TheVariants as code
+use Rattle.yv_text_statement.specs.Order.{IsLeast, refusal_at}
+use Rattle.yv_text_statement.specs.declared.refusal.Code.TheVariants as code
 use Rattle.yv_link_scopes.specs.Files.{Briefs}
 use Rattle.yv_link_scopes.specs.Rows.{Row, name_in}
 use Rattle.yv_link_scopes.specs.declared.kind.NameKind.{NameKind}
@@ -13,7 +13,7 @@ use Rattle.yv_link_definitions.specs.Refers.{IsUnknown, is_type, is_uses, names_
 use Rattle.yv_link_definitions.specs.Refusals.{BadRow, IsOnCycle}
 use Rattle.yv_link_definitions.proofs.Faulty.{none_last, none_wrong}
 use Rattle.yv_link_definitions.proofs.KindsDefined.{neither}
-use Rattle.yv_link_definitions.proofs.Taking.{taken_none}
+use Rattle.yv_link_definitions.proofs.TakenNames.{taken_none}
 
 module _ (files : Briefs) (rows : List Row) (k : ℕ) (r : Row) where
   unnamed : (kind : NameKind) → names_definition kind r ≡ false → IsTrue false ↔ IsUnknown files rows kind k r

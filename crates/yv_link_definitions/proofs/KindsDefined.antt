@@ -1,9 +1,9 @@
 -- What statements define, by their keywords.
 use Rattle.std.proofs.Common.{◌≡◌, ℕ, Bool, true, false, Option, Some, None, List, refl, sym, ◌∙◌, ap, if◌then◌else◌}
-use Rattle.yv_statement.specs.Keywords.{keyword_of, same, written}
-use Rattle.yv_statement.specs.declared.keyword.Keyword.{Keyword}
-use Rattle.yv_statement.specs.declared.keyword.Keyword.TheVariants as word
-use Rattle.yv_statement.proofs.Written.{is_by_text}
+use Rattle.yv_text_statement.specs.Keywords.{keyword_of, same, spelling}
+use Rattle.yv_text_statement.specs.declared.keyword.Keyword.{Keyword}
+use Rattle.yv_text_statement.specs.declared.keyword.Keyword.TheVariants as word
+use Rattle.yv_text_statement.proofs.KeywordTexts.{is_by_text}
 use Rattle.yv_link_scopes.specs.Files.{has_word}
 use Rattle.yv_link_scopes.specs.Rows.{Row}
 use Rattle.yv_link_scopes.specs.Tables.{word_of}
@@ -49,7 +49,7 @@ none_of k f i e t g =
     ∙ ap (λ b. choice false false false false b) g
 
 -- a statement with another keyword hasn't the word
-pub not_word : (r : Row) (found k : Keyword) (w : List ℕ) → found ≡ keyword_of r.head.keyword → written k ≡ Some w → (found ≡ k → ⊥) → has_word w r.head ≡ false
+pub not_word : (r : Row) (found k : Keyword) (w : List ℕ) → found ≡ keyword_of r.head.keyword → spelling k ≡ Some w → (found ≡ k → ⊥) → has_word w r.head ≡ false
 not_word r found k w e is unlike = sym (is_by_text r.head.keyword w k is) ∙ ap (λ x. same x k) (sym e) ∙ differs found k unlike
 
 some_none : (k : NameKind) → Some k ≡ None → ⊥

@@ -1,6 +1,6 @@
 -- The types that need no typedef.
 use Rattle.std.specs.Prelude.{ℕ, Bool, List, [], ◌∷◌, codes}
-use Rattle.yv_statement.specs.Words.{is_among}
+use Rattle.yv_text_statement.specs.Words.{is_among}
 
 -- RFC 7950, section 4.2.4
 abbrev pub built_ins : List (List ℕ)

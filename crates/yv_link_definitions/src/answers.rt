@@ -9,7 +9,7 @@ use crate::references::{DefRef, add_definition, add_place};
 use std::alloc::{AllocError, Global};
 use std::collections::BTreeMap;
 use yv_link_scopes::Entry;
-use yv_statement::Keyword;
+use yv_text_statement::Keyword;
 
 /// What each statement means, and where definitions, types and uses are. All are read in one pass,
 /// since statements are far apart in memory.

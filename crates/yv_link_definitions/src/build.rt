@@ -1,6 +1,6 @@
 //! Reading the names of files.
 ghost use Rattle.std.specs.Prelude.{◌≡◌, ◌≢◌, ℕ, None, Some, Err, IfOk, OnOk};
-ghost use Rattle.yv_statement.specs.{Order.{IsLeast}, declared.refusal.Refusal.{Refusal}, declared.refusal.Stop.TheVariants.{Fault, PatternBuild}};
+ghost use Rattle.yv_text_statement.specs.{Order.{IsLeast}, declared.refusal.Refusal.{Refusal}, declared.refusal.Stop.TheVariants.{Fault, PatternBuild}};
 ghost use Rattle.yv_base_graph.specs.Graph.{LeadsTo};
 ghost use Rattle.yv_link_scopes.specs.Views.{lent_in, files_in, rows_in};
 ghost use Rattle.yv_link_definitions.specs.{Refusals.{BadIn, BadNames}, Leads.{IsOrderOf}, Meanings.{AreNames}, InnerAnswers.{AreMeant}, InnerGraph.{AreSteps}};
@@ -11,7 +11,7 @@ use crate::meaning_table::Names;
 use std::alloc::{AllocError, Global};
 use yv_base_graph::{Ranking, nodes_on_cycles, rank};
 use yv_link_scopes::Rows;
-use yv_statement::{Refusal, Stop};
+use yv_text_statement::{Refusal, Stop};
 
 impl Draft<'_, '_, '_> {
     // The least refusal where a definition leads to itself.

@@ -1,9 +1,9 @@
 //! The types that need no typedef.
 ghost use Rattle.std.specs.Prelude.{◌≡◌, ◌∷◌, ℕ, List, map};
-ghost use Rattle.yv_statement.specs.Words.{is_among};
+ghost use Rattle.yv_text_statement.specs.Words.{is_among};
 ghost use Rattle.yv_link_definitions.specs.BuiltIn.{is_built_in};
 
-use yv_statement::is_among;
+use yv_text_statement::is_among;
 
 /// The names of the built-in types.
 pub static BUILT_INS: [&str; 19] = [

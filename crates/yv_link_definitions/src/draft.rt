@@ -5,7 +5,7 @@ ghost use Rattle.yv_link_definitions.specs.Duplicates.{kind_defined, is_of};
 
 use std::alloc::{AllocError, Global};
 use yv_link_scopes::{Entry, NameKind, NamePlaces, Rows, definition_places};
-use yv_statement::Keyword;
+use yv_text_statement::Keyword;
 
 /// The statements, and where a name of each kind occurs first in each block.
 #[derive(Drop)]

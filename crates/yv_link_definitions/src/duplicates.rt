@@ -6,7 +6,7 @@ ghost use Rattle.yv_link_definitions.specs.{Duplicates.{IsTaken, kind_defined, i
 use crate::built_in::is_built_in;
 use crate::draft::Draft;
 use yv_link_scopes::{Entry, NameKind, name_of};
-use yv_statement::Keyword;
+use yv_text_statement::Keyword;
 
 // What a statement defines.
 fn kind_defined(entry: &Entry<'_, '_>) -> Option<NameKind>

@@ -6,7 +6,7 @@ ghost use Rattle.yv_link_definitions.specs.{Refers.{IsUnknown, RefersTo, is_type
 use crate::built_in::is_built_in;
 use crate::draft::Draft;
 use yv_link_scopes::{Entry, NameKind, name_of};
-use yv_statement::Keyword;
+use yv_text_statement::Keyword;
 
 /// Whether a statement is a type.
 pub(crate) fn is_type(entry: &Entry<'_, '_>) -> bool

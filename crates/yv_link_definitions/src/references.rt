@@ -1,6 +1,6 @@
 //! References to definitions, and where statements are.
 ghost use Rattle.std.specs.Prelude.{◌≡◌, ◌+◌, ◌<◌, ℕ, List, take, Some, OnOk, IfSome, slice_get};
-ghost use Rattle.yv_statement.specs.Keywords.{written};
+ghost use Rattle.yv_text_statement.specs.Keywords.{spelling};
 ghost use Rattle.yv_link_scopes.specs.{Rows.{Row, row}};
 ghost use Rattle.yv_link_definitions.specs.{References.{number_at, ref_of}, Places.{placed_in}, InnerPlaces.{ReferToFirst, is_definition}};
 
@@ -10,7 +10,7 @@ use crate::place_list::PlaceList;
 use std::alloc::AllocError;
 use std::collections::BTreeMap;
 use yv_link_scopes::{Entry, NameKind};
-use yv_statement::Keyword;
+use yv_text_statement::Keyword;
 
 /// A reference (ref) to a definition (def), a typedef or a grouping, by its statement's file and
 /// offset.
@@ -51,7 +51,7 @@ pub(crate) fn add_place(
     entry: &Entry<'_, '_>,
 ) -> Result<(), AllocError>
     requires { number < 4294967296 }
-    ensures { IfSome (written keyword) (λ word. (rows : List Row)
+    ensures { IfSome (spelling keyword) (λ word. (rows : List Row)
         → slice_get rows number ≡ Some (row entry.now)
         → ((f o : ℕ) → placed_in list.old f o ≡ number_at (take number rows) word f o)
         → OnOk result ((f o : ℕ)

@@ -7,7 +7,7 @@ use crate::place_list::PlaceList;
 use crate::references::add_place;
 use std::alloc::{AllocError, Global};
 use yv_link_scopes::Rows;
-use yv_statement::Keyword;
+use yv_text_statement::Keyword;
 
 /// The places of the type statements, in time linear in statements.
 pub fn places_of_types(alloc: Global, rows: &Rows<'_, '_>) -> Result<PlaceList, AllocError>

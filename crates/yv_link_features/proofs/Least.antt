@@ -3,8 +3,8 @@ use Rattle.std.proofs.Common.{◌≡◌, ℕ, ◌+◌, ◌⊎◌, inl, inr, is_s
 use Rattle.std.specs.List.{slice_get}
 use Rattle.std.proofs.lemmas.Option.{same_Some}
 use Rattle.std.proofs.lemmas.Bool.{cases_eq, false≢true}
-use Rattle.yv_statement.specs.declared.refusal.Refusal.{Refusal}
-use Rattle.yv_statement.specs.Order.{keys_of, IsUpToBy, IsUpTo, IsLeast, IsLesser, Stands, Among}
+use Rattle.yv_text_statement.specs.declared.refusal.Refusal.{Refusal}
+use Rattle.yv_text_statement.specs.Order.{keys_of, IsUpToBy, IsUpTo, IsLeast, IsLesser, Stands, Among}
 
 up_to_by_trans : (xs ys zs : List ℕ) → IsUpToBy xs ys → IsUpToBy ys zs → IsUpToBy xs zs
 up_to_by_trans [] ys zs p q = tt

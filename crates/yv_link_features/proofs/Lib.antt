@@ -1,8 +1,8 @@
-pub mod Reading
+pub mod FeatureWords
 pub mod Least
 pub mod Lists
 pub mod Steps
-pub mod Agreeing
-pub mod Ordered
+pub mod AssignmentAgreement
+pub mod FeatureOrder
 pub mod Once
 pub mod Fronts

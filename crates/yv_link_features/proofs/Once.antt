@@ -4,9 +4,9 @@ use Rattle.std.specs.List.{Contains, slice_get}
 use Rattle.std.proofs.lemmas.Bool.{cases_eq}
 use Rattle.std.proofs.lemmas.List.Elements.{Contains-append_cases, Contains-append_right}
 use Rattle.std.proofs.lemmas.Option.{slice_get_within}
-use Rattle.yv_statement.specs.Order.{Among, IsLeast, refusal_at}
-use Rattle.yv_statement.specs.declared.refusal.Code.TheVariants as code
-use Rattle.yv_statement.specs.Selection.{ModuleChoice}
+use Rattle.yv_text_statement.specs.Order.{Among, IsLeast, refusal_at}
+use Rattle.yv_text_statement.specs.declared.refusal.Code.TheVariants as code
+use Rattle.yv_text_statement.specs.Selection.{ModuleChoice}
 use Rattle.yv_link_scopes.specs.Files.{Briefs}
 use Rattle.yv_link_scopes.specs.Rows.{Row}
 use Rattle.yv_link_features.specs.Meaning.{Meaning, meaning_of, is_feature}
@@ -14,7 +14,7 @@ use Rattle.yv_link_features.specs.Value.{Assignment, HasValue}
 use Rattle.yv_link_features.specs.On.{AreOn}
 use Rattle.yv_link_features.specs.Depends.{DependsOn, LeadsTo, by_step, by_way}
 use Rattle.yv_link_features.specs.Refusals.{BadRow}
-use Rattle.yv_link_features.proofs.Agreeing.{InOrder, OneCondition, on_one, one_value, value_same}
+use Rattle.yv_link_features.proofs.AssignmentAgreement.{InOrder, OneCondition, on_one, one_value, value_same}
 use Rattle.yv_link_features.proofs.Lists.{contains_one}
 use Rattle.yv_link_features.proofs.Steps.{meant_feature}
 

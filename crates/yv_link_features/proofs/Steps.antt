@@ -12,8 +12,8 @@ use Rattle.yv_base_graph.specs.Graph.{Graph, IsGraph, HasEdge, AreOnCycles, IsOr
 use Rattle.yv_base_graph.specs.Graph as graph
 use Rattle.yv_text_if_feature.specs.Tokens.{Token, names_among, tokens}
 use Rattle.yv_text_if_feature.specs.Tokens.{Open, Close, Not, And, Or, Name, Wrong}
-use Rattle.yv_statement.specs.Order.{Among, IsLeast, refusal_at}
-use Rattle.yv_statement.specs.declared.refusal.Code.TheVariants as code
+use Rattle.yv_text_statement.specs.Order.{Among, IsLeast, refusal_at}
+use Rattle.yv_text_statement.specs.declared.refusal.Code.TheVariants as code
 use Rattle.yv_link_scopes.specs.Files.{Briefs}
 use Rattle.yv_link_scopes.specs.Names.{local_of}
 use Rattle.yv_link_scopes.specs.Rows.{Row, name_in}

@@ -1,7 +1,7 @@
 -- Whether all conditions in a block hold (RFC 7950, section 7.20.2).
 use Rattle.std.specs.Prelude.{ℕ, Bool, not, ◌||◌, List, codes}
 use Rattle.std.specs.List.{list_all}
-use Rattle.yv_statement.specs.Tree.{Tree, name_of}
+use Rattle.yv_text_statement.specs.Tree.{Tree, name_of}
 use Rattle.yv_link_scopes.specs.Files.{has_word}
 
 -- each statement of a block is no `if-feature`, or its expression is true

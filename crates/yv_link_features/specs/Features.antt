@@ -2,7 +2,7 @@
 use Rattle.std.specs.Prelude.{◌≡◌, ◌⊎◌, ℕ, Bool, false, List, map, slice_index_or}
 use Rattle.std.proofs.Common.{inl, inr}
 use Rattle.yv_text_if_feature.specs.IfFeature.{IfFeature, Spells}
-use Rattle.yv_statement.specs.Selection.{ModuleChoice}
+use Rattle.yv_text_statement.specs.Selection.{ModuleChoice}
 use Rattle.yv_link_scopes.specs.Files.{Files, brief_of}
 use Rattle.yv_link_scopes.specs.RowList.{rows_of}
 use Rattle.yv_link_scopes.specs.Tables.{table_of, first_of}
@@ -11,7 +11,7 @@ use Rattle.yv_link_features.specs.Meaning.{Meaning, looked_up}
 use Rattle.yv_link_features.specs.Value.{Assignment, HasValue, value_of}
 use Rattle.yv_link_features.specs.On.{AreOn}
 use Rattle.yv_link_features.specs.declared.features.Features.{Features}
-use Rattle.yv_text_if_feature.proofs.Spelled.{spelled_by}
+use Rattle.yv_text_if_feature.proofs.ConditionSpelling.{spelled_by}
 
 -- those that are marked are on
 abbrev pub from_marks : List Bool → Assignment

@@ -1,8 +1,8 @@
 -- Only private clauses cite this: what is refused and what is on, by what names mean in the code.
 use Rattle.std.specs.Prelude.{◌≡◌, ℕ, true, length, Some, slice_get}
-use Rattle.yv_statement.specs.Order.{Among}
-use Rattle.yv_statement.specs.declared.refusal.Refusal.{Refusal}
-use Rattle.yv_statement.specs.Selection.{ModuleChoice}
+use Rattle.yv_text_statement.specs.Order.{Among}
+use Rattle.yv_text_statement.specs.declared.refusal.Refusal.{Refusal}
+use Rattle.yv_text_statement.specs.Selection.{ModuleChoice}
 use Rattle.yv_link_scopes.specs.Views.{files_in, rows_in}
 use Rattle.yv_link_scopes.specs.Rows.{Row}
 use Rattle.yv_link_features.specs.Meaning.{is_feature}

@@ -1,7 +1,7 @@
 -- The features that are on, and which expressions hold (RFC 7950, sections 5.6.1, 7.20.1 and
 -- 7.20.2).
 use Rattle.std.specs.Prelude.{◌≡◌, ◌↔◌, ℕ, ◌==◌, ◌&&◌, Bool, true, List, [], map, Option, Some, None, IsTrue, slice_get}
-use Rattle.yv_statement.specs.Selection.{ModuleChoice, is_supported}
+use Rattle.yv_text_statement.specs.Selection.{ModuleChoice, is_supported}
 use Rattle.yv_link_scopes.specs.Files.{Files, Brief, Briefs, brief_of}
 use Rattle.yv_link_scopes.specs.Rows.{Row, name_in}
 use Rattle.yv_link_scopes.specs.RowList.{rows_of}

@@ -1,6 +1,6 @@
 //! The features of files.
 ghost use Rattle.std.specs.Prelude.{◌≡◌, ◌≢◌, None, OnOk, IfOk, Some, Err};
-ghost use Rattle.yv_statement.specs.{Order.{IsLeast}, declared.refusal.Refusal.{Refusal}, declared.refusal.Stop.TheVariants.{Fault, PatternBuild}, Selection.{ModuleChoice, selected_of}};
+ghost use Rattle.yv_text_statement.specs.{Order.{IsLeast}, declared.refusal.Refusal.{Refusal}, declared.refusal.Stop.TheVariants.{Fault, PatternBuild}, Selection.{ModuleChoice, selected_of}};
 ghost use Rattle.yv_link_scopes.specs.{Views.{lent_in, rows_in}, Tables.{first_of, table_of}, declared.kind.NameKind.TheVariants.{Feature}};
 ghost use Rattle.yv_link_features.specs.{Refusals.{BadFeatures}, Features.{AreFeatures, from_marks, truth_of}, InnerMarks.{AreOnIn, BadIn}, On.{Holds}};
 
@@ -9,7 +9,7 @@ use crate::names::FeatureNames;
 use std::alloc::Global;
 use yv_base_graph::{Ranking, nodes_on_cycles, rank};
 use yv_link_scopes::{NameKind, NamePlaces, Rows, first_places};
-use yv_statement::{Selection, Stop};
+use yv_text_statement::{Selection, Stop};
 
 /// Which features of files are on.
 #[derive(Drop)]

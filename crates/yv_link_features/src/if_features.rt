@@ -6,7 +6,7 @@ ghost use Rattle.yv_link_features.specs.{InnerGraph.{AreLists, meant_from, numbe
 use crate::names::FeatureNames;
 use std::alloc::{AllocError, Global};
 use yv_link_scopes::{Entry, Rows, name_of};
-use yv_statement::Keyword;
+use yv_text_statement::Keyword;
 
 /// Whether a statement is a condition.
 pub(crate) fn is_if_feature(entry: &Entry<'_, '_>) -> bool

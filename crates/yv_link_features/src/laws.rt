@@ -1,6 +1,6 @@
 //! Laws about the definitions only.
 ghost use Rattle.std.specs.Prelude.{◌≡◌, ℕ, Bool, List, None};
-ghost use Rattle.yv_statement.specs.{Order.{IsLeast}, Selection.{ModuleChoice}};
+ghost use Rattle.yv_text_statement.specs.{Order.{IsLeast}, Selection.{ModuleChoice}};
 ghost use Rattle.yv_link_scopes.specs.Files.{Files};
 ghost use Rattle.yv_link_features.specs.{Refusals.{BadFeatures}, Features.{AreFeatures, Tell, truth_of}, On.{Holds}, declared.features.Features.{Features}};
 

@@ -1,6 +1,6 @@
 //! What is refused of the features.
 ghost use Rattle.std.specs.Prelude.{◌≡◌, ◌↔◌, ℕ, IsTrue, length};
-ghost use Rattle.yv_statement.specs.Order.{Among, IsLeast};
+ghost use Rattle.yv_text_statement.specs.Order.{Among, IsLeast};
 ghost use Rattle.yv_base_graph.specs.Graph.{IsMarked};
 ghost use Rattle.yv_link_scopes.specs.{Views.{rows_in}, Rows.{row}};
 ghost use Rattle.yv_link_features.specs.{Depends.{LeadsTo}, Refusals.{BadRow, has_unknown}, InnerNames.{means_in}};
@@ -8,7 +8,7 @@ ghost use Rattle.yv_link_features.specs.{Depends.{LeadsTo}, Refusals.{BadRow, ha
 use crate::if_features::is_if_feature;
 use crate::names::FeatureNames;
 use yv_link_scopes::{Entry, name_of};
-use yv_statement::{Code, Refusal, lesser, refusal_if};
+use yv_text_statement::{Code, Refusal, lesser, refusal_if};
 
 impl<'a, 'b> FeatureNames<'_, 'a, 'b> {
     // Whether a statement is a condition with a name that means no feature.

@@ -1,13 +1,13 @@
 //! Which features are on.
 ghost use Rattle.std.specs.Prelude.{◌≡◌, ◌↔◌, ◌<◌, ℕ, Some, IsTrue, IfOk, length, slice_get, true};
-ghost use Rattle.yv_statement.specs.Selection.{selected_of};
+ghost use Rattle.yv_text_statement.specs.Selection.{selected_of};
 ghost use Rattle.yv_link_scopes.specs.{Views.{files_in, rows_in}, Rows.{Row, row}};
 ghost use Rattle.yv_link_features.specs.{Features.{from_marks}, InnerGraph.{AllTrue, AreLists, IsOrderOf, IsTrueAt}, InnerNames.{means_in}, Meaning.{is_feature}, On.{AllHold, IsOn, has_support, module_name_in}};
 
 use crate::names::{FeatureNames, both};
 use std::alloc::{AllocError, Global};
 use yv_link_scopes::{Entry, name_of};
-use yv_statement::{Keyword, Selection};
+use yv_text_statement::{Keyword, Selection};
 
 // Whether a statement is a feature.
 fn is_feature(entry: &Entry<'_, '_>) -> bool

@@ -3,10 +3,10 @@ use Rattle.std.proofs.Common.{◌≡◌, ℕ, ◌+◌, ◌≤◌, ◌↔◌, ◌
 use Rattle.std.specs.List.{slice_get}
 use Rattle.std.proofs.lemmas.Bool.{false≢true}
 use Rattle.std.proofs.lemmas.Option.{slice_get_within}
-use Rattle.yv_statement.specs.Order.{IsLeast, IsLesser, Stands, Among, refusal_at}
-use Rattle.yv_statement.specs.declared.refusal.Refusal.{Refusal}
-use Rattle.yv_statement.specs.declared.refusal.Code.TheVariants as code
-use Rattle.yv_statement.proofs.Least.{least_lesser, least_more, least_refused, least_same}
+use Rattle.yv_text_statement.specs.Order.{IsLeast, IsLesser, Stands, Among, refusal_at}
+use Rattle.yv_text_statement.specs.declared.refusal.Refusal.{Refusal}
+use Rattle.yv_text_statement.specs.declared.refusal.Code.TheVariants as code
+use Rattle.yv_text_statement.proofs.Least.{least_lesser, least_more, least_refused, least_same}
 use Rattle.yv_link_scopes.specs.Files.{Briefs}
 use Rattle.yv_link_scopes.specs.Rows.{Row}
 use Rattle.yv_base_graph.specs.Graph.{Graph, LeadsTo, AreOnCycles, IsFirstOnCycle}
@@ -18,7 +18,7 @@ use Rattle.yv_link_identities.specs.Refusals.{BadIdentities}
 use Rattle.yv_link_identities.specs.InnerIdentityNumbers.{identities_before, number_at, node_of}
 use Rattle.yv_link_identities.specs.InnerPairs.{AreBases, AreIdentityCycles}
 use Rattle.yv_link_identities.proofs.Numbering.{node_some, node_at, identity_row}
-use Rattle.yv_link_identities.proofs.Deriving.{derived_numbers, leads_derived, cycles_of}
+use Rattle.yv_link_identities.proofs.DerivationWays.{derived_numbers, leads_derived, cycles_of}
 
 -- a refusal where what a test decides holds
 pub decided : (P : Type 0) (flag : Bool) (r : Refusal) (result : Option Refusal) → (flag ≡ true → P) → (P → flag ≡ true) → result ≡ cond flag (Some r) None → IsLeast (Stands P r) result

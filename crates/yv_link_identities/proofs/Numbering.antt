@@ -12,7 +12,7 @@ use Rattle.yv_link_identities.specs.InnerIdentityNumbers.{is_identity_at, identi
 use Rattle.yv_link_identities.specs.InnerNumbers.{AreNumbers}
 use Rattle.yv_link_identities.specs.declared.references.IdentityRef.{IdentityRef}
 use Rattle.yv_link_identities.specs.declared.numbers.Numbers.{Numbers}
-use Rattle.yv_link_identities.proofs.Choosing.{chosen_at, chosen_is, chosen_more, chosen_same, longer, last_of}
+use Rattle.yv_link_identities.proofs.PassingNumbers.{chosen_at, chosen_is, chosen_more, chosen_same, longer, last_of}
 
 test_by : (o : Option Row) → unwrap_or (option_map is_identity o) false ≡ true → (r : Row) × (o ≡ Some r) × (is_identity r ≡ true)
 test_by None h = absurd (false≢true h)

@@ -1,8 +1,8 @@
 -- What is wrong with identities.
 use Rattle.std.specs.Prelude.{◌≡◌, ℕ, ◌⊎◌, ◌&&◌, Bool, true, is_none, List, length}
-use Rattle.yv_statement.specs.Order.{Stands, Among, refusal_at}
-use Rattle.yv_statement.specs.declared.refusal.Refusal.{Refusal}
-use Rattle.yv_statement.specs.declared.refusal.Code.TheVariants as code
+use Rattle.yv_text_statement.specs.Order.{Stands, Among, refusal_at}
+use Rattle.yv_text_statement.specs.declared.refusal.Refusal.{Refusal}
+use Rattle.yv_text_statement.specs.declared.refusal.Code.TheVariants as code
 use Rattle.yv_link_scopes.specs.Files.{Briefs}
 use Rattle.yv_link_scopes.specs.Rows.{Row}
 use Rattle.yv_link_identities.specs.Names.{is_base, identity_meant}

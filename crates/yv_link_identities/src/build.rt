@@ -1,6 +1,6 @@
 //! Reading the identities of files.
 ghost use Rattle.std.specs.Prelude.{◌≡◌, ◌≢◌, IfOk, OnOk};
-ghost use Rattle.yv_statement.specs.{Order.{IsLeast}, declared.refusal.Refusal.{Refusal}, declared.refusal.Stop.TheVariants.{Fault, PatternBuild}};
+ghost use Rattle.yv_text_statement.specs.{Order.{IsLeast}, declared.refusal.Refusal.{Refusal}, declared.refusal.Stop.TheVariants.{Fault, PatternBuild}};
 ghost use Rattle.yv_link_scopes.specs.Views.{lent_in, files_in, rows_in};
 ghost use Rattle.yv_link_identities.specs.{Refusals.{BadIdentities}, InnerPairs.{AreBases}, Tables.{AreIdentities}};
 
@@ -14,7 +14,7 @@ use crate::reverse::reverse;
 use std::alloc::Global;
 use yv_base_graph::{Ranking, nodes_on_cycles, rank};
 use yv_link_scopes::Rows;
-use yv_statement::Stop;
+use yv_text_statement::Stop;
 
 // The bases of all identities, and an order in which each comes after its bases; or the least
 // refusal.

@@ -6,7 +6,7 @@ ghost use Rattle.yv_link_identities.specs.{Names.{is_base, identity_meant}, Inne
 use crate::numbers::Numbers;
 use std::alloc::{AllocError, Global};
 use yv_link_scopes::{Entry, NameKind, NamePlaces, Rows, first_places, local, name_of};
-use yv_statement::Keyword;
+use yv_text_statement::Keyword;
 
 /// The statements, the names of the identities, and their numbers.
 #[derive(Drop)]

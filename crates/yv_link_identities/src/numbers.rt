@@ -6,7 +6,7 @@ ghost use Rattle.yv_link_identities.specs.{Names.{is_identity}, InnerIdentityNum
 use crate::references::{IdentityRef, reference};
 use std::alloc::{AllocError, Global};
 use yv_link_scopes::{Entry, Rows};
-use yv_statement::Keyword;
+use yv_text_statement::Keyword;
 
 /// The identities, and for each statement its number among them.
 #[derive(Drop)]

@@ -1,12 +1,12 @@
 //! What is wrong with identities and bases.
 ghost use Rattle.std.specs.Prelude.{◌≡◌, ◌↔◌, slice_index_or, false, IsTrue};
-ghost use Rattle.yv_statement.specs.Order.{IsLeast};
+ghost use Rattle.yv_text_statement.specs.Order.{IsLeast};
 ghost use Rattle.yv_link_scopes.specs.{Rows.{row}, Views.{files_in, rows_in}};
 ghost use Rattle.yv_link_identities.specs.{Derivation.{IsDerivedFrom}, Refusals.{BadIdentities, BadRow, is_unknown}, InnerPairs.{AreIdentityCycles}};
 
 use crate::draft::{Draft, is_base};
 use yv_link_scopes::Entry;
-use yv_statement::{Code, Refusal, lesser, refusal_if};
+use yv_text_statement::{Code, Refusal, lesser, refusal_if};
 
 // Whether a base's name means nothing.
 fn is_unknown<'a, 'b>(draft: &Draft<'_, 'a, 'b>, entry: &Entry<'a, 'b>) -> bool

@@ -5,9 +5,9 @@ use Rattle.std.specs.Option.{option_map}
 use Rattle.std.proofs.lemmas.List.{take_more}
 use Rattle.std.proofs.lemmas.Option.{slice_get-map, slice_get_read, slice_get_within, get_or_from_slice_get}
 use Rattle.std.proofs.lemmas.Bool.{false≢true}
-use Rattle.yv_statement.specs.Order.{IsLeast, IsLesser, Stands, Among}
-use Rattle.yv_statement.specs.declared.refusal.Refusal.{Refusal}
-use Rattle.yv_statement.proofs.Least.{least_more, least_refused, least_same}
+use Rattle.yv_text_statement.specs.Order.{IsLeast, IsLesser, Stands, Among}
+use Rattle.yv_text_statement.specs.declared.refusal.Refusal.{Refusal}
+use Rattle.yv_text_statement.proofs.Least.{least_more, least_refused, least_same}
 
 -- a refusal where a test holds
 pub flagged : (test flag : Bool) (r : Refusal) (result : Option Refusal) → flag ≡ test → result ≡ cond flag (Some r) None → IsLeast (Stands (test ≡ true) r) result

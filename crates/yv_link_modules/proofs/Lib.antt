@@ -1,4 +1,4 @@
 pub mod Flags
 pub mod Latest
-pub mod Leading
-pub mod Prefixed
+pub mod ImportWays
+pub mod KeywordPrefixes

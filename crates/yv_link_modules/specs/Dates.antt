@@ -5,7 +5,7 @@ use Rattle.std.specs.Option.{option_and_then}
 use Rattle.std.specs.Ordering.{nat_cmp}
 use Rattle.std.specs.Cmp.Lexicographic.{slice_cmp}
 use Rattle.std.specs.declared.cmp.Ordering.TheVariants.{Greater}
-use Rattle.yv_statement.specs.Tree.{Head}
+use Rattle.yv_text_statement.specs.Tree.{Head}
 use Rattle.yv_link_scopes.specs.Files.{Briefs, has_word, file_named}
 use Rattle.yv_link_scopes.specs.Rows.{Row, name_in}
 

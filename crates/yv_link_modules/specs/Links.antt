@@ -3,7 +3,7 @@
 use Rattle.std.specs.Prelude.{ℕ, ◌==◌, ◌&&◌, ◌||◌, not, Bool, false, is_none, List, Option, Some, None, if◌then◌else◌, codes, slice_get}
 use Rattle.std.specs.Option.{option_and_then}
 use Rattle.std.specs.Str.{bytes_eq}
-use Rattle.yv_statement.specs.Tree.{Head}
+use Rattle.yv_text_statement.specs.Tree.{Head}
 use Rattle.yv_link_scopes.specs.Files.{Brief, Briefs, has_word, file_named}
 use Rattle.yv_link_scopes.specs.Rows.{Row, name_in}
 use Rattle.yv_link_scopes.specs.Tables.{Table}

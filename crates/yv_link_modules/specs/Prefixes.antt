@@ -2,7 +2,7 @@
 use Rattle.std.specs.Prelude.{ℕ, ◌==◌, ◌&&◌, ◌||◌, not, Bool, false, is_none, List, [], ◌∷◌, Option, Some, None, codes}
 use Rattle.std.specs.List.{list_any, slice_split}
 use Rattle.std.specs.Str.{bytes_eq}
-use Rattle.yv_statement.specs.Tree.{Head}
+use Rattle.yv_text_statement.specs.Tree.{Head}
 use Rattle.yv_link_scopes.specs.Names.{prefix_of}
 use Rattle.yv_link_scopes.specs.Files.{has_word}
 use Rattle.yv_link_scopes.specs.Rows.{Row, name_in}

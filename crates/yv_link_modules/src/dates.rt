@@ -7,7 +7,7 @@ use std::alloc::{AllocError, Global};
 use std::cmp::Ordering;
 use yv_link_scopes::laws::roots_come_first;
 use yv_link_scopes::{Entry, Rows, name_of};
-use yv_statement::Keyword;
+use yv_text_statement::Keyword;
 
 // The greater of two dates.
 fn later<'a>(first: Option<&'a str>, second: &'a str) -> &'a str

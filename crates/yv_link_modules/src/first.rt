@@ -1,6 +1,6 @@
 //! The first of all that is wrong with modules.
 ghost use Rattle.std.specs.Prelude.{◌≡◌, ◌<◌, ◌||◌, length, map, IfOk};
-ghost use Rattle.yv_statement.specs.Order.{IsLeast};
+ghost use Rattle.yv_text_statement.specs.Order.{IsLeast};
 ghost use Rattle.yv_link_scopes.specs.{Files.{brief}, Rows.{row}, Tables.{table_of, first_of}, Views.{files_in, rows_in}, declared.kind.NameKind.TheVariants.{Prefix, Include}};
 ghost use Rattle.yv_link_modules.specs.{Modules.{BadFile, BadFiles, BadModules, BadRow, BadRows}, InnerDates.{AreGreatest}, InnerImports.{AreLeads}};
 
@@ -11,7 +11,7 @@ use crate::prefixes::is_foreign;
 use std::alloc::{AllocError, Global};
 use yv_link_scopes::laws::modules_are_files;
 use yv_link_scopes::{Entry, File, NameKind, NamePlaces, Rows, first_places};
-use yv_statement::{Code, Refusal, lesser, refusal_if};
+use yv_text_statement::{Code, Refusal, lesser, refusal_if};
 
 // Whether one of five holds.
 fn any(first: bool, second: bool, third: bool, fourth: bool, fifth: bool) -> bool

@@ -9,7 +9,7 @@ use std::alloc::{AllocError, Global};
 use yv_base_graph::reachable_from;
 use yv_link_scopes::laws::{modules_are_files, roots_come_first};
 use yv_link_scopes::{Entry, Rows, name_of};
-use yv_statement::Keyword;
+use yv_text_statement::Keyword;
 
 // The number of the module that an import names.
 fn imported_module<'a>(rows: &Rows<'a, '_>, entry: &Entry<'a, '_>) -> Option<usize>

@@ -4,7 +4,7 @@ ghost use Rattle.yv_link_scopes.specs.{Files.{brief}, Rows.{row}, Tables.{table_
 ghost use Rattle.yv_link_modules.specs.Links.{is_at, is_not_included, is_link, is_missing, is_module_at, is_wrong, is_wrong_link};
 
 use yv_link_scopes::{Entry, File, NamePlaces, Rows, name_of};
-use yv_statement::Keyword;
+use yv_text_statement::Keyword;
 
 /// Whether an import, an include or a belongs-to names no file.
 pub(crate) fn is_missing<'a>(rows: &Rows<'a, '_>, entry: &Entry<'a, '_>) -> bool

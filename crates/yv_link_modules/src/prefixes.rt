@@ -5,7 +5,7 @@ ghost use Rattle.yv_link_modules.specs.Prefixes.{has_names, has_undeclared, is_c
 
 use crate::links::is_at;
 use yv_link_scopes::{Entry, NamePlaces, name_of};
-use yv_statement::Keyword;
+use yv_text_statement::Keyword;
 
 // What comes before the first colon of a word.
 fn prefix_of(word: &[u8]) -> Option<&[u8]>

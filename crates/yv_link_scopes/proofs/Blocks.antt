@@ -3,7 +3,7 @@ use Rattle.std.proofs.Common.{◌≡◌, ℕ, ◌+◌, ◌≤◌, ◌⊎◌, inl
 use Rattle.std.specs.List.{slice_get}
 use Rattle.std.specs.Option.{option_map}
 use Rattle.std.proofs.lemmas.Option.{same_Some, slice_get-map}
-use Rattle.yv_statement.specs.Tree.{Head, Tree, Forest, Then, End, trees}
+use Rattle.yv_text_statement.specs.Tree.{Head, Tree, Forest, Then, End, trees}
 use Rattle.yv_link_scopes.specs.Files.{Files, brief_of, module_file_in, module_file_at}
 use Rattle.yv_link_scopes.specs.Rows.{Row, row_list, is_extended}
 use Rattle.yv_link_scopes.specs.RowList.{roots_from, bodies, body_of, rows_of, statements_in, inner_statements, statements_of}

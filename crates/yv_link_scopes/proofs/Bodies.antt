@@ -4,7 +4,7 @@ use Rattle.std.specs.List.{slice_get}
 use Rattle.std.specs.Option.{unwrap_or}
 use Rattle.std.proofs.lemmas.List.{append-nil, drop_all, length-map}
 use Rattle.std.proofs.lemmas.Option.{same_Some}
-use Rattle.yv_statement.specs.Tree.{Tree, Forest, Then, End}
+use Rattle.yv_text_statement.specs.Tree.{Tree, Forest, Then, End}
 use Rattle.yv_link_scopes.specs.Rows.{Row, row_list, is_extended}
 use Rattle.yv_link_scopes.specs.Files.{Files, Brief, Briefs, brief_of, file_named, module_file_in, module_file_at}
 use Rattle.yv_link_scopes.specs.Scopes.{AreNested}

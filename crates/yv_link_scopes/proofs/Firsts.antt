@@ -4,7 +4,7 @@ use Rattle.std.specs.List.{slice_get, position_from, list_any}
 use Rattle.std.specs.Option.{option_map}
 use Rattle.std.proofs.lemmas.List.{take_more, map-append}
 use Rattle.std.proofs.lemmas.Option.{same_Some, slice_get-map, slice_get_read, slice_get_within, get_or_from_slice_get}
-use Rattle.yv_statement.specs.Tree.{Tree}
+use Rattle.yv_text_statement.specs.Tree.{Tree}
 use Rattle.yv_link_scopes.specs.declared.files.File.{File}
 use Rattle.yv_link_scopes.specs.Tables.{Table, is_same, first_of, word_of, place_of_kind}
 use Rattle.yv_link_scopes.specs.InnerPlaces.{first_some, keep_first}

@@ -4,11 +4,11 @@ use Rattle.std.proofs.lemmas.Bool.{false≢true}
 use Rattle.std.specs.List.{list_all, slice_get}
 use Rattle.std.specs.Str.{bytes_eq}
 use denote.Enum.Bare.{same_true}
-use Rattle.yv_statement.specs.Keywords.{names, keyword_in, keyword_of, written, same}
-use Rattle.yv_statement.specs.contracts.keyword.Keyword.{the_type}
-use Rattle.yv_statement.specs.declared.keyword.Keyword.{Keyword}
-use Rattle.yv_statement.specs.declared.keyword.Keyword.TheVariants as word
-use Rattle.yv_statement.proofs.Written.{is_by_text}
+use Rattle.yv_text_statement.specs.Keywords.{names, keyword_in, keyword_of, spelling, same}
+use Rattle.yv_text_statement.specs.contracts.keyword.Keyword.{the_type}
+use Rattle.yv_text_statement.specs.declared.keyword.Keyword.{Keyword}
+use Rattle.yv_text_statement.specs.declared.keyword.Keyword.TheVariants as word
+use Rattle.yv_text_statement.proofs.KeywordTexts.{is_by_text}
 use Rattle.yv_link_scopes.specs.Rows.{Row, is_extended}
 use Rattle.yv_link_scopes.specs.Tables.{table_of, word_of}
 use Rattle.yv_link_scopes.specs.InnerPlaces.{AreFirst}
@@ -53,7 +53,7 @@ differs a b unlike = by (same a b) refl
     by false e = refl
 
 -- a statement with another keyword gives no name of the kind
-pub other_word : (kind : NameKind) (k found : Keyword) (rows : List Row) (i : ℕ) (r : Row) (places : NamePlaces) → written k ≡ Some (word_of kind) → found ≡ keyword_of r.head.keyword → same found k ≡ false → slice_get rows i ≡ Some r → AreFirst kind (take i rows) places → AreFirst kind (take (i + 1) rows) places
+pub other_word : (kind : NameKind) (k found : Keyword) (rows : List Row) (i : ℕ) (r : Row) (places : NamePlaces) → spelling k ≡ Some (word_of kind) → found ≡ keyword_of r.head.keyword → same found k ≡ false → slice_get rows i ≡ Some r → AreFirst kind (take i rows) places → AreFirst kind (take (i + 1) rows) places
 other_word kind k found rows i r places is e other at before = table_same kind rows i r (table_of places) at (sym (is_by_text r.head.keyword (word_of kind) k is) ∙ ap (λ x. same x k) (sym e) ∙ other) before
 
 pub on_ok : {A E : Type 0} {P Q : Type 0} (r : Result A E) → OnOk r P → (P → Q) → OnOk r Q

@@ -1,13 +1,13 @@
 pub mod Colons
-pub mod Keeping
+pub mod TableGrowth
 pub mod Listing
 pub mod Firsts
 pub mod Meanings
 pub mod Bodies
 pub mod Within
-pub mod Telling
+pub mod StatementTraversal
 pub mod Blocks
 pub mod Order
 pub mod FirstPrefixes
-pub mod Reading
+pub mod MappedLists
 pub mod Keywords

@@ -1,7 +1,7 @@
 -- Statements are listed one by one.
 use Rattle.std.proofs.Common.{◌≡◌, ℕ, ◌+◌, ◌<◌, ◌≤◌, Bool, true, false, cond, List, [], ◌∷◌, ◌++◌, length, map, get_or, drop, zero, suc, refl, sym, ◌∙◌, ap, arith, length-append, append_assoc, add-one, drop-cons}
 use Rattle.std.proofs.lemmas.List.{append-nil, drop_all, map-append}
-use Rattle.yv_statement.specs.Tree.{Head, Forest, Then, End, Tree, trees, forest, count}
+use Rattle.yv_text_statement.specs.Tree.{Head, Forest, Then, End, Tree, trees, forest, count}
 use Rattle.yv_link_scopes.specs.Rows.{Row, row, row_list, is_extended}
 use Rattle.yv_link_scopes.specs.declared.entry.Entry.{Entry}
 

@@ -2,7 +2,7 @@
 use Rattle.std.proofs.Common.{◌≡◌, ℕ, ◌+◌, ◌<◌, ◌≤◌, zero, suc, Bool, true, false, cond, List, [], ◌∷◌, ◌++◌, length, map, Some, ◌∙◌, ap, arith}
 use Rattle.std.specs.List.{slice_get}
 use Rattle.std.proofs.lemmas.Option.{same_Some}
-use Rattle.yv_statement.specs.Tree.{Tree, Forest, Then, End}
+use Rattle.yv_text_statement.specs.Tree.{Tree, Forest, Then, End}
 use Rattle.yv_link_scopes.specs.Files.{Files, Briefs, brief_of, module_file_in}
 use Rattle.yv_link_scopes.specs.Rows.{Row, row_list, is_extended}
 use Rattle.yv_link_scopes.specs.RowList.{roots_from, bodies, body_of, rows_of}

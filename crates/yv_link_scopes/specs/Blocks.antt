@@ -1,6 +1,6 @@
 -- In whose block a statement of the list is.
 use Rattle.std.specs.Prelude.{◌≡◌, ℕ, ◌≤◌, ◌⊎◌, map, length, Some, slice_get}
-use Rattle.yv_statement.specs.Tree.{Tree, trees}
+use Rattle.yv_text_statement.specs.Tree.{Tree, trees}
 use Rattle.yv_link_scopes.specs.Files.{Files, brief_of, module_file_at}
 use Rattle.yv_link_scopes.specs.Rows.{Row}
 use Rattle.yv_link_scopes.specs.RowList.{rows_of, statements_of}

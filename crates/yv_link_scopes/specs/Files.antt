@@ -3,7 +3,7 @@ use Rattle.std.specs.Prelude.{ℕ, Bool, List, [], Option, Some, None, if◌then
 use Rattle.std.specs.List.{find}
 use Rattle.std.specs.Option.{unwrap_or}
 use Rattle.std.specs.Str.{bytes_eq}
-use Rattle.yv_statement.specs.Tree.{Head, Tree, trees, name_of}
+use Rattle.yv_text_statement.specs.Tree.{Head, Tree, trees, name_of}
 use Rattle.yv_link_scopes.specs.Names.{first_where}
 use Rattle.yv_link_scopes.specs.declared.files.File.{File}
 

@@ -1,6 +1,6 @@
 -- All statements of the files as one numbered list.
 use Rattle.std.specs.Prelude.{ℕ, ◌+◌, List, [], ◌∷◌, ◌++◌, map, length, Some, if◌then◌else◌}
-use Rattle.yv_statement.specs.Tree.{Tree, Forest, Then, End}
+use Rattle.yv_text_statement.specs.Tree.{Tree, Forest, Then, End}
 use Rattle.yv_link_scopes.specs.Rows.{Row, is_extended, row_list}
 use Rattle.yv_link_scopes.specs.Files.{Files, Briefs, brief_of, module_file_in}
 

@@ -1,7 +1,7 @@
 -- The statements of a block, with what is in their blocks, as one numbered list.
 use Rattle.std.specs.Prelude.{ℕ, ◌+◌, ◌==◌, Bool, List, [], ◌∷◌, ◌++◌, length, if◌then◌else◌}
 use Rattle.std.specs.List.{list_any}
-use Rattle.yv_statement.specs.Tree.{Head, Forest, Then, End, Tree, name_of}
+use Rattle.yv_text_statement.specs.Tree.{Head, Forest, Then, End, Tree, name_of}
 use Rattle.yv_link_scopes.specs.declared.entry.Entry.{Entry}
 
 -- a statement, its file's number, and the number of the block in which its names are

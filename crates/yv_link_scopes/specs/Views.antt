@@ -1,6 +1,6 @@
 -- What `Rows` has.
 use Rattle.std.specs.Prelude.{List, map}
-use Rattle.yv_statement.specs.Tree.{Tree}
+use Rattle.yv_text_statement.specs.Tree.{Tree}
 use Rattle.yv_link_scopes.specs.Rows.{Row}
 use Rattle.yv_link_scopes.specs.Files.{Files, Briefs, brief_of}
 use Rattle.yv_link_scopes.specs.RowList.{rows_of, statements_of}

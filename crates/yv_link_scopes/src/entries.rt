@@ -1,13 +1,13 @@
 //! The statements of the files, one by one.
 ghost use Rattle.std.specs.Prelude.{◌≡◌, ◌≤◌, ◌<◌, ◌++◌, ℕ, List, length, map, OnOk, IfOk};
-ghost use Rattle.yv_statement.specs.Tree.{Then, End, forest};
+ghost use Rattle.yv_text_statement.specs.Tree.{Then, End, forest};
 ghost use Rattle.yv_link_scopes.specs.{Tables.{table_of}, Files.{brief, brief_of, file_named}, Rows.{row, tree, row_list, is_extended}, RowList.{rows_of, statements_in, statements_of}};
 
 use crate::entry::Entry;
 use crate::files::{File, module_file};
 use crate::places::NamePlaces;
 use std::alloc::{AllocError, Global};
-use yv_statement::{Keyword, Statement};
+use yv_text_statement::{Keyword, Statement};
 
 // Whether a statement is an extension's.
 fn is_extended(statement: &Statement<'_>) -> bool

@@ -1,8 +1,8 @@
 //! A statement among those of all files.
 ghost use Rattle.std.specs.{Prelude.{◌≡◌, IfSome}, Str.{bytes_eq}};
-ghost use Rattle.yv_statement.specs.Keywords.{keyword_of, same, written};
+ghost use Rattle.yv_text_statement.specs.Keywords.{keyword_of, same, spelling};
 
-use yv_statement::{Keyword, Statement};
+use yv_text_statement::{Keyword, Statement};
 
 /// An entry of the list of statements: a statement, the number of its file, and the number of the
 /// block that contains its names.
@@ -31,10 +31,10 @@ impl Entry<'_, '_> {
         ensures kind { result
             ≡ same (keyword_of self.now.statement.now.head.keyword) keyword }
         // That is whether the texts are equal, where the keyword has one.
-        ensures text { IfSome (written keyword)
+        ensures text { IfSome (spelling keyword)
             (λ text. result ≡ bytes_eq self.now.statement.now.head.keyword text) }
     {
-        yv_statement::laws::a_keyword_has_one_text();
+        yv_text_statement::laws::a_keyword_has_one_text();
         self.kind == keyword
     }
 }

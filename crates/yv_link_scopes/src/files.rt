@@ -5,7 +5,7 @@ ghost use Rattle.yv_link_scopes.specs.{Tables.{table_of}, Files.{brief, brief_of
 use crate::names::name_of;
 use crate::places::NamePlaces;
 use std::alloc::{AllocError, Global};
-use yv_statement::{Keyword, Statement};
+use yv_text_statement::{Keyword, Statement};
 
 /// A file: its name, the name of the module to which it belongs, and its root.
 #[derive(Clone, Copy)]

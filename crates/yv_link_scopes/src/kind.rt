@@ -1,6 +1,6 @@
 //! The kinds of names, and where a name of a kind occurs first.
 ghost use Rattle.std.specs.Prelude.{◌≡◌, ◌+◌, ℕ, List, Some, map, slice_get, take, IfOk, OnOk};
-ghost use Rattle.yv_statement.specs.Keywords.{written};
+ghost use Rattle.yv_text_statement.specs.Keywords.{spelling};
 ghost use Rattle.yv_link_scopes.specs.{Tables.{table_of, word_of, place_of_kind, first_of}, Files.{has_word}, Rows.{Row, row}, Views.{rows_in}, InnerPlaces.{AreFirst}, InnerDefinitions.{ArePlaces}, declared.kind.NameKind.TheVariants.{Typedef, Grouping, Feature, Identity, Extension}};
 
 use crate::entry::Entry;
@@ -8,7 +8,7 @@ use crate::names::name_of;
 use crate::places::NamePlaces;
 use crate::rows::Rows;
 use std::alloc::{AllocError, Global};
-use yv_statement::Keyword;
+use yv_text_statement::Keyword;
 
 /// The kind of a statement's name: what it names.
 #[derive(Clone, Copy, Debug, PartialEq, Eq)]
@@ -25,7 +25,7 @@ pub enum NameKind {
 impl NameKind {
     // The keyword of the statements that give such names.
     fn keyword(self) -> Keyword
-        ensures { written result ≡ Some (word_of self) }
+        ensures { spelling result ≡ Some (word_of self) }
     {
         match self {
             NameKind::Prefix => Keyword::Prefix,

@@ -1,8 +1,8 @@
 //! Laws about the definitions only.
 ghost use Rattle.std.specs.Prelude.{◌≡◌, ◌<◌, ◌≤◌, ℕ, List, Option, Some, map, length, slice_get};
-ghost use Rattle.yv_statement.specs.Tree.{Tree};
+ghost use Rattle.yv_text_statement.specs.Tree.{Tree};
 ghost use Rattle.yv_link_scopes.specs.{declared.kind.NameKind.{NameKind}, Files.{Files, Briefs, brief_of, module_file_at, file_named}, Rows.{Row}, RowList.{rows_of, statements_of}, Blocks.{StandsIn}, Order.{FollowOffsets}, Scopes.{AreNested, MeansIn, module_of}};
-ghost use Rattle.yv_statement.specs.Offsets.{IsInOrder};
+ghost use Rattle.yv_text_statement.specs.Offsets.{IsInOrder};
 
 /// The name of a typedef or of a grouping means one thing in a statement.
 pub fn a_name_means_one_thing()

@@ -1,9 +1,9 @@
 //! Names, and the prefixes before them.
 ghost use Rattle.std.specs.{Prelude.{◌≡◌}, Option.{option_map}};
-ghost use Rattle.yv_statement.specs.Tree.{name_of as name_at};
+ghost use Rattle.yv_text_statement.specs.Tree.{name_of as name_at};
 ghost use Rattle.yv_link_scopes.specs.Names.{prefix_of, local_of};
 
-use yv_statement::Statement;
+use yv_text_statement::Statement;
 
 /// The statement's argument, or no text where it has none.
 pub fn name_of<'a>(statement: &'a Statement<'_>) -> &'a str

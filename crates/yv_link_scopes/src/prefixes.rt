@@ -9,7 +9,7 @@ use crate::names::name_of;
 use crate::places::NamePlaces;
 use crate::rows::Rows;
 use std::alloc::{AllocError, Global};
-use yv_statement::Keyword;
+use yv_text_statement::Keyword;
 
 // The file of the module for which a prefix stands that is declared so.
 fn declared_module_file(rows: &Rows<'_, '_>, entry: &Entry<'_, '_>) -> Option<u32>

@@ -10,7 +10,7 @@ use crate::names::{local, name_of, prefix_of};
 use crate::places::NamePlaces;
 use crate::scopes::meaning_at;
 use std::alloc::{AllocError, Global};
-use yv_statement::Statement;
+use yv_text_statement::Statement;
 
 // Each statement has a number of 32 bits, and three such numbers are left over, since other crates
 // need some that no statement has.

@@ -7,8 +7,8 @@ use Rattle.yv_nodes.specs.Tree.{Label, Tree, node, Forest, no_trees, tree, count
 use Rattle.yv_nodes.specs.Places.{Place, places}
 use Rattle.yv_nodes.specs.Rows.{Row}
 use Rattle.yv_nodes.specs.Numbers.{numbers_from}
-use Rattle.yv_statement.specs.TextInFile.{TextInFile}
-use Rattle.yv_node_definition.specs.Kinds.{is_case}
+use Rattle.yv_text_statement.specs.TextInFile.{TextInFile}
+use Rattle.yv_node_content.specs.Kinds.{is_case}
 use Rattle.yv_nodes.specs.InnerSpots.{AreRows, node_id, Sits, Spot, spots, row_of}
 use Rattle.std.proofs.lemmas.Bool.{cases_eq}
 use Rattle.std.proofs.lemmas.List.{length-set}
@@ -17,7 +17,7 @@ use Rattle.yv_node_checks.proofs.Spots.{IsNumbered, is_numbered, length_rows, ot
 use Rattle.yv_node_checks.specs.Mandatory.{has_mandatory, is_needed, is_needed_in}
 use Rattle.yv_nodes.specs.Children.{is_called, child_named, child_of_text}
 use Rattle.yv_node_checks.specs.InnerBelow.{AreBelow, case_among, is_named_at, is_needed_at, is_undone_at, kept_at}
-use Rattle.yv_node_checks.proofs.Kept.{place_at, row_at}
+use Rattle.yv_node_checks.proofs.AncestryTable.{place_at, row_at}
 
 module _ (rows : List Row) (all : Forest) (below : List Bool) (n : ℕ) (are : AreRows rows all) (known : AreBelow all below n) where
   -- the first tree that sits somewhere, by its number

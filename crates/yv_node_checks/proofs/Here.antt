@@ -1,9 +1,9 @@
 -- Refusals that stand at a node by a test.
 use Rattle.std.proofs.Common.{◌≡◌, Bool, true, cond, sym, ap, ◌∙◌, subst, Option, Some, None}
-use Rattle.yv_statement.specs.declared.refusal.Code.{Code}
-use Rattle.yv_statement.specs.declared.refusal.Refusal.{Refusal}
-use Rattle.yv_statement.specs.Order.{IsLeast, Stands}
-use Rattle.yv_statement.proofs.Least.{least_refused}
+use Rattle.yv_text_statement.specs.declared.refusal.Code.{Code}
+use Rattle.yv_text_statement.specs.declared.refusal.Refusal.{Refusal}
+use Rattle.yv_text_statement.specs.Order.{IsLeast, Stands}
+use Rattle.yv_text_statement.proofs.Least.{least_refused}
 use Rattle.yv_nodes.specs.Tree.{Label}
 use Rattle.yv_nodes.specs.Refusals.{refusal_of}
 

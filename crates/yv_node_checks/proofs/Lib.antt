@@ -1,5 +1,5 @@
 pub mod Spots
 pub mod Here
-pub mod Kept
+pub mod AncestryTable
 pub mod Below
 mod Namesakes

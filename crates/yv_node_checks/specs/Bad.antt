@@ -1,7 +1,7 @@
 -- What is wrong with a schema tree, but for duplicate names, for what keys and `unique` statements
 -- name, and for paths.
 use Rattle.std.specs.Prelude.{◌⊎◌}
-use Rattle.yv_statement.specs.declared.refusal.Refusal.{Refusal}
+use Rattle.yv_text_statement.specs.declared.refusal.Refusal.{Refusal}
 use Rattle.yv_nodes.specs.Tree.{Forest}
 use Rattle.yv_node_checks.specs.Above.{BadByAbove}
 use Rattle.yv_node_checks.specs.Mandatory.{BadByDefault}

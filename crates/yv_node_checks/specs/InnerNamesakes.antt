@@ -1,8 +1,8 @@
 -- Only private clauses cite this: nodes that are known to have a name.
 use Rattle.std.specs.Prelude.{◌≡◌, ◌<◌, ℕ, List, length, Option, Some, None, slice_get}
 use Rattle.std.specs.List.{slice_index_or}
-use Rattle.yv_node_definition.specs.Definition.{own_default}
-use Rattle.yv_statement.specs.TextInFile.{TextInFile}
+use Rattle.yv_node_content.specs.Definition.{own_default}
+use Rattle.yv_text_statement.specs.TextInFile.{TextInFile}
 use Rattle.yv_nodes.specs.declared.node.NodeId.{NodeId}
 use Rattle.yv_nodes.specs.Alike.{untyped_at}
 use Rattle.yv_nodes.specs.Rows.{Row, blank_row}

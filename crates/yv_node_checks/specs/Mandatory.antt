@@ -2,21 +2,21 @@
 -- 7.9.4).
 use Rattle.std.specs.Prelude.{◌≡◌, ◌⊎◌, ◌==◌, ℕ, nat_lt, Bool, true, false, not, ◌&&◌, ◌||◌, List, length, Option, Some, None, is_some, if◌then◌else◌}
 use Rattle.std.specs.Str.{bytes_eq}
-use Rattle.yv_statement.specs.declared.refusal.Refusal.{Refusal}
-use Rattle.yv_statement.specs.declared.refusal.Code.TheVariants as code
-use Rattle.yv_statement.specs.Order.{Among, Stands}
-use Rattle.yv_node_definition.specs.declared.kind.NodeKind.{NodeKind}
-use Rattle.yv_node_definition.specs.declared.kind.NodeKind.TheVariants as kind
+use Rattle.yv_text_statement.specs.declared.refusal.Refusal.{Refusal}
+use Rattle.yv_text_statement.specs.declared.refusal.Code.TheVariants as code
+use Rattle.yv_text_statement.specs.Order.{Among, Stands}
+use Rattle.yv_node_content.specs.declared.kind.NodeKind.{NodeKind}
+use Rattle.yv_node_content.specs.declared.kind.NodeKind.TheVariants as kind
 use Rattle.yv_values.specs.Same.{has_same}
-use Rattle.yv_node_definition.specs.Definition.{Definition, defaults_said, own_default}
-use Rattle.yv_statement.specs.TextInFile.{TextInFile}
-use Rattle.yv_node_definition.specs.Kinds.{is_case, is_choice}
+use Rattle.yv_node_content.specs.Definition.{Definition, defaults_said, own_default}
+use Rattle.yv_text_statement.specs.TextInFile.{TextInFile}
+use Rattle.yv_node_content.specs.Kinds.{is_case, is_choice}
 use Rattle.yv_nodes.specs.Tree.{Label, Tree, node, Forest, no_trees, tree}
 use Rattle.yv_nodes.specs.Defaults.{defaults_of}
 use Rattle.yv_nodes.specs.Places.{Place, places}
 use Rattle.yv_nodes.specs.Refusals.{refusal_of}
 use Rattle.yv_nodes.specs.Children.{child_of_text}
-use Rattle.yv_node_definition.specs.Kinds.{has_values}
+use Rattle.yv_node_content.specs.Kinds.{has_values}
 
 -- a node of a kind is mandatory, where `below` says that a node directly under it is (RFC 7950,
 -- section 3, "mandatory node")

@@ -1,6 +1,6 @@
 //! What the nodes above a node say against it.
 ghost use Rattle.std.specs.{Prelude.{◌≡◌, ◌<◌, ◌^◌, ◌∷◌, List, IfOk, length}, Option.{option_map}};
-ghost use Rattle.yv_statement.specs.Order.{IsLeast};
+ghost use Rattle.yv_text_statement.specs.Order.{IsLeast};
 ghost use Rattle.yv_nodes.specs.{Tree.{Forest, Label}, Places.{Place}};
 ghost use Rattle.yv_node_checks.specs.{Above.{AtNearest, BadBelow, BadByAbove, has_if_feature, is_misconfigured, is_misfit, is_misplaced, lacks_key, line}, InnerAncestry.{ancestry_at, ancestry_of, label_in, nearest_of}};
 ghost use Rattle.yv_nodes.specs.InnerSpots.{AreRows};
@@ -8,9 +8,9 @@ ghost use Rattle.yv_nodes.specs.InnerSpots.{AreRows};
 use crate::lineage::{Ancestry, is_keyless};
 use crate::node_numbers::node_at;
 use std::alloc::{AllocError, Global};
-use yv_node_definition::NodeKind;
+use yv_node_content::NodeKind;
 use yv_nodes::{Node, NodeId};
-use yv_statement::{Code, Refusal, lesser};
+use yv_text_statement::{Code, Refusal, lesser};
 
 /// The least refusal of a `config` statement, a key or an operation by the nodes above it.
 pub(crate) fn least_by_above(alloc: Global, nodes: &[Node]) -> Result<Option<Refusal>, AllocError>

@@ -1,7 +1,7 @@
 //! All checks of a schema tree, except for duplicate names, for what keys and `unique` statements
 //! name, and for paths.
 ghost use Rattle.std.specs.Prelude.{◌≡◌, IfOk};
-ghost use Rattle.yv_statement.specs.Order.{IsLeast};
+ghost use Rattle.yv_text_statement.specs.Order.{IsLeast};
 ghost use Rattle.yv_nodes.specs.{Tree.{Forest}, Numbers.{rows_from}};
 ghost use Rattle.yv_node_checks.specs.Bad.{BadTree};
 
@@ -9,7 +9,7 @@ use crate::above::least_by_above;
 use crate::mandatory::least_by_default;
 use std::alloc::{AllocError, Global};
 use yv_nodes::Nodes;
-use yv_statement::{Refusal, lesser};
+use yv_text_statement::{Refusal, lesser};
 
 /// The least refusal of these nodes, the rows of a schema tree: for their `config` statements, keys
 /// that are there and fit, operations, `mandatory` statements and the defaults of choices, leafs

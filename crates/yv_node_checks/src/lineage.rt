@@ -3,7 +3,7 @@ ghost use Rattle.std.specs.Prelude.{◌≡◌, ◌∷◌, List};
 ghost use Rattle.yv_nodes.specs.Tree.{Label};
 ghost use Rattle.yv_node_checks.specs.{Above.{is_keyless}, InnerAncestry.{ancestry_of}};
 
-use yv_node_definition::NodeKind;
+use yv_node_content::NodeKind;
 use yv_nodes::Node;
 
 /// What a node and those above it say of what is below them.

@@ -1,17 +1,17 @@
 //! Mandatory nodes, and what is wrong with defaults.
 ghost use Rattle.std.specs.{Prelude.{◌≡◌, ℕ, Some, IfOk, IfSome, length, slice_get, ◌<◌}, List.{find, list_any}};
-ghost use Rattle.yv_statement.specs.Order.{IsLeast};
-ghost use Rattle.yv_node_definition.specs.Definition.{own_default};
+ghost use Rattle.yv_text_statement.specs.Order.{IsLeast};
+ghost use Rattle.yv_node_content.specs.Definition.{own_default};
 ghost use Rattle.yv_nodes.specs.{Tree.{Forest}, Places.{Place, places}};
 ghost use Rattle.yv_node_checks.specs.{Mandatory.{BadByDefault, BadOfDefault, forbids_default_as, has_unfit_default, is_caseless, is_crowded, has_duplicate_default, is_illegible, is_needed, is_overruled}, InnerBelow.{AreBelow, case_among, is_named_at, is_needed_at, is_undone_at, kept_at}, InnerNamesakes.{AreCases, NamesDefault, case_at}};
-ghost use Rattle.yv_node_definition.specs.Kinds.{has_values};
+ghost use Rattle.yv_node_content.specs.Kinds.{has_values};
 ghost use Rattle.yv_nodes.specs.InnerNamesakes.{HaveName};
 ghost use Rattle.yv_nodes.specs.InnerSpots.{AreRows};
 
 use std::alloc::{AllocError, Global};
-use yv_node_definition::NodeKind;
+use yv_node_content::NodeKind;
 use yv_nodes::{Node, NodeId, Nodes};
-use yv_statement::{Code, Refusal, lesser};
+use yv_text_statement::{Code, Refusal, lesser};
 use yv_values::Defaults;
 
 /// The least refusal of the defaults of a choice, a leaf or a leaf-list, or of `mandatory true` or

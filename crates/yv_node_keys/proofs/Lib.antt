@@ -1,11 +1,11 @@
 pub mod Spots
-pub mod Telling
+pub mod NamedChildren
 pub mod Listing
 pub mod Meeting
-pub mod Leading
-pub mod Mixing
-pub mod Keeping
-pub mod Refusing
+pub mod StepDestinations
+pub mod MixedConfig
+pub mod NumberTables
+pub mod ListRefusals
 mod Namesakes
-mod Pairing
-mod Shifting
+mod NodeCounterparts
+mod PathShifts

@@ -5,16 +5,16 @@ use Rattle.std.specs.List.{find, list_any, slice_get}
 use Rattle.std.specs.Option.{option_and_then, option_map}
 use Rattle.std.proofs.lemmas.List.{length-map}
 use Rattle.std.proofs.lemmas.Option.{same_Some}
-use Rattle.yv_node_definition.specs.declared.kind.NodeKind.{NodeKind}
-use Rattle.yv_node_definition.specs.Kinds.{is_case, is_choice, is_leaf, is_list}
+use Rattle.yv_node_content.specs.declared.kind.NodeKind.{NodeKind}
+use Rattle.yv_node_content.specs.Kinds.{is_case, is_choice, is_leaf, is_list}
 use Rattle.yv_nodes.specs.declared.node.NodeId.{NodeId}
 use Rattle.yv_nodes.specs.Tree.{Label, Tree, node, Forest, no_trees, tree, count}
 use Rattle.yv_nodes.specs.Places.{Place, places}
 use Rattle.yv_nodes.specs.Rows.{Row, root}
 use Rattle.yv_nodes.specs.Numbers.{numbers_from, rows_from}
-use Rattle.yv_node_definition.specs.Steps.{Step}
-use Rattle.yv_node_definition.specs.Definition.{own_default}
-use Rattle.yv_statement.specs.TextInFile.{TextInFile}
+use Rattle.yv_node_content.specs.Steps.{Step}
+use Rattle.yv_node_content.specs.Definition.{own_default}
+use Rattle.yv_text_statement.specs.TextInFile.{TextInFile}
 use Rattle.yv_node_keys.specs.Targets.{Waypoint, at_node, at_shorthand_case, arrive, default_case, module_file_of, key_leaf, leaf_among, leaf_at_end, leaf_in, leaf_at, follow_step, step_to, unique_leaf}
 use Rattle.yv_nodes.specs.Children.{is_called, child_named, child_of_text}
 use Rattle.yv_node_keys.specs.Numbers.{arrived_at, case_of, child_at, children_of, default_of, default_case_at, is_called_at, is_some_called, is_kind_at, is_some_kind, key_leaf_at, leaf_at_end_of, leaf_below, leaf_of, led_at, led_by_at, module_file_at, module_file_of_row, stepped_at, tree_at, tree_in, unique_leaf_at}

@@ -5,10 +5,10 @@ use Rattle.std.specs.Option.{option_and_then, option_map}
 use Rattle.std.specs.Str.{bytes_eq}
 use Rattle.std.proofs.lemmas.Option.{get_or_from_slice_get, same_Some, slice_get-get_or, slice_get-map, slice_get_past, slice_get_within}
 use Rattle.std.proofs.lemmas.Slice.Eq.{bytes_eq-Decides}
-use Rattle.yv_node_definition.specs.Definition.{Definition, own_default}
-use Rattle.yv_statement.specs.TextInFile.{TextInFile}
-use Rattle.yv_node_definition.specs.Kinds.{is_choice, is_leaf}
-use Rattle.yv_node_definition.specs.Steps.{Step}
+use Rattle.yv_node_content.specs.Definition.{Definition, own_default}
+use Rattle.yv_text_statement.specs.TextInFile.{TextInFile}
+use Rattle.yv_node_content.specs.Kinds.{is_choice, is_leaf}
+use Rattle.yv_node_content.specs.Steps.{Step}
 use Rattle.yv_nodes.specs.declared.node.NodeId.{NodeId}
 use Rattle.yv_nodes.specs.Alike.{untyped_at}
 use Rattle.yv_nodes.specs.Rows.{Row, blank_row}

@@ -1,9 +1,9 @@
 -- What is wrong with the `key` and `unique` statements of a schema tree (RFC 7950, sections 7.8.2
 -- and 7.8.3).
 use Rattle.std.specs.Prelude.{◌≡◌, ◌⊎◌, true, length}
-use Rattle.yv_statement.specs.declared.refusal.Refusal.{Refusal}
-use Rattle.yv_statement.specs.declared.refusal.Code.TheVariants as code
-use Rattle.yv_statement.specs.Order.{Among, Stands}
+use Rattle.yv_text_statement.specs.declared.refusal.Refusal.{Refusal}
+use Rattle.yv_text_statement.specs.declared.refusal.Code.TheVariants as code
+use Rattle.yv_text_statement.specs.Order.{Among, Stands}
 use Rattle.yv_nodes.specs.Tree.{Forest}
 use Rattle.yv_nodes.specs.Places.{Place, places}
 use Rattle.yv_nodes.specs.Refusals.{refusal_of}

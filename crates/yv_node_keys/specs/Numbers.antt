@@ -2,15 +2,15 @@
 use Rattle.std.specs.Prelude.{ℕ, Bool, false, not, ◌&&◌, List, [], ◌∷◌, Option, Some, None, slice_get, if◌then◌else◌}
 use Rattle.std.specs.List.{find}
 use Rattle.std.specs.Option.{option_and_then, option_map}
-use Rattle.yv_node_definition.specs.declared.kind.NodeKind.{NodeKind}
-use Rattle.yv_node_definition.specs.Kinds.{is_case, is_choice, is_leaf, is_list}
-use Rattle.yv_node_definition.specs.Definition.{own_default}
-use Rattle.yv_statement.specs.TextInFile.{TextInFile}
+use Rattle.yv_node_content.specs.declared.kind.NodeKind.{NodeKind}
+use Rattle.yv_node_content.specs.Kinds.{is_case, is_choice, is_leaf, is_list}
+use Rattle.yv_node_content.specs.Definition.{own_default}
+use Rattle.yv_text_statement.specs.TextInFile.{TextInFile}
 use Rattle.yv_nodes.specs.declared.node.NodeId.{NodeId}
 use Rattle.yv_nodes.specs.Tree.{Tree, node, Forest}
 use Rattle.yv_nodes.specs.Places.{Place, places}
 use Rattle.yv_nodes.specs.Rows.{Row}
-use Rattle.yv_node_definition.specs.Steps.{Step}
+use Rattle.yv_node_content.specs.Steps.{Step}
 use Rattle.yv_node_keys.specs.Targets.{module_file_of}
 use Rattle.yv_nodes.specs.Children.{is_called}
 use Rattle.yv_node_keys.specs.declared.place.Way.{Way}

@@ -3,7 +3,7 @@
 use Rattle.std.specs.Prelude.{nat_lt, Bool, false, not, ◌&&◌, ◌||◌, List, length, Option, Some, None, is_some}
 use Rattle.std.specs.List.{list_any}
 use Rattle.yv_nodes.specs.Tree.{Tree, node}
-use Rattle.yv_node_definition.specs.Steps.{Step}
+use Rattle.yv_node_content.specs.Steps.{Step}
 use Rattle.yv_node_keys.specs.Targets.{key_leaf, unique_leaf}
 
 -- one of the names is that of no leaf directly below

@@ -2,11 +2,11 @@
 use Rattle.std.specs.Prelude.{ℕ, ◌==◌, Bool, not, ◌&&◌, List, [], ◌∷◌, Option, Some, None, if◌then◌else◌}
 use Rattle.std.specs.Option.{option_and_then, unwrap_or}
 use Rattle.std.specs.Str.{bytes_eq}
-use Rattle.yv_node_definition.specs.Kinds.{is_case, is_choice, is_leaf, is_list}
-use Rattle.yv_node_definition.specs.Definition.{own_default}
-use Rattle.yv_statement.specs.TextInFile.{TextInFile}
+use Rattle.yv_node_content.specs.Kinds.{is_case, is_choice, is_leaf, is_list}
+use Rattle.yv_node_content.specs.Definition.{own_default}
+use Rattle.yv_text_statement.specs.TextInFile.{TextInFile}
 use Rattle.yv_nodes.specs.Tree.{Label, Tree, node, Forest, no_trees, tree}
-use Rattle.yv_node_definition.specs.Steps.{Step}
+use Rattle.yv_node_content.specs.Steps.{Step}
 use Rattle.yv_nodes.specs.Children.{is_called, child_named, child_of_text}
 
 -- the module of a step: without a prefix that of the list whose statement has the path

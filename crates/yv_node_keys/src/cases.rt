@@ -1,13 +1,13 @@
 //! The default cases of choices.
 ghost use Rattle.std.specs.{Prelude.{◌≡◌}, List.{find}, Option.{option_map}};
-ghost use Rattle.yv_statement.specs.TextInFile.{written_of};
+ghost use Rattle.yv_text_statement.specs.TextInFile.{written_of};
 ghost use Rattle.yv_node_keys.specs.{Numbers.{children_at, default_of, default_case_at, is_called_at}, InnerNamesakes.{NamesDefault}};
 ghost use Rattle.yv_nodes.specs.InnerNamesakes.{HaveName};
 
 use crate::node_numbers::{children_at, is_called_at, module_file_at, node_at};
-use yv_node_definition::NodeKind;
+use yv_node_content::NodeKind;
 use yv_nodes::{Node, NodeId, Nodes};
-use yv_statement::WrittenText;
+use yv_text_statement::WrittenText;
 
 // What the default of a choice says, where there is one.
 fn default_of(node: Option<&Node>) -> Option<&WrittenText>

@@ -1,7 +1,7 @@
 //! The leafs that a key names, by those that it names in another list of which the same is said.
 ghost use Rattle.std.specs.{Prelude.{◌≡◌, ◌≤◌, List, Option, Some, true, length, map, take, IfOk, IfSome}, BTreeMap.{get}, Ordering.{nat_cmp}};
 ghost use Rattle.yv_nodes.specs.{declared.node.NodeId.{NodeId}};
-ghost use Rattle.yv_node_definition.specs.Steps.{Step};
+ghost use Rattle.yv_node_content.specs.Steps.{Step};
 ghost use Rattle.yv_node_keys.specs.{Numbers.{key_leaf_at}, InnerCounterparts.{AreCalledAlike, ArePairs, counterpart, leaf_counterpart}};
 
 use crate::node_numbers::{children_at, leaf_of, module_file_at};

@@ -1,6 +1,6 @@
 //! The leafs that a key names.
 ghost use Rattle.std.specs.{Prelude.{◌≡◌, ℕ, Some, length, not, map, slice_get, is_some, IfOk, IfSome}, List.{list_any}};
-ghost use Rattle.yv_node_definition.specs.Steps.{Step};
+ghost use Rattle.yv_node_content.specs.Steps.{Step};
 ghost use Rattle.yv_nodes.specs.{Tree.{Forest}, Places.{Place, places}, Numbers.{rows_from}};
 ghost use Rattle.yv_node_keys.specs.{Numbers.{child_at, children_at, key_leaf_at, tree_in}, Refusals.{is_bad_key}, InnerNames.{AreNamesIfKept}, InnerNamesakes.{HaveNames}};
 ghost use Rattle.yv_nodes.specs.InnerNamesakes.{HaveName};
@@ -10,7 +10,7 @@ use crate::counterparts::counterpart_leafs;
 use crate::names::ChildNames;
 use crate::node_numbers::{children_at, leaf_of, module_file_at};
 use std::alloc::{AllocError, Global};
-use yv_node_definition::PathStep;
+use yv_node_content::PathStep;
 use yv_nodes::{Node, NodeId, Nodes};
 
 /// Up to how many names of a key are looked up among the nodes one by one.

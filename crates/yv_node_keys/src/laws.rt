@@ -1,7 +1,7 @@
 //! What holds of the definitions.
 ghost use Rattle.std.specs.{Prelude.{◌≡◌, List, Option, Some}, Option.{option_map}};
 ghost use Rattle.yv_nodes.specs.{declared.node.NodeId.{NodeId}, Tree.{Forest, Tree}, Numbers.{rows_from}, Rows.{Row}};
-ghost use Rattle.yv_node_definition.specs.Steps.{Step};
+ghost use Rattle.yv_node_content.specs.Steps.{Step};
 ghost use Rattle.yv_node_keys.specs.{Targets.{default_case, key_leaf, unique_leaf}, declared.targets.LeafTargets.{LeafTargets}, LeafTargets.{AreLeafTargets}, LeafNames.{HaveLeafs}, Numbers.{default_case_at, key_leaf_at, tree_at, unique_leaf_at}};
 
 /// The number that a name in a key leads to is that of the leaf to which the tree leads.

@@ -1,12 +1,12 @@
 //! The leafs that `unique` statements name, by those that they name in an earlier list.
 ghost use Rattle.std.specs.{Prelude.{◌≡◌, List, Option, Some, false, map, IfOk, IfSome}, List.{list_any}};
-ghost use Rattle.yv_node_definition.specs.Steps.{Step};
+ghost use Rattle.yv_node_content.specs.Steps.{Step};
 ghost use Rattle.yv_node_keys.specs.{Numbers.{unique_leaf_at}, InnerMixedConfig.{is_bad_statement_at, is_mixed_at}, InnerShifts.{AreUnmixed, moved_id}};
 
 use crate::shift::{Shift, shift_between};
 use crate::unique::is_mixed;
 use std::alloc::{AllocError, Global};
-use yv_node_definition::PathStep;
+use yv_node_content::PathStep;
 use yv_nodes::{NodeId, Nodes};
 
 // How many nodes take as long to compare as a step takes to follow, or fewer.

@@ -1,10 +1,10 @@
 //! Nodes by their numbers.
 ghost use Rattle.std.specs.{Prelude.{◌≡◌, slice_get}, Option.{option_map}};
-ghost use Rattle.yv_node_definition.specs.Kinds.{is_case, is_choice, is_leaf, is_list};
+ghost use Rattle.yv_node_content.specs.Kinds.{is_case, is_choice, is_leaf, is_list};
 ghost use Rattle.yv_node_keys.specs.Numbers.{arrived_at, children_at, module_file_at, is_called_at, is_kind_at, leaf_of};
 
 use crate::place::Way;
-use yv_node_definition::NodeKind;
+use yv_node_content::NodeKind;
 use yv_nodes::{Node, NodeId};
 
 /// The node of a number.

@@ -1,6 +1,6 @@
 //! What all lists and choices name.
 ghost use Rattle.std.specs.{Prelude.{◌≡◌, ◌<◌, ◌+◌, ℕ, List, Some, None, map, slice_get, length, IfOk, OnOk}, declared.vec.Vec.{Vec}, declared.alloc.Global.{Global}};
-ghost use Rattle.yv_statement.specs.Order.{IsLeast};
+ghost use Rattle.yv_text_statement.specs.Order.{IsLeast};
 ghost use Rattle.yv_nodes.specs.{Tree.{Forest}, Places.{Place, places}, Rows.{Row}, Numbers.{rows_from}};
 ghost use Rattle.yv_node_keys.specs.{Numbers.{default_case_at, key_leaf_at, unique_leaf_at}, Bad.{BadLeafs, BadOfLeafs}, LeafTargets.{AreLeafTargets}, InnerTargets.{AreRight, AreUpTo, HasCase, HasLeafs, IsKeptUpTo, IsRight, cases_at, keys_in, lists_at, uniques_in}};
 
@@ -11,7 +11,7 @@ use crate::unique::unique_leafs_like;
 use std::alloc::{AllocError, Global};
 use std::collections::BTreeMap;
 use yv_nodes::{NodeId, Nodes};
-use yv_statement::{Code, Refusal, lesser};
+use yv_text_statement::{Code, Refusal, lesser};
 
 /// What the `key` and `unique` statements of a list name.
 #[derive(Drop)]

@@ -2,14 +2,14 @@
 ghost use Rattle.std.specs.{Prelude.{◌≡◌, ◌&&◌, ℕ, Some, false, length, not, map, slice_get, is_some, IfOk, IfSome}, List.{list_any}};
 ghost use Rattle.yv_nodes.specs.{Tree.{Forest}, Places.{Place, places}, Numbers.{rows_from}};
 ghost use Rattle.yv_node_keys.specs.{Numbers.{tree_in, unique_leaf_at}, Refusals.{is_bad_unique}, InnerMixedConfig.{is_bad_statement_at, is_config_at, is_mixed_at}};
-ghost use Rattle.yv_node_definition.specs.Definition.{paths_in};
+ghost use Rattle.yv_node_content.specs.Definition.{paths_in};
 
 use crate::index::Index;
 use crate::moved_leafs::counterpart_uniques;
 use crate::node_numbers::node_at;
 use crate::walk::unique_leaf;
 use std::alloc::{AllocError, Global};
-use yv_node_definition::PathStep;
+use yv_node_content::PathStep;
 use yv_nodes::{Node, NodeId, Nodes};
 
 // The leafs that the paths of a statement name, in order.

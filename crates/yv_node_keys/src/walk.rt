@@ -6,7 +6,7 @@ use crate::index::Index;
 use crate::node_numbers::{arrived_at, is_called_at, leaf_of, module_file_at};
 use crate::place::Way;
 use std::alloc::{AllocError, Global};
-use yv_node_definition::PathStep;
+use yv_node_content::PathStep;
 use yv_nodes::{Node, NodeId};
 
 // Where a path is that came down from one node to another, if there is one.

@@ -1,8 +1,8 @@
 -- Schemas that say the same.
 use Rattle.std.proofs.Common.{◌≡◌, ◌<◌, ◌^◌, ℕ, List, length, Some, inl, inr, sym, ap, subst, ◌∙◌}
 use Rattle.std.specs.List.{slice_get}
-use Rattle.yv_statement.specs.declared.refusal.Refusal.{Refusal}
-use Rattle.yv_statement.proofs.Least.{least_same}
+use Rattle.yv_text_statement.specs.declared.refusal.Refusal.{Refusal}
+use Rattle.yv_text_statement.proofs.Least.{least_same}
 use Rattle.yv_nodes.specs.Rows.{Row}
 use Rattle.yv_node_leafrefs.specs.Schema.{AreAlike, Referral, Schema}
 use Rattle.yv_node_leafrefs.specs.Above.{IsInside}

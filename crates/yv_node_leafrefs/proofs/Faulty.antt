@@ -4,14 +4,14 @@ use Rattle.std.specs.Option.{is_some}
 use Rattle.std.specs.List.{slice_get}
 use Rattle.std.proofs.lemmas.Bool.{false≢true}
 use Rattle.std.proofs.lemmas.Option.{same_Some, none-some, slice_get_within}
-use Rattle.yv_statement.specs.Order.{IsLeast, Stands, Among}
-use Rattle.yv_statement.specs.declared.refusal.Refusal.{Refusal}
-use Rattle.yv_statement.proofs.Least.{least_refused, least_same}
+use Rattle.yv_text_statement.specs.Order.{IsLeast, Stands, Among}
+use Rattle.yv_text_statement.specs.declared.refusal.Refusal.{Refusal}
+use Rattle.yv_text_statement.proofs.Least.{least_refused, least_same}
 use Rattle.yv_nodes.specs.Rows.{Row}
 use Rattle.yv_nodes.specs.Refusals.{refusal_of}
 use Rattle.yv_node_leafrefs.specs.Schema.{Schema}
 use Rattle.yv_node_leafrefs.specs.Targets.{IsLeafref, RefersTo, LeadsTo, by_step, by_way}
-use Rattle.yv_statement.specs.declared.refusal.Code.TheVariants as code
+use Rattle.yv_text_statement.specs.declared.refusal.Code.TheVariants as code
 use Rattle.yv_node_leafrefs.specs.Bad.{IsLost, BadLeafrefs}
 use Rattle.yv_node_leafrefs.specs.InnerGraph.{IsOne}
 

@@ -3,20 +3,20 @@ use Rattle.std.proofs.Common.{◌≡◌, ◌⊎◌, inl, inr, ℕ, zero, suc, �
 use Rattle.std.proofs.lemmas.Bool.{false≢true}
 use Rattle.std.proofs.lemmas.Option.{same_Some, none-some}
 use Rattle.std.specs.List.{slice_get}
-use Rattle.yv_node_definition.specs.Kinds.{is_passed, is_operation_or_notification, is_data}
-use Rattle.yv_node_definition.specs.Steps.{Step}
+use Rattle.yv_node_content.specs.Kinds.{is_passed, is_operation_or_notification, is_data}
+use Rattle.yv_node_content.specs.Steps.{Step}
 use Rattle.yv_nodes.specs.Rows.{Row}
 use Rattle.yv_node_leafrefs.specs.Schema.{Schema}
 use Rattle.yv_node_leafrefs.specs.Above as above
 use Rattle.yv_node_leafrefs.specs.Above.{parent_of, Closest, document, IsAbove, IsDataChild, IsFirst, IsInside, IsUnder, same, under, IsDepth, top, deeper}
 use Rattle.yv_node_leafrefs.specs.Ways.{Climbs, Begins, Means, Leads}
 use Rattle.yv_node_leafrefs.specs.Targets.{RefersTo}
-use Rattle.yv_node_definition.specs.Kinds.{has_values}
-use Rattle.yv_node_definition.specs.declared.kind.NodeKind.{NodeKind}
-use Rattle.yv_node_definition.specs.declared.kind.NodeKind.TheVariants as kind
-use Rattle.yv_node_leafrefs.proofs.Closing.{above_one}
-use Rattle.yv_node_leafrefs.proofs.Targeting.{follows_of}
-use Rattle.yv_node_leafrefs.proofs.Placing.{inside_by, none_inside}
+use Rattle.yv_node_content.specs.Kinds.{has_values}
+use Rattle.yv_node_content.specs.declared.kind.NodeKind.{NodeKind}
+use Rattle.yv_node_content.specs.declared.kind.NodeKind.TheVariants as kind
+use Rattle.yv_node_leafrefs.proofs.ClimbUniqueness.{above_one}
+use Rattle.yv_node_leafrefs.proofs.LeafrefTargets.{follows_of}
+use Rattle.yv_node_leafrefs.proofs.AncestorPlaces.{inside_by, none_inside}
 
 -- what stands below what stands below
 under_further : (rows : List Row) (a b c : Option ℕ) → IsUnder rows a b → IsUnder rows b c → IsUnder rows a c

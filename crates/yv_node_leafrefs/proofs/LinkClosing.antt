@@ -3,8 +3,8 @@ use Rattle.std.proofs.Common.{◌≡◌, ℕ, true, false, List, refl, sym, ◌�
 use Rattle.std.proofs.lemmas.Bool.{false≢true}
 use Rattle.std.proofs.lemmas.Option.{same_Some}
 use Rattle.std.specs.List.{slice_get}
-use Rattle.yv_node_definition.specs.Kinds.{is_passed}
-use Rattle.yv_node_definition.specs.Steps.{Step}
+use Rattle.yv_node_content.specs.Kinds.{is_passed}
+use Rattle.yv_node_content.specs.Steps.{Step}
 use Rattle.yv_nodes.specs.Rows.{Row}
 use Rattle.yv_node_leafrefs.specs.Above.{parent_of, Closest, document, here, further, IsAbove}
 use Rattle.yv_node_leafrefs.specs.Ways.{Means}

@@ -4,10 +4,10 @@ use Rattle.std.proofs.Common.{length, refl, sym, ◌∙◌, ap, subst, arith, Op
 use Rattle.std.proofs.lemmas.Bool.{cases_lt, false≢true, ne_eqb}
 use Rattle.std.proofs.lemmas.Option.{same_Some, none-some, slice_get_within}
 use Rattle.std.specs.List.{slice_get, slice_index_or}
-use Rattle.yv_node_definition.specs.Kinds.{is_passed}
-use Rattle.yv_node_definition.specs.Steps.{Step}
-use Rattle.yv_node_definition.specs.declared.kind.NodeKind.{NodeKind}
-use Rattle.yv_node_definition.specs.declared.kind.NodeKind.TheVariants as kind
+use Rattle.yv_node_content.specs.Kinds.{is_passed}
+use Rattle.yv_node_content.specs.Steps.{Step}
+use Rattle.yv_node_content.specs.declared.kind.NodeKind.{NodeKind}
+use Rattle.yv_node_content.specs.declared.kind.NodeKind.TheVariants as kind
 use Rattle.yv_nodes.specs.declared.node.NodeId.{NodeId}
 use Rattle.yv_nodes.specs.Link.{AreLinked, AreLinkedBelow, climb, Ground, IsLinked, KindLeads, KindLinked, Leads, Link, reference_in}
 use Rattle.yv_nodes.specs.Numbers.{rows_from}
@@ -16,11 +16,11 @@ use Rattle.yv_nodes.specs.Tree.{count, Forest, no_trees, node, tree}
 use Rattle.yv_node_leafrefs.specs.Above as above
 use Rattle.yv_node_leafrefs.specs.Above.{Closest, document, IsAbove, parent_of, place_of}
 use Rattle.yv_node_leafrefs.specs.Schema.{Referral, Schema}
-use Rattle.yv_node_definition.specs.Kinds.{has_values}
+use Rattle.yv_node_content.specs.Kinds.{has_values}
 use Rattle.yv_node_leafrefs.specs.Ways.{Begins, Climbs}
 use Rattle.yv_node_leafrefs.specs.Links.{AreInner, AreLinks, is_inner, IsInner, IsLinkOf, LeadsOver}
 use Rattle.yv_node_leafrefs.proofs.LinkClosing.{above_one, child_above}
-use Rattle.yv_node_leafrefs.proofs.Standing.{kids_of, row_of, rows_long, Stand, stand_all}
+use Rattle.yv_node_leafrefs.proofs.TreeRows.{kids_of, row_of, rows_long, Stand, stand_all}
 
 -- ---- kinds
 

@@ -1,6 +1,6 @@
 -- Data nodes above and below a node (RFC 7950, sections 3 and 7.9).
 use Rattle.std.specs.Prelude.{◌≡◌, ℕ, ◌+◌, ◌<◌, ◌≤◌, true, false, List, Option, Some, None, slice_get, if◌then◌else◌}
-use Rattle.yv_node_definition.specs.Kinds.{is_passed, is_operation_or_notification, is_data}
+use Rattle.yv_node_content.specs.Kinds.{is_passed, is_operation_or_notification, is_data}
 use Rattle.yv_nodes.specs.declared.node.NodeId.{NodeId}
 use Rattle.yv_nodes.specs.Rows.{Row, is_root}
 

@@ -1,8 +1,8 @@
 -- What is wrong with the leafrefs of a schema tree (RFC 7950, section 9.9).
 use Rattle.std.specs.Prelude.{ℕ, ◌⊎◌, length}
-use Rattle.yv_statement.specs.Order.{Stands, Among}
-use Rattle.yv_statement.specs.declared.refusal.Refusal.{Refusal}
-use Rattle.yv_statement.specs.declared.refusal.Code.TheVariants as code
+use Rattle.yv_text_statement.specs.Order.{Stands, Among}
+use Rattle.yv_text_statement.specs.declared.refusal.Refusal.{Refusal}
+use Rattle.yv_text_statement.specs.declared.refusal.Code.TheVariants as code
 use Rattle.yv_nodes.specs.Rows.{Row}
 use Rattle.yv_nodes.specs.Refusals.{refusal_of}
 use Rattle.yv_node_leafrefs.specs.Schema.{Referral, Schema}

@@ -5,8 +5,8 @@ use Rattle.std.specs.Ordering.{nat_cmp, ordering_then}
 use Rattle.std.specs.BTreeMap.{BTreeMap, get_by}
 use Rattle.std.specs.List.{slice_index_or}
 use Rattle.std.specs.Option.{unwrap_or}
-use Rattle.yv_node_definition.specs.Kinds.{is_data}
-use Rattle.yv_node_definition.specs.Steps.{Step}
+use Rattle.yv_node_content.specs.Kinds.{is_data}
+use Rattle.yv_node_content.specs.Steps.{Step}
 use Rattle.yv_nodes.specs.Rows.{Row}
 use Rattle.yv_node_leafrefs.specs.Ways.{Means}
 use Rattle.yv_node_leafrefs.specs.InnerNames.{NameNumbers, told_of, stride_of}

@@ -1,7 +1,7 @@
 -- What is known of leafrefs that were read; how, only the readers ask.
 use Rattle.std.specs.Prelude.{◌≡◌, ◌↔◌, ◌<◌, ◌^◌, ℕ, length, Some, None}
 use Rattle.std.specs.List.{slice_index_or}
-use Rattle.yv_statement.specs.Order.{IsLeast}
+use Rattle.yv_text_statement.specs.Order.{IsLeast}
 use Rattle.yv_node_leafrefs.specs.Schema.{Schema}
 use Rattle.yv_node_leafrefs.specs.Targets.{RefersTo}
 use Rattle.yv_node_leafrefs.specs.Bad.{BadLeafrefs}

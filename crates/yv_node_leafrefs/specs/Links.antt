@@ -1,9 +1,9 @@
 -- Where the paths of leafrefs lead (RFC 7950, sections 9.9.2 and 9.9.3).
 use Rattle.std.specs.Prelude.{◌≡◌, ◌≢◌, ◌↔◌, ℕ, ◌+◌, ◌<◌, ◌^◌, Bool, true, false, List, [], ◌∷◌, length, Option, Some, slice_get}
-use Rattle.yv_node_definition.specs.Kinds.{is_data}
-use Rattle.yv_node_definition.specs.Steps.{Step}
-use Rattle.yv_node_definition.specs.declared.kind.NodeKind.{NodeKind}
-use Rattle.yv_node_definition.specs.declared.kind.NodeKind.TheVariants as kind
+use Rattle.yv_node_content.specs.Kinds.{is_data}
+use Rattle.yv_node_content.specs.Steps.{Step}
+use Rattle.yv_node_content.specs.declared.kind.NodeKind.{NodeKind}
+use Rattle.yv_node_content.specs.declared.kind.NodeKind.TheVariants as kind
 use Rattle.yv_nodes.specs.Link.{Link, reference_in}
 use Rattle.yv_nodes.specs.Rows.{Row}
 use Rattle.yv_node_leafrefs.specs.Above.{IsDataChild}

@@ -1,8 +1,8 @@
 -- A schema tree whose leafrefs are resolved: the values of each have the types of its target (RFC
 -- 7950, section 9.9).
 use Rattle.std.specs.Prelude.{◌≡◌, ℕ, ◌<◌, length, None}
-use Rattle.yv_statement.specs.Order.{IsLeast}
-use Rattle.yv_statement.specs.declared.refusal.Refusal.{Refusal}
+use Rattle.yv_text_statement.specs.Order.{IsLeast}
+use Rattle.yv_text_statement.specs.declared.refusal.Refusal.{Refusal}
 use Rattle.yv_nodes.specs.Numbers.{rows_from}
 use Rattle.yv_nodes.specs.Tree.{Forest}
 use Rattle.yv_nodes.specs.NodeTypes.{typed_from, types_at}

@@ -1,12 +1,12 @@
 -- What leafrefs refer to (RFC 7950, section 9.9).
 use Rattle.std.specs.Prelude.{◌≡◌, ℕ, ◌&&◌, not, ◌||◌, Bool, true, false, Option, Some, None, slice_get}
-use Rattle.yv_node_definition.specs.declared.kind.NodeKind.{NodeKind}
-use Rattle.yv_node_definition.specs.declared.kind.NodeKind.TheVariants as kind
+use Rattle.yv_node_content.specs.declared.kind.NodeKind.{NodeKind}
+use Rattle.yv_node_content.specs.declared.kind.NodeKind.TheVariants as kind
 use Rattle.yv_nodes.specs.Rows.{Row}
 use Rattle.yv_node_leafrefs.specs.Schema.{Referral, Schema}
 use Rattle.yv_node_leafrefs.specs.Above.{IsInside}
 use Rattle.yv_node_leafrefs.specs.Ways.{Begins, Leads}
-use Rattle.yv_node_definition.specs.Kinds.{has_values}
+use Rattle.yv_node_content.specs.Kinds.{has_values}
 
 -- the node is a leafref, and says this. Inside operations and notifications none is asked for
 pub record IsLeafref (s : Schema) (n : ℕ) (row : Row) (ref : Referral) : Type 0 where

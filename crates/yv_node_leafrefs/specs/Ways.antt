@@ -1,7 +1,7 @@
 -- Where paths of data nodes lead (RFC 7950, sections 6.4.1 and 9.9.2).
 use Rattle.std.specs.Prelude.{◌≡◌, ℕ, zero, suc, List, [], ◌∷◌, Option, Some, None}
 use Rattle.std.specs.Option.{unwrap_or}
-use Rattle.yv_node_definition.specs.Steps.{Step}
+use Rattle.yv_node_content.specs.Steps.{Step}
 use Rattle.yv_nodes.specs.Rows.{Row}
 use Rattle.yv_node_leafrefs.specs.Above.{IsAbove, IsDataChild, IsFirst}
 

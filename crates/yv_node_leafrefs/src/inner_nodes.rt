@@ -3,7 +3,7 @@ ghost use Rattle.std.specs.{Prelude.{◌≡◌, ◌<◌, ◌≤◌, ◌↔◌, �
 ghost use Rattle.yv_node_leafrefs.specs.{Above.{AreBehind, Closest, parent_of, place_of}, Links.{IsInner}, InnerWays.{AreAbove}};
 
 use std::alloc::{AllocError, Global};
-use yv_node_definition::NodeKind;
+use yv_node_content::NodeKind;
 use yv_nodes::{Node, NodeId};
 
 // The place of a number: none is that of the document.

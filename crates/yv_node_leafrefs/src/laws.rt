@@ -3,7 +3,7 @@
 ghost use Rattle.std.specs.Prelude.{List, ◌≡◌, ◌⊎◌, ◌≤◌, ℕ, Some, None, true, slice_get};
 ghost use Rattle.yv_nodes.specs.{Tree.{Forest}, Rows.{Row}, Numbers.{numbers_from, rows_from}, NodeTypes.{typed_from, typed_rows}};
 ghost use Rattle.yv_node_leafrefs.specs.{Schema.{AreAlike, Schema}, Above.{AreBehind, IsDepth, IsInside, IsUnder}, Targets.{RefersTo, HasTypesOf}, Leafrefs.{AreLeafrefs}, declared.leafrefs.Leafrefs.{Leafrefs}, Resolution.{IsResolved, IsTyped}};
-ghost use Rattle.yv_node_definition.specs.Kinds.{has_values};
+ghost use Rattle.yv_node_content.specs.Kinds.{has_values};
 ghost use Rattle.yv_values.specs.Types.{Plain};
 
 /// Each row of a schema tree is after the one above it.

@@ -1,6 +1,6 @@
 //! What a leafref says.
 use std::marker::Model;
-use yv_node_definition::PathStep;
+use yv_node_content::PathStep;
 
 /// What the type of a leafref says (RFC 7950, section 9.9), which the copies of a node share.
 /// Contracts see it as a `Referral`.

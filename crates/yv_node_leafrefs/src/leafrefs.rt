@@ -11,7 +11,7 @@ use crate::refusals::first_refusal;
 use crate::targets::targets;
 use std::alloc::{AllocError, Global};
 use yv_nodes::{NodeId, Nodes};
-use yv_statement::Refusal;
+use yv_text_statement::Refusal;
 
 /// What the leafrefs of a schema tree refer to, and the least that is wrong with them.
 #[derive(Drop)]
@@ -50,7 +50,7 @@ fn all_numbered(alloc: Global, numbers: &[usize]) -> Result<Vec<NodeId>, AllocEr
 }
 
 impl Leafrefs {
-    ghost use Rattle.yv_statement.specs.Order.{IsLeast};
+    ghost use Rattle.yv_text_statement.specs.Order.{IsLeast};
     ghost use Rattle.yv_node_leafrefs.specs.{Targets.{RefersTo, HasTypesOf}, Bad.{BadLeafrefs}, Leafrefs.{AreLeafrefs}, Resolution.{IsTyped}};
 
     /// The leafrefs among these nodes. For each node `statements` has the number of the statement

@@ -1,13 +1,13 @@
 //! What is wrong with leafrefs.
 ghost use Rattle.std.specs.Prelude.{◌≡◌, ◌<◌, ◌↔◌, ℕ, Some, None, length, slice_get, IsTrue};
-ghost use Rattle.yv_statement.specs.Order.{IsLeast};
+ghost use Rattle.yv_text_statement.specs.Order.{IsLeast};
 ghost use Rattle.yv_nodes.specs.Rows.{Row};
 ghost use Rattle.yv_node_leafrefs.specs.{Bad.{BadLeafrefs, BadLeafref, IsLost}, Targets.{RefersTo}, InnerOutline.{rows_in, schema_in}, InnerIndex.{IsDraft}, InnerGraph.{AreTargets, AreLeafrefCycles}};
 
 use crate::draft::Draft;
 use crate::outline::Outline;
 use crate::targets::is_leafref;
-use yv_statement::{Code, Refusal, lesser};
+use yv_text_statement::{Code, Refusal, lesser};
 
 // Whether a node with this target is a leafref that refers to nothing.
 fn is_lost(outline: &Outline<'_>, draft: &Draft<'_>, target: Option<u32>, number: u32) -> bool

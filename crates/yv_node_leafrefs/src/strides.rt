@@ -5,7 +5,7 @@ ghost use Rattle.yv_node_leafrefs.specs.InnerNames.{told_of, stride_of};
 use crate::leafref::Leafref;
 use crate::names::NameTable;
 use std::alloc::{AllocError, Global};
-use yv_node_definition::PathStep;
+use yv_node_content::PathStep;
 
 /// A step of a path: the number of the file of the module that its prefix identifies, none without
 /// one, and the number of its name.

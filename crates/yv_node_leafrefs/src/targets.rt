@@ -1,8 +1,8 @@
 //! What leafrefs refer to.
 ghost use Rattle.std.specs.Prelude.{◌≡◌, ◌↔◌, ◌<◌, ℕ, List, Some, None, map, length, slice_get, slice_index_or, IsTrue, IfOk};
-ghost use Rattle.yv_node_definition.specs.declared.kind.NodeKind.{NodeKind};
+ghost use Rattle.yv_node_content.specs.declared.kind.NodeKind.{NodeKind};
 ghost use Rattle.yv_node_leafrefs.specs.{Targets.{IsLeafref, RefersTo, is_fit}, InnerNames.{told_of, stride_of}, InnerOutline.{rows_in, schema_in}, InnerIndex.{IsDraft}, InnerGraph.{AreTargets, IsOne}};
-ghost use Rattle.yv_node_definition.specs.Kinds.{has_values};
+ghost use Rattle.yv_node_content.specs.Kinds.{has_values};
 
 use crate::draft::Draft;
 use crate::leafref::Leafref;
@@ -10,7 +10,7 @@ use crate::outline::Outline;
 use crate::strides::Stride;
 use crate::walk::{start, walk};
 use std::alloc::{AllocError, Global};
-use yv_node_definition::NodeKind;
+use yv_node_content::NodeKind;
 use yv_nodes::Node;
 
 fn has_values(kind: NodeKind) -> bool

@@ -1,6 +1,6 @@
 //! Where paths lead.
 ghost use Rattle.std.specs.Prelude.{◌≡◌, ◌↔◌, ◌<◌, ℕ, List, Option, Some, map, length};
-ghost use Rattle.yv_node_definition.specs.Steps.{Step};
+ghost use Rattle.yv_node_content.specs.Steps.{Step};
 ghost use Rattle.yv_node_leafrefs.specs.{Ways.{Climbs, Begins, Leads}, InnerNames.{told_of, stride_of}, InnerOutline.{rows_in}, InnerIndex.{IsDraft, target_of_stride, table_of}, declared.outline.Outline.{Outline}};
 
 use crate::draft::Draft;

@@ -1,4 +1,4 @@
 pub mod Cuts
-pub mod Referring
-pub mod Beginning
-pub mod Fitting
+pub mod PathPieces
+pub mod PathTexts
+pub mod PathStarts

@@ -3,7 +3,7 @@ use Rattle.std.specs.Prelude.{ℕ, List, Option, Some, None, [], ◌∷◌, leng
 use Rattle.std.specs.List.{position_or_len, before_first, after_first}
 use Rattle.yv_text_if_feature.specs.Bytes.{is_blank}
 use Rattle.yv_link_scopes.specs.Files.{Files}
-use Rattle.yv_node_definition.specs.Steps.{Step}
+use Rattle.yv_node_content.specs.Steps.{Step}
 use Rattle.yv_node_paths.specs.Steps.{path_of, step_of}
 
 -- what comes before the first blank, and what comes after it

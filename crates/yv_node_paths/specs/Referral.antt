@@ -5,7 +5,7 @@ use Rattle.std.specs.Option.{option_and_then}
 use Rattle.std.specs.Str.{bytes_eq}
 use Rattle.yv_link_scopes.specs.Files.{Files}
 use Rattle.yv_link_scopes.specs.Names.{local_of, prefix_of}
-use Rattle.yv_node_definition.specs.Steps.{Piece, Step}
+use Rattle.yv_node_content.specs.Steps.{Piece, Step}
 use Rattle.yv_node_paths.specs.Steps.{module_file_of, path_of, step_of, texts_of}
 
 -- an absolute path begins with '/'

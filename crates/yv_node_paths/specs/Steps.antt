@@ -8,7 +8,7 @@ use Rattle.yv_link_scopes.specs.Files.{Files, brief_of}
 use Rattle.yv_link_scopes.specs.RowList.{rows_of}
 use Rattle.yv_link_scopes.specs.Names.{local_of, prefix_of}
 use Rattle.yv_link_scopes.specs.Scopes.{module_of}
-use Rattle.yv_node_definition.specs.Steps.{Step}
+use Rattle.yv_node_content.specs.Steps.{Step}
 
 -- the number of the file of the module to which a prefix refers in a file
 abbrev pub module_file_of : Files → (file : ℕ) → (prefix : List ℕ) → Option ℕ

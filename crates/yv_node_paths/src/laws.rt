@@ -1,6 +1,6 @@
 //! Laws about the definitions only. These functions do nothing: the contract of each is the law.
 ghost use Rattle.std.specs.Prelude.{◌≡◌, ◌≢◌, ℕ, List, true, slice_get, Some};
-ghost use Rattle.yv_statement.specs.{Tree.{Tree, trees}, declared.keyword.Keyword.{Keyword}, declared.keyword.Keyword.TheVariants.{Extended, Path}};
+ghost use Rattle.yv_text_statement.specs.{Tree.{Tree, trees}, declared.keyword.Keyword.{Keyword}, declared.keyword.Keyword.TheVariants.{Extended, Path}};
 ghost use Rattle.yv_text_grammar.specs.{Refusals.{keyword_at}, Fits.{Fits, FitsIn}, Texts.{is_leafref_path}};
 ghost use Rattle.yv_link_scopes.specs.{Files.{Files}, RowList.{statements_of}};
 ghost use Rattle.yv_node_paths.specs.Referral.{climbs_of};

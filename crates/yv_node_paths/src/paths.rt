@@ -8,7 +8,7 @@ use crate::referral::LeafrefPath;
 use crate::steps::PathReader;
 use std::alloc::{AllocError, Global};
 use yv_link_scopes::{PrefixTable, Rows};
-use yv_node_definition::{PathPiece, PathStep};
+use yv_node_content::{PathPiece, PathStep};
 
 impl<'a> PathReader<'_, 'a> {
     // Adds the path that a text without blanks spells. An empty text is not one.

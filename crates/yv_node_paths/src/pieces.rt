@@ -7,7 +7,7 @@ use crate::steps::{PathReader, texts_of};
 use std::alloc::AllocError;
 use std::rc::RcStr;
 use yv_link_scopes::{local, prefix_of};
-use yv_node_definition::PathPiece;
+use yv_node_content::PathPiece;
 
 impl<'a> PathReader<'_, 'a> {
     // The piece that is written so.

@@ -5,7 +5,7 @@ ghost use Rattle.yv_node_paths.specs.{InnerPrefixes.{IsPrefixTable}, Referral.{c
 
 use crate::steps::{PathReader, texts_of};
 use std::alloc::AllocError;
-use yv_node_definition::PathStep;
+use yv_node_content::PathStep;
 
 /// The path of a leafref (RFC 7950, section 9.9.2).
 #[derive(Drop)]

@@ -6,7 +6,7 @@ ghost use Rattle.yv_node_paths.specs.{Steps.{path_of, step_of, texts_of}, InnerP
 use std::alloc::{AllocError, Global};
 use std::rc::RcStr;
 use yv_link_scopes::{PrefixTable, local, prefix_of};
-use yv_node_definition::PathStep;
+use yv_node_content::PathStep;
 
 // A step without a prefix.
 fn bare_step(alloc: Global, name: &str) -> Result<PathStep, AllocError>

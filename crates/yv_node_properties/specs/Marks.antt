@@ -3,7 +3,7 @@
 -- and 7.21.1).
 use Rattle.std.specs.Prelude.{ℕ, nat_lt, Bool, false, ◌||◌, Option, None, is_some}
 use Rattle.std.specs.Option.{option_map, option_or, unwrap_or}
-use Rattle.yv_statement.specs.declared.keyword.Keyword.TheVariants as word
+use Rattle.yv_text_statement.specs.declared.keyword.Keyword.TheVariants as word
 use Rattle.yv_node_properties.specs.Properties.{Substatements, is_true, least_of}
 use Rattle.yv_node_properties.specs.declared.properties.StatedProperties.{StatedProperties}
 

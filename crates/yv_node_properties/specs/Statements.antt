@@ -1,9 +1,9 @@
 -- The statements of files by their numbers, and those of a block by their keyword.
 use Rattle.std.specs.Prelude.{ℕ, Bool, List, [], Option, None, Some, filter, map, slice_index_or}
 use Rattle.std.specs.List.{find}
-use Rattle.yv_statement.specs.Tree.{Head, Tree, Forest, End, trees, name_of}
-use Rattle.yv_statement.specs.declared.keyword.Keyword.{Keyword}
-use Rattle.yv_statement.specs.Keywords.{keyword_of, same}
+use Rattle.yv_text_statement.specs.Tree.{Head, Tree, Forest, End, trees, name_of}
+use Rattle.yv_text_statement.specs.declared.keyword.Keyword.{Keyword}
+use Rattle.yv_text_statement.specs.Keywords.{keyword_of, same}
 use Rattle.yv_link_scopes.specs.Files.{Files}
 use Rattle.yv_link_scopes.specs.Rows.{Row}
 use Rattle.yv_link_scopes.specs.RowList.{rows_of, statements_of}

@@ -1,11 +1,11 @@
 //! What statements say of a node that doesn't wait for its types.
 ghost use Rattle.std.specs.{Prelude.{◌≡◌, ℕ}, Option.{option_map}};
-ghost use Rattle.yv_statement.specs.declared.keyword.Keyword.TheVariants as word;
+ghost use Rattle.yv_text_statement.specs.declared.keyword.Keyword.TheVariants as word;
 ghost use Rattle.yv_node_properties.specs.{Marks.{is_mandatory, over, silent, stated_of}, Properties.{elements_of, is_true, least_of, substatements_of}};
 
 use crate::substatements::{first_of, has, name_of};
 use yv_base_numbers::{Integer, integer_of};
-use yv_statement::Statement;
+use yv_text_statement::Statement;
 use yv_text_grammar::Keyword;
 
 /// The properties of a node that statements say, where they do (RFC 7950, section 7.13.2).

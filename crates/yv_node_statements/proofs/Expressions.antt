@@ -2,8 +2,8 @@
 use Rattle.std.proofs.Common.{◌≡◌, ℕ, Bool, true, false, List, [], ◌∷◌, ◌++◌, cond, is_some, Option, Some, refl, ap, ◌∙◌}
 use Rattle.std.specs.Prelude.{◌||◌, filter, map}
 use Rattle.std.specs.List.{find}
-use Rattle.yv_statement.specs.Tree.{Tree, Forest, trees, name_of}
-use Rattle.yv_statement.specs.declared.keyword.Keyword.TheVariants as word
+use Rattle.yv_text_statement.specs.Tree.{Tree, Forest, trees, name_of}
+use Rattle.yv_text_statement.specs.declared.keyword.Keyword.TheVariants as word
 use Rattle.yv_link_scopes.specs.Files.{Files}
 use Rattle.yv_node_statements.specs.Features.{all_expressions, expressions}
 use Rattle.yv_node_properties.specs.Statements.{is_of, statement_at}

@@ -1,9 +1,9 @@
 -- The types of a block, by the first of its `type` statements.
 use Rattle.std.proofs.Common.{◌≡◌, ℕ, List, [], cond, Option, Some, None, refl}
-use Rattle.yv_statement.specs.Tree.{Tree, Forest, End, Then}
-use Rattle.yv_statement.specs.declared.keyword.Keyword.{Keyword}
-use Rattle.yv_statement.specs.declared.keyword.Keyword.TheVariants as word
-use Rattle.yv_statement.specs.Keywords.{keyword_of, same}
+use Rattle.yv_text_statement.specs.Tree.{Tree, Forest, End, Then}
+use Rattle.yv_text_statement.specs.declared.keyword.Keyword.{Keyword}
+use Rattle.yv_text_statement.specs.declared.keyword.Keyword.TheVariants as word
+use Rattle.yv_text_statement.specs.Keywords.{keyword_of, same}
 use Rattle.yv_values.specs.Types.{Plain}
 use Rattle.yv_node_statements.specs.Kinds.{Kinds}
 use Rattle.yv_node_statements.specs.Definitions.{types_at, types_in}

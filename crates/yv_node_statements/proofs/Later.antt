@@ -4,16 +4,16 @@ use Rattle.std.specs.Prelude.{◌&&◌, ◌||◌, filter, option_to_list}
 use Rattle.std.specs.List.{find}
 use Rattle.std.specs.Option.{option_map, option_or, unwrap_or}
 use Rattle.std.proofs.lemmas.Bool.{or_parts, true≢false}
-use Rattle.yv_statement.specs.Tree.{Tree, trees}
-use Rattle.yv_statement.specs.declared.keyword.Keyword.{Keyword}
-use Rattle.yv_statement.specs.declared.keyword.Keyword.TheVariants as word
+use Rattle.yv_text_statement.specs.Tree.{Tree, trees}
+use Rattle.yv_text_statement.specs.declared.keyword.Keyword.{Keyword}
+use Rattle.yv_text_statement.specs.declared.keyword.Keyword.TheVariants as word
 use Rattle.yv_link_scopes.specs.Files.{Files}
 use Rattle.yv_expand.specs.declared.origin.Origin.{Origin}
 use Rattle.yv_expand.specs.declared.origin.Origin.TheVariants.{Statement, Input, Output}
 use Rattle.yv_values.specs.Values.{Val}
-use Rattle.yv_node_definition.specs.Definition.{Definition}
-use Rattle.yv_statement.specs.TextInFile.{TextInFile, or_list}
-use Rattle.yv_node_definition.specs.declared.kind.NodeKind.TheVariants as kind
+use Rattle.yv_node_content.specs.Definition.{Definition}
+use Rattle.yv_text_statement.specs.TextInFile.{TextInFile, or_list}
+use Rattle.yv_node_content.specs.declared.kind.NodeKind.TheVariants as kind
 use Rattle.yv_node_statements.specs.Kinds.{TypeMeanings}
 use Rattle.yv_node_statements.specs.Features.{all_expressions, expressions, with_expressions}
 use Rattle.yv_node_properties.specs.Properties.{Substatements, defaults_at, elements_of, is_true, last_defaults, last_said, least_of, properties_of, said_at, statements_of_origin, written_in}
@@ -22,7 +22,7 @@ use Rattle.yv_node_statements.specs.Definitions.{definition_of, defined_at, refi
 use Rattle.yv_node_statements.specs.Values.{defaults_of, values_at, with_defaults}
 use Rattle.yv_node_statements.specs.InnerChanges.{change_at, apply_change, apply_statements}
 use Rattle.yv_node_statements.specs.InnerRefines.{are_none, either_alone, give_default, is_moved, is_swayed}
-use Rattle.yv_node_statements.proofs.Separating.{expressions_more, separated_one}
+use Rattle.yv_node_statements.proofs.CommaLists.{expressions_more, separated_one}
 
 or_map : {A B : Type 0} (f : A → B) (a b : Option A) → option_or (option_map f a) (option_map f b) ≡ option_map f (option_or a b)
 or_map f None b = refl

@@ -3,9 +3,9 @@ pub mod Expressions
 pub mod Firsts
 pub mod Later
 pub mod Listing
-pub mod Separating
-pub mod Shared
-pub mod Spacing
+pub mod CommaLists
+pub mod SharedDefaults
+pub mod BlankRuns
 pub mod TypeKinds
-pub mod Following
-pub mod Keeping
+pub mod RefineRuns
+pub mod StoreGrowth

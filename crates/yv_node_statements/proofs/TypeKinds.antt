@@ -1,7 +1,7 @@
 -- The plain types and the defaults of the `type` statements of files.
 use Rattle.std.proofs.Common.{◌≡◌, ℕ, List, [], Option, Some, None, inl, inr, codes, refl, sym, ◌∙◌}
 use Rattle.std.specs.Option.{unwrap_or}
-use Rattle.yv_statement.specs.Selection.{ModuleChoice}
+use Rattle.yv_text_statement.specs.Selection.{ModuleChoice}
 use Rattle.yv_link_scopes.specs.Files.{Files}
 use Rattle.yv_link_scopes.specs.RowList.{rows_of}
 use Rattle.yv_link_definitions.specs.References.{number_at}
@@ -9,7 +9,7 @@ use Rattle.yv_values.specs.Types.{Plain}
 use Rattle.yv_types.specs.Spaces.{Space}
 use Rattle.yv_types.specs.Types.{IsTold}
 use Rattle.yv_type_enums.specs.Types.{Truth}
-use Rattle.yv_statement.specs.TextInFile.{TextInFile}
+use Rattle.yv_text_statement.specs.TextInFile.{TextInFile}
 use Rattle.yv_types.specs.Defaults.{HasDefault}
 use Rattle.yv_types.specs.Types.{IsDefault}
 use Rattle.yv_types.specs.Types.{IsReferring}

@@ -3,10 +3,10 @@
 use Rattle.std.specs.Prelude.{ℕ, false, List, [], ◌++◌, Option, Some, None, if◌then◌else◌, codes, map}
 use Rattle.std.specs.Option.{unwrap_or}
 use Rattle.std.specs.Str.{bytes_eq}
-use Rattle.yv_statement.specs.Tree.{Head, Tree, Forest, End, Then, trees, name_of}
-use Rattle.yv_statement.specs.declared.keyword.Keyword.{Keyword}
-use Rattle.yv_statement.specs.declared.keyword.Keyword.TheVariants as word
-use Rattle.yv_statement.specs.Keywords.{keyword_of}
+use Rattle.yv_text_statement.specs.Tree.{Head, Tree, Forest, End, Then, trees, name_of}
+use Rattle.yv_text_statement.specs.declared.keyword.Keyword.{Keyword}
+use Rattle.yv_text_statement.specs.declared.keyword.Keyword.TheVariants as word
+use Rattle.yv_text_statement.specs.Keywords.{keyword_of}
 use Rattle.yv_link_scopes.specs.Files.{Files}
 use Rattle.yv_expand.specs.declared.origin.Origin.{Origin}
 use Rattle.yv_expand.specs.declared.origin.Origin.TheVariants as origin
@@ -14,13 +14,13 @@ use Rattle.yv_values.specs.Types.{Plain}
 use Rattle.yv_node_paths.specs.Steps.{names_of, paths_of}
 use Rattle.yv_node_paths.specs.Referral.{pieces_of}
 use Rattle.yv_types.specs.declared.leafref_path.TypeLeafref.{TypeLeafref}
-use Rattle.yv_node_definition.specs.Steps.{Piece, Step}
-use Rattle.yv_node_definition.specs.Definition.{Definition, blank}
-use Rattle.yv_statement.specs.TextInFile.{TextInFile}
-use Rattle.yv_node_definition.specs.declared.kind.NodeKind.{NodeKind}
-use Rattle.yv_node_definition.specs.declared.kind.NodeKind.TheVariants as kind
-use Rattle.yv_node_definition.specs.declared.kind.NodeStatus.{NodeStatus}
-use Rattle.yv_node_definition.specs.declared.kind.NodeStatus.TheVariants.{Current, Deprecated, Obsolete}
+use Rattle.yv_node_content.specs.Steps.{Piece, Step}
+use Rattle.yv_node_content.specs.Definition.{Definition, blank}
+use Rattle.yv_text_statement.specs.TextInFile.{TextInFile}
+use Rattle.yv_node_content.specs.declared.kind.NodeKind.{NodeKind}
+use Rattle.yv_node_content.specs.declared.kind.NodeKind.TheVariants as kind
+use Rattle.yv_node_content.specs.declared.kind.NodeStatus.{NodeStatus}
+use Rattle.yv_node_content.specs.declared.kind.NodeStatus.TheVariants.{Current, Deprecated, Obsolete}
 use Rattle.yv_node_statements.specs.Kinds.{Kinds, TypeDefaults, TypeReferrals, TypeMeanings}
 use Rattle.yv_node_properties.specs.Statements.{argument_of, arguments_among, file_at, first_of, statement_at}
 use Rattle.yv_node_statements.specs.Features.{all_expressions, if_features, expressions, with_expressions}

@@ -2,9 +2,9 @@
 use Rattle.std.specs.Prelude.{ℕ, ◌==◌, Bool, false, not, ◌&&◌, ◌||◌, List, [], ◌∷◌, ◌++◌, map, if◌then◌else◌, encode_utf8_all}
 use Rattle.std.specs.List.{filter, join_with_byte}
 use Rattle.std.specs.Str.{chars}
-use Rattle.yv_statement.specs.Tree.{Tree, trees}
+use Rattle.yv_text_statement.specs.Tree.{Tree, trees}
 use Rattle.yv_text_if_feature.specs.Tokens.{is_empty}
-use Rattle.yv_statement.specs.declared.keyword.Keyword.TheVariants as word
+use Rattle.yv_text_statement.specs.declared.keyword.Keyword.TheVariants as word
 use Rattle.yv_link_scopes.specs.Files.{Files}
 use Rattle.yv_node_properties.specs.Statements.{arguments_among, statement_at}
 

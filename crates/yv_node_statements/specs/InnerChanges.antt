@@ -1,11 +1,11 @@
 -- Only private clauses cite this: definitions that are changed by one statement after the other.
 use Rattle.std.specs.Prelude.{ℕ, ◌||◌, List, [], ◌∷◌, filter, map}
 use Rattle.std.specs.Option.{option_or, unwrap_or}
-use Rattle.yv_statement.specs.Tree.{Tree}
-use Rattle.yv_statement.specs.declared.keyword.Keyword.TheVariants as word
+use Rattle.yv_text_statement.specs.Tree.{Tree}
+use Rattle.yv_text_statement.specs.declared.keyword.Keyword.TheVariants as word
 use Rattle.yv_link_scopes.specs.Files.{Files}
-use Rattle.yv_node_definition.specs.Definition.{Definition}
-use Rattle.yv_statement.specs.TextInFile.{TextInFile, or_list}
+use Rattle.yv_node_content.specs.Definition.{Definition}
+use Rattle.yv_text_statement.specs.TextInFile.{TextInFile, or_list}
 use Rattle.yv_node_properties.specs.Properties.{Properties, defaults_of, properties_of, substatements_of, written_in}
 use Rattle.yv_node_properties.specs.Statements.{file_at, is_of, statement_at}
 

@@ -1,9 +1,9 @@
 -- Only private clauses cite this: what the `key` and `unique` statements of a block name, and the
 -- path of its leafref.
 use Rattle.std.specs.Prelude.{◌≡◌, ℕ, map}
-use Rattle.yv_statement.specs.Tree.{Forest, trees}
+use Rattle.yv_text_statement.specs.Tree.{Forest, trees}
 use Rattle.yv_link_scopes.specs.Files.{Files}
-use Rattle.yv_node_definition.specs.Definition.{paths_in}
+use Rattle.yv_node_content.specs.Definition.{paths_in}
 use Rattle.yv_node_statements.specs.declared.keys.BlockPaths.{BlockPaths}
 use Rattle.yv_node_statements.specs.Definitions.{keys_in, path_in, uniques_in}
 

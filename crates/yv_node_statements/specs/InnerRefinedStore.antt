@@ -6,7 +6,7 @@ use Rattle.std.specs.BTreeMap.{BTreeMap, get_by}
 use Rattle.std.specs.declared.cmp.Ordering.{Ordering}
 use Rattle.yv_link_scopes.specs.Files.{Files}
 use Rattle.yv_expand.specs.declared.origin.Origin.{Origin}
-use Rattle.yv_node_definition.specs.Definition.{Definition}
+use Rattle.yv_node_content.specs.Definition.{Definition}
 use Rattle.yv_node_statements.specs.Kinds.{TypeMeanings}
 use Rattle.yv_node_statements.specs.Definitions.{refined_definition}
 use Rattle.yv_expand_refines.specs.Changes.{sequence_at}

@@ -1,10 +1,10 @@
 -- Only private clauses cite this: where refines change which defaults are said of a node.
 use Rattle.std.specs.Prelude.{ℕ, ◌==◌, Bool, true, false, not, ◌&&◌, ◌||◌, List, [], ◌∷◌, is_some, if◌then◌else◌}
 use Rattle.std.specs.List.{list_any}
-use Rattle.yv_statement.specs.declared.keyword.Keyword.TheVariants as word
+use Rattle.yv_text_statement.specs.declared.keyword.Keyword.TheVariants as word
 use Rattle.yv_link_scopes.specs.Files.{Files}
-use Rattle.yv_node_definition.specs.Definition.{Definition}
-use Rattle.yv_statement.specs.TextInFile.{TextInFile}
+use Rattle.yv_node_content.specs.Definition.{Definition}
+use Rattle.yv_text_statement.specs.TextInFile.{TextInFile}
 use Rattle.yv_node_properties.specs.Properties.{said_at}
 
 -- a numbered statement gives a default

@@ -8,8 +8,8 @@ use Rattle.std.specs.declared.rc.Rc.{Rc}
 use Rattle.yv_link_scopes.specs.Files.{Files}
 use Rattle.yv_values.specs.Types.{Plain}
 use Rattle.yv_values.specs.Values.{Val}
-use Rattle.yv_node_definition.specs.Definition.{Definition}
-use Rattle.yv_statement.specs.TextInFile.{TextInFile}
+use Rattle.yv_node_content.specs.Definition.{Definition}
+use Rattle.yv_text_statement.specs.TextInFile.{TextInFile}
 use Rattle.yv_types.specs.Types.{default_at, sharing_at}
 use Rattle.yv_types.specs.declared.type_table.Types.{Types}
 use Rattle.yv_types.specs.Scopes.{AreScopes}
@@ -17,7 +17,7 @@ use Rattle.yv_node_statements.specs.declared.reader.DefaultReader.{DefaultReader
 use Rattle.yv_node_statements.specs.InnerRefines.{are_none}
 use Rattle.yv_node_statements.specs.Kinds.{kinds_of}
 use Rattle.yv_node_statements.specs.Values.{values_of}
-use Rattle.yv_node_definition.specs.Kinds.{has_values}
+use Rattle.yv_node_content.specs.Kinds.{has_values}
 
 -- the values that this default of a type has by these plain types
 abbrev pub type_values : Files → List Plain → Option TextInFile → List Val

@@ -3,10 +3,10 @@ use Rattle.std.specs.Prelude.{◌≡◌, ℕ, Bool, List, Some, is_some, slice_g
 use Rattle.std.specs.List.{list_any}
 use Rattle.std.specs.declared.boxed.Box.{Box}
 use Rattle.std.specs.declared.alloc.Global.{Global}
-use Rattle.yv_statement.specs.Tree.{Forest}
-use Rattle.yv_statement.specs.declared.keyword.Keyword.TheVariants as word
+use Rattle.yv_text_statement.specs.Tree.{Forest}
+use Rattle.yv_text_statement.specs.declared.keyword.Keyword.TheVariants as word
 use Rattle.yv_link_scopes.specs.Files.{Files}
-use Rattle.yv_node_definition.specs.Definition.{Definition}
+use Rattle.yv_node_content.specs.Definition.{Definition}
 use Rattle.yv_node_statements.specs.declared.store.Store.{Store}
 use Rattle.yv_node_statements.specs.declared.store.Store.TheVariants.{Node, Refine}
 use Rattle.yv_node_statements.specs.Kinds.{TypeMeanings}

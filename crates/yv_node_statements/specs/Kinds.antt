@@ -2,7 +2,7 @@
 -- leafrefs (RFC 7950, sections 7.3.4, 7.4 and 9).
 use Rattle.std.specs.Prelude.{◌≡◌, ◌⊎◌, ℕ, List, [], Option, Some, None, codes}
 use Rattle.std.specs.Option.{unwrap_or}
-use Rattle.yv_statement.specs.Selection.{ModuleChoice}
+use Rattle.yv_text_statement.specs.Selection.{ModuleChoice}
 use Rattle.yv_link_scopes.specs.Files.{Files}
 use Rattle.yv_link_scopes.specs.RowList.{rows_of}
 use Rattle.yv_link_definitions.specs.References.{number_at}
@@ -11,7 +11,7 @@ use Rattle.yv_values.specs.Types.{Plain}
 use Rattle.yv_types.specs.Types.{IsDefault, IsReferring, default_at, referring_at, space_at}
 use Rattle.yv_types.specs.Spaces.{Space}
 use Rattle.yv_types.specs.declared.type_table.Types.{Types}
-use Rattle.yv_statement.specs.TextInFile.{TextInFile}
+use Rattle.yv_text_statement.specs.TextInFile.{TextInFile}
 use Rattle.yv_types.specs.declared.leafref_path.TypeLeafref.{TypeLeafref}
 
 -- the plain types of the `type` statement at an offset of a file

@@ -5,13 +5,13 @@ use Rattle.yv_link_scopes.specs.Files.{Files, brief_of}
 use Rattle.yv_values.specs.Scopes.{Place}
 use Rattle.yv_values.specs.Types.{Plain}
 use Rattle.yv_values.specs.Values.{Val}
-use Rattle.yv_node_definition.specs.Definition.{Definition, defaults_said}
-use Rattle.yv_statement.specs.TextInFile.{TextInFile}
-use Rattle.yv_node_definition.specs.declared.kind.NodeKind.{NodeKind}
-use Rattle.yv_node_definition.specs.declared.kind.NodeKind.TheVariants as kind
+use Rattle.yv_node_content.specs.Definition.{Definition, defaults_said}
+use Rattle.yv_text_statement.specs.TextInFile.{TextInFile}
+use Rattle.yv_node_content.specs.declared.kind.NodeKind.{NodeKind}
+use Rattle.yv_node_content.specs.declared.kind.NodeKind.TheVariants as kind
 use Rattle.yv_types.specs.Scopes.{place_at}
 use Rattle.yv_types.specs.Values.{first_value}
-use Rattle.yv_node_definition.specs.Kinds.{has_values}
+use Rattle.yv_node_content.specs.Kinds.{has_values}
 
 -- by which the texts of a file are read
 abbrev pub scope_of : Files → ℕ → Option Place

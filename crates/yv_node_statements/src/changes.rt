@@ -1,7 +1,7 @@
 //! The properties of nodes that refines may change.
 ghost use Rattle.std.specs.{Prelude.{◌≡◌, ℕ, [], ◌∷◌, ◌++◌, map, IfOk, OnOk}, Option.{option_map}, Rc.{rc_slice_items}};
-ghost use Rattle.yv_statement.specs.declared.keyword.Keyword.TheVariants as word;
-ghost use Rattle.yv_statement.specs.TextInFile.{written_of};
+ghost use Rattle.yv_text_statement.specs.declared.keyword.Keyword.TheVariants as word;
+ghost use Rattle.yv_text_statement.specs.TextInFile.{written_of};
 ghost use Rattle.yv_node_statements.specs.InnerChanges.{change_of, apply_change, defaults_among};
 ghost use Rattle.yv_node_properties.specs.Properties.{defaults_of, elements_of, substatements_of, written_in};
 
@@ -9,9 +9,9 @@ use crate::nothing::Nothing;
 use std::alloc::{AllocError, Global};
 use std::marker::Model;
 use std::rc::{RcSlice, RcStr};
-use yv_node_definition::DefinitionDraft;
+use yv_node_content::DefinitionDraft;
 use yv_node_properties::{StatedProperties, elements, first_of, is_of, name_of};
-use yv_statement::{Statement, WrittenText};
+use yv_text_statement::{Statement, WrittenText};
 use yv_text_grammar::Keyword;
 
 /// What a statement says of the properties of a node that a refine may change, each where the
@@ -27,7 +27,7 @@ pub(crate) struct Changes {
 
 impl Model for Changes {
     ghost use Rattle.std.specs.{Prelude.{map}, Rc.{rc_slice_items}};
-    ghost use Rattle.yv_statement.specs.TextInFile.{written_of};
+    ghost use Rattle.yv_text_statement.specs.TextInFile.{written_of};
     ghost use Rattle.yv_node_statements.specs.InnerChanges.{Change};
 
     ghost Value = { Change };

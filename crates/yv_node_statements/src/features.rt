@@ -1,11 +1,11 @@
 //! The texts of conditions.
 ghost use Rattle.std.specs.Prelude.{◌≡◌, ◌∷◌, [], ◌++◌, OnOk, IfOk, string_bytes};
-ghost use Rattle.yv_statement.specs.Tree.{trees};
+ghost use Rattle.yv_text_statement.specs.Tree.{trees};
 ghost use Rattle.yv_node_statements.specs.{Features.{expressions, is_blank, with_single_spaces, with_expressions}, InnerTexts.{with_comma}};
 
 use std::alloc::AllocError;
 use yv_node_properties::{is_of, name_of};
-use yv_statement::Statement;
+use yv_text_statement::Statement;
 use yv_text_grammar::Keyword;
 
 // A space, a tab, a CR or an LF.

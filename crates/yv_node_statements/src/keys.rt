@@ -1,18 +1,18 @@
 //! The paths in blocks: those of keys, of `unique` statements and of leafrefs.
 ghost use Rattle.std.specs.Prelude.{◌≡◌, ◌∷◌, [], ◌++◌, ℕ, map, IfOk, OnOk};
-ghost use Rattle.yv_statement.specs.Tree.{End, trees};
+ghost use Rattle.yv_text_statement.specs.Tree.{End, trees};
 ghost use Rattle.yv_link_scopes.specs.Files.{Files};
 ghost use Rattle.yv_node_paths.specs.LeafPaths.{AreLeafPaths};
-ghost use Rattle.yv_node_definition.specs.Definition.{paths_in};
+ghost use Rattle.yv_node_content.specs.Definition.{paths_in};
 ghost use Rattle.yv_node_statements.specs.{Definitions.{keys_in, path_in, path_of_type, uniques_in}, InnerNames.{AreNamed}};
 
 use crate::nothing::Nothing;
 use std::alloc::{AllocError, Global};
 use std::rc::Rc;
-use yv_node_definition::{Keys, PathPiece, PathStep};
+use yv_node_content::{Keys, PathPiece, PathStep};
 use yv_node_paths::LeafPaths;
 use yv_node_properties::{argument_of, first_of, is_of, name_of};
-use yv_statement::Statement;
+use yv_text_statement::Statement;
 use yv_text_grammar::Keyword;
 
 /// What the `key` and `unique` statements of a block name, and the path of the leafref that it has

@@ -4,8 +4,8 @@ ghost use Rattle.std.specs.{Prelude.{◌≡◌, [], IfOk, IfSome}, Rc.{rc_slice_
 use std::alloc::{AllocError, Global};
 use std::rc::{Rc, RcSlice, RcStr};
 use yv_link_definitions::BUILT_INS;
-use yv_node_definition::{Keys, PathPiece, PathStep};
-use yv_statement::WrittenText;
+use yv_node_content::{Keys, PathPiece, PathStep};
+use yv_text_statement::WrittenText;
 use yv_values::{Defaults, PlainType};
 
 /// Empty texts, types, keys, paths, defaults and values: a node that has nothing of a kind shares

@@ -1,12 +1,12 @@
 //! Reading what a statement says.
 ghost use Rattle.std.specs.{Prelude.{◌≡◌, map, IfOk}, Option.{option_copied, option_map}, Rc.{rc_slice_items, rc_str_bytes}};
-ghost use Rattle.yv_statement.specs.{Tree.{trees}, Keywords.{keyword_of}};
-ghost use Rattle.yv_statement.specs.declared.keyword.Keyword.TheVariants as word;
+ghost use Rattle.yv_text_statement.specs.{Tree.{trees}, Keywords.{keyword_of}};
+ghost use Rattle.yv_text_statement.specs.declared.keyword.Keyword.TheVariants as word;
 ghost use Rattle.yv_link_scopes.specs.Files.{Files};
 ghost use Rattle.yv_node_statements.specs.{InnerNames.{AreNamed}, Kinds.{kinds_of, typing_of}, Features.{if_features, expressions}, Definitions.{default_of_type, definition_of_tree, kind_of, node_kind, node_name, status_of, types_in, with_properties}};
 ghost use Rattle.yv_values.specs.Types.{plain_of};
-ghost use Rattle.yv_node_definition.specs.Definition.{blank};
-ghost use Rattle.yv_statement.specs.TextInFile.{written_of};
+ghost use Rattle.yv_node_content.specs.Definition.{blank};
+ghost use Rattle.yv_text_statement.specs.TextInFile.{written_of};
 ghost use Rattle.yv_types.specs.Types.{default_at};
 ghost use Rattle.yv_node_properties.specs.{Statements.{first_of}, Properties.{properties_of, substatements_of}};
 
@@ -16,9 +16,9 @@ use crate::keys::BlockPaths;
 use crate::nothing::Nothing;
 use std::alloc::{AllocError, Global};
 use std::rc::{RcSlice, RcStr};
-use yv_node_definition::{DefinitionDraft, NodeKind, NodeStatus};
+use yv_node_content::{DefinitionDraft, NodeKind, NodeStatus};
 use yv_node_properties::{argument_of, first_of, name_of};
-use yv_statement::{Statement, WrittenText};
+use yv_text_statement::{Statement, WrittenText};
 use yv_text_grammar::Keyword;
 use yv_types::Types;
 use yv_values::PlainType;

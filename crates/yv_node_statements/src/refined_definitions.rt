@@ -9,7 +9,7 @@ use std::alloc::{AllocError, Global};
 use std::collections::{BTreeMap, BTreeSet};
 use yv_expand::Origin;
 use yv_expand_refines::Changes;
-use yv_node_definition::Definition;
+use yv_node_content::Definition;
 use yv_values::Matchers;
 
 /// The definitions of items: what the statements of files say of their nodes, as refines change

@@ -1,12 +1,12 @@
 //! The statements of files by their numbers.
 ghost use Rattle.std.specs.{Prelude.{◌≡◌}, Option.{option_map, unwrap_or}};
 ghost use Rattle.yv_link_scopes.specs.Views.{lent_in};
-ghost use Rattle.yv_statement.specs.declared.keyword.Keyword.TheVariants as word;
+ghost use Rattle.yv_text_statement.specs.declared.keyword.Keyword.TheVariants as word;
 ghost use Rattle.yv_node_properties.specs.Statements.{file_at, first_of, no_statement, statement_at};
 
 use yv_link_scopes::Rows;
 use yv_node_properties::first_of;
-use yv_statement::Statement;
+use yv_text_statement::Statement;
 use yv_text_grammar::Keyword;
 
 /// The numbered statement.

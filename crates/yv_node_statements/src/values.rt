@@ -2,17 +2,17 @@
 ghost use Rattle.std.specs.{Prelude.{◌≡◌, ◌+◌, ◌≤◌, ◌++◌, map, length, IfOk, IfSome, OnOk}, Option.{option_copied}};
 ghost use Rattle.yv_link_scopes.specs.Files.{Files};
 ghost use Rattle.yv_values.specs.Types.{plain_of};
-ghost use Rattle.yv_node_definition.specs.Definition.{defaults_said};
-ghost use Rattle.yv_statement.specs.TextInFile.{written_of};
+ghost use Rattle.yv_node_content.specs.Definition.{defaults_said};
+ghost use Rattle.yv_text_statement.specs.TextInFile.{written_of};
 ghost use Rattle.yv_types.specs.Scopes.{AreScopes};
 ghost use Rattle.yv_node_statements.specs.{Values.{alone, defaults_of, value_of, values_of}, InnerSharedValues.{IsByType, has_type_default}};
-ghost use Rattle.yv_node_definition.specs.Kinds.{has_values};
+ghost use Rattle.yv_node_content.specs.Kinds.{has_values};
 
 use crate::nothing::Nothing;
 use std::alloc::{AllocError, Global};
 use std::rc::Rc;
-use yv_node_definition::{DefinitionDraft, NodeKind};
-use yv_statement::WrittenText;
+use yv_node_content::{DefinitionDraft, NodeKind};
+use yv_text_statement::WrittenText;
 use yv_types::default_value;
 use yv_values::{Defaults, Matchers, PlainType, Scope, Value};
 

@@ -3,7 +3,7 @@ use Rattle.std.proofs.Common.{◌≡◌, ℕ, ◌+◌, ◌<◌, ◌≤◌, List,
 use Rattle.std.proofs.lemmas.List.{get_or_append_left, get_or_at}
 use Rattle.std.proofs.lemmas.Option.{get_or_from_slice_get, slice_get-get_or, slice_get_within}
 use Rattle.yv_values.specs.Types.{Plain}
-use Rattle.yv_node_definition.specs.Definition.{Definition, with_types}
+use Rattle.yv_node_content.specs.Definition.{Definition, with_types}
 use Rattle.yv_nodes.specs.Rows.{Row, StandBehind, blank_row, rank}
 use Rattle.yv_nodes.specs.Alike.{without_types, untyped_at}
 use Rattle.yv_nodes.specs.InnerAlike.{AreFirsts, IsFirst}

@@ -1,4 +1,4 @@
-mod Retyping
+mod RowTypes
 pub mod Behind
-mod Keyed
+mod KeyNames
 mod Firsts

@@ -1,7 +1,7 @@
 -- What is kept of the nodes above one.
 use Rattle.std.specs.Prelude.{ℕ, Bool, Option, None, Some, List, [], ◌∷◌}
-use Rattle.yv_node_definition.specs.Definition.{Definition}
-use Rattle.yv_node_definition.specs.Steps.{Step}
+use Rattle.yv_node_content.specs.Definition.{Definition}
+use Rattle.yv_node_content.specs.Steps.{Step}
 use Rattle.yv_nodes.specs.Member.{data_module_file}
 use Rattle.yv_nodes.specs.Tree.{Label}
 use Rattle.yv_nodes.specs.Labels.{in_input, in_operation_or_notification, inherited_config}

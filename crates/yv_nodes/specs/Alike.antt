@@ -1,7 +1,7 @@
 -- Nodes of which the same is said, as copies of one statement's node.
 use Rattle.std.specs.Prelude.{ℕ, List, []}
 use Rattle.std.specs.List.{slice_index_or}
-use Rattle.yv_node_definition.specs.Definition.{Definition, with_types}
+use Rattle.yv_node_content.specs.Definition.{Definition, with_types}
 use Rattle.yv_nodes.specs.Rows.{Row, blank_row}
 
 -- what is said of the node of a number, but for its types, which may be those of another node

@@ -3,9 +3,9 @@ use Rattle.std.specs.Prelude.{◌==◌, ℕ, Bool, true, false, not, ◌&&◌, �
 use Rattle.std.specs.List.{list_any}
 use Rattle.std.specs.Option.{unwrap_or}
 use Rattle.std.specs.Str.{bytes_eq}
-use Rattle.yv_node_definition.specs.Steps.{Step}
-use Rattle.yv_node_definition.specs.Kinds.{is_input, is_leaf, is_operation_or_notification}
-use Rattle.yv_node_definition.specs.Definition.{Definition}
+use Rattle.yv_node_content.specs.Steps.{Step}
+use Rattle.yv_node_content.specs.Kinds.{is_input, is_leaf, is_operation_or_notification}
+use Rattle.yv_node_content.specs.Definition.{Definition}
 use Rattle.yv_nodes.specs.Member.{data_module_file, member_name}
 use Rattle.yv_nodes.specs.Tree.{Label}
 

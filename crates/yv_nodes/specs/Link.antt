@@ -1,8 +1,8 @@
 -- Where the paths of leafrefs lead (RFC 7950, section 9.9.2).
 use Rattle.std.specs.Prelude.{◌≡◌, ℕ, ◌+◌, ◌-◌, ◌==◌, ◌&&◌, ◌||◌, if◌then◌else◌, List, [], ◌∷◌, ◌⊎◌, Bool, false, Option, Some, None}
 use Rattle.std.specs.List.{slice_index_or}
-use Rattle.yv_node_definition.specs.declared.kind.NodeKind.{NodeKind}
-use Rattle.yv_node_definition.specs.declared.kind.NodeKind.TheVariants as kind
+use Rattle.yv_node_content.specs.declared.kind.NodeKind.{NodeKind}
+use Rattle.yv_node_content.specs.declared.kind.NodeKind.TheVariants as kind
 use Rattle.yv_nodes.specs.Tree.{count, node, Forest, no_trees, tree}
 
 -- the path of a leafref: how many `../` it begins with, or None where it is absolute; the numbers

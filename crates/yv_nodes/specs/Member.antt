@@ -1,7 +1,7 @@
 -- The row of a node, by what its statement says and how it is in the tree.
 use Rattle.std.specs.Prelude.{ℕ, ◌==◌, List, [], ◌∷◌, ◌++◌, Bool, true, false, Option, Some, None, if◌then◌else◌}
-use Rattle.yv_node_definition.specs.Kinds.{is_passed}
-use Rattle.yv_node_definition.specs.Definition.{Definition}
+use Rattle.yv_node_content.specs.Kinds.{is_passed}
+use Rattle.yv_node_content.specs.Definition.{Definition}
 use Rattle.yv_nodes.specs.declared.node.NodeId.{NodeId}
 use Rattle.yv_nodes.specs.declared.node.NodePlace.{NodePlace}
 use Rattle.yv_nodes.specs.Rows.{Row}

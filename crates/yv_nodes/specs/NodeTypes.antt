@@ -3,7 +3,7 @@
 use Rattle.std.specs.Prelude.{ℕ, ◌+◌, List, [], ◌∷◌}
 use Rattle.std.specs.List.{slice_index_or}
 use Rattle.yv_values.specs.Types.{Plain}
-use Rattle.yv_node_definition.specs.Definition.{with_types}
+use Rattle.yv_node_content.specs.Definition.{with_types}
 use Rattle.yv_nodes.specs.declared.node.NodeId.{NodeId}
 use Rattle.yv_nodes.specs.Rows.{Row, blank_row, root}
 use Rattle.yv_nodes.specs.Tree.{count, Forest, Label, no_trees, node, tree}

@@ -1,6 +1,6 @@
 -- A refusal at the statement that defines a node.
-use Rattle.yv_statement.specs.declared.refusal.Code.{Code}
-use Rattle.yv_statement.specs.declared.refusal.Refusal.{Refusal}
+use Rattle.yv_text_statement.specs.declared.refusal.Code.{Code}
+use Rattle.yv_text_statement.specs.declared.refusal.Refusal.{Refusal}
 use Rattle.yv_nodes.specs.Tree.{Label}
 
 -- a refusal at the statement of a node

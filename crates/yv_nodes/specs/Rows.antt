@@ -2,7 +2,7 @@
 use Rattle.std.specs.Prelude.{◌≡◌, ℕ, ◌+◌, ◌-◌, ◌<◌, ◌≤◌, ◌==◌, List, [], ◌∷◌, length, drop, Bool, false, Option, Some, if◌then◌else◌, slice_get}
 use Rattle.std.specs.List.{slice_index_or}
 use Rattle.yv_nodes.specs.declared.node.NodeId.{NodeId}
-use Rattle.yv_node_definition.specs.Definition.{blank as blank_defined}
+use Rattle.yv_node_content.specs.Definition.{blank as blank_defined}
 use Rattle.yv_nodes.specs.Link.{Link}
 use Rattle.yv_nodes.specs.Tree.{Label, Tree, node, Forest, no_trees, tree}
 

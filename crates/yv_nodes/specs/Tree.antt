@@ -1,6 +1,6 @@
 -- The schema as a tree (RFC 7950, section 7).
 use Rattle.std.specs.Prelude.{ℕ, ◌+◌, List, [], ◌∷◌, Bool}
-use Rattle.yv_node_definition.specs.Definition.{Definition}
+use Rattle.yv_node_content.specs.Definition.{Definition}
 
 -- what a schema node is: what its statement says of it, the number of the file of the module whose
 -- namespace it is in, that module's name, what a JSON member that writes it is called (RFC 7951,

@@ -1,13 +1,13 @@
 //! What is kept of the nodes above one.
 ghost use Rattle.std.specs.{Prelude.{◌≡◌, [], ◌∷◌, ◌==◌, ◌||◌, ◌&&◌, if◌then◌else◌, true, false, ℕ, List, None, IfOk}, Rc.{rc_str_bytes}};
-ghost use Rattle.yv_node_definition.specs.{Kinds.{is_input, is_leaf, is_operation_or_notification}, Steps.{has_step}};
+ghost use Rattle.yv_node_content.specs.{Kinds.{is_input, is_leaf, is_operation_or_notification}, Steps.{has_step}};
 ghost use Rattle.yv_nodes.specs.{declared.node.NodeId.{NodeId}, Tree.{Label}, Member.{data_module_file, is_module_file, row_with}, Labels.{has_key_called, in_input, is_configuration, label_of}, Above.{seen_of}};
 
 use crate::node::NodePlace;
 use std::alloc::AllocError;
 use std::marker::Model;
 use std::rc::RcStr;
-use yv_node_definition::{Definition, NodeKind};
+use yv_node_content::{Definition, NodeKind};
 
 /// What the nodes above a schema node make of it. Contracts see it as what is seen of these nodes.
 #[derive(Drop)]

@@ -4,8 +4,8 @@ ghost use Rattle.std.specs.{Prelude.{◌≡◌, ◌≤◌, ◌||◌, [], length,
 use std::alloc::{AllocError, Global};
 use std::marker::Model;
 use std::rc::{RcSlice, RcStr};
-use yv_node_definition::{Definition, NodeKind, NodeStatus, PathPiece, PathStep};
-use yv_statement::{Code, Refusal, WrittenText};
+use yv_node_content::{Definition, NodeKind, NodeStatus, PathPiece, PathStep};
+use yv_text_statement::{Code, Refusal, WrittenText};
 use yv_values::{Defaults, PlainType, Value};
 
 /// The number of a schema node; the root, above the nodes at the top, has the last number of 32
@@ -57,8 +57,8 @@ impl Model for Node {
 
 impl Node {
     ghost use Rattle.yv_values.specs.{Types.{plain_of}, Same.{has_same}};
-    ghost use Rattle.yv_node_definition.specs.Definition.{defaults_said, is_empty, own_default, paths_in};
-    ghost use Rattle.yv_statement.specs.TextInFile.{written_of};
+    ghost use Rattle.yv_node_content.specs.Definition.{defaults_said, is_empty, own_default, paths_in};
+    ghost use Rattle.yv_text_statement.specs.TextInFile.{written_of};
     ghost use Rattle.yv_nodes.specs.{Defaults.{defaults_of, width}, Refusals.{refusal_of}, Member.{behind, row_with}, NodeTypes.{typed_row}};
 
     /// The node that a statement defines, in the namespace of the module of this name, the number

@@ -2,7 +2,7 @@
 use std::alloc::{AllocError, Global};
 use yv_link_scopes::{NameKind, NamePlaces, Rows, first_places, local};
 use yv_note_statements::{Message, Site, Sites, StatementEntry, say_ring, words_of};
-use yv_statement::Code;
+use yv_text_statement::Code;
 
 // The statements of a keyword in their order, also by the block that they are in, and for each
 // statement of the files the number of the last one in it.

@@ -9,7 +9,7 @@ use yv_note_statements::{
     words_of,
 };
 use yv_note_text::Likeness;
-use yv_statement::Code;
+use yv_text_statement::Code;
 
 // What other languages call a type, and what YANG calls it.
 static OTHER_NAMES: &[(&str, &str)] = &[

@@ -6,7 +6,7 @@ use yv_note_statements::{
     Guess, Message, Site, Sites, StatementEntry, declaration, first_in_file, named_in_file,
     say_guess, words_of,
 };
-use yv_statement::Code;
+use yv_text_statement::Code;
 
 // The file whose name is most like one that was written.
 fn nearest_file<'a>(entries: &[StatementEntry<'a>], written: &str) -> Option<Guess<'a>> {

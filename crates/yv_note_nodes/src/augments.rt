@@ -6,7 +6,7 @@ use crate::unprefixed_paths::say_prefixed;
 use std::alloc::AllocError;
 use yv_link_scopes::local;
 use yv_note_statements::{Message, Site, is_among};
-use yv_statement::Code;
+use yv_text_statement::Code;
 
 // The grouping of a `uses` in whose block a statement is, or the root of the module where its path
 // begins.

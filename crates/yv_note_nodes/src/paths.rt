@@ -5,7 +5,7 @@ use crate::tree::Tree;
 use crate::unprefixed_paths::say_prefixed;
 use std::alloc::{AllocError, Global};
 use yv_note_statements::{Message, Site, chain, say_ring};
-use yv_statement::Code;
+use yv_text_statement::Code;
 
 // The `path` of a leafref, with the typedefs through which it is one.
 fn path_of<'s, 'a>(alloc: Global, leaf: &Site<'s, 'a>) -> Result<Option<Site<'s, 'a>>, AllocError> {

@@ -4,7 +4,7 @@ use crate::nodes::{DATA_NODES, Way};
 use crate::tree::Tree;
 use std::alloc::{AllocError, Global};
 use yv_note_statements::{Message, Site, Sites, is_among};
-use yv_statement::Code;
+use yv_text_statement::Code;
 
 /// Adds which node above a node of configuration is state.
 pub fn tell_config<'a>(telling: &mut Message<'a>, site: &Site<'_, 'a>) {

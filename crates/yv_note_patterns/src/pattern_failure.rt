@@ -1,7 +1,7 @@
 //! What helps a person to fix a pattern that the library of regular expressions doesn't build.
 ghost use Rattle.std.specs.Prelude.{◌≡◌, length, map, min, string_bytes, IfOk, IfNone, IfSome};
 ghost use Rattle.yv_link_scopes.specs.{Rows.{row}, Views.{lent_in, rows_in}};
-ghost use Rattle.yv_streams.specs.Files.{file_of};
+ghost use Rattle.yv_base_streams.specs.Files.{file_of};
 ghost use Rattle.yv_note_text.specs.Excerpt.{ShowsPlace};
 ghost use Rattle.yv_note_patterns.specs.PatternFailure.{AreNoPatterns, HasNoPattern, IsPatternAmong, TellsAmong, TellsOf, TellsPattern, unbuilt_line};
 
@@ -10,8 +10,8 @@ use std::alloc::{AllocError, Global};
 use yv_link_scopes::{Entry, Rows, name_of};
 use yv_note_text::{excerpt, push_quoted, push_shown};
 use yv_source::Texts;
-use yv_statement::{Statement, Stop};
-use yv_streams::Input;
+use yv_text_statement::{Statement, Stop};
+use yv_base_streams::Input;
 
 const REASON: &str =
     " is too large for the library of regular expressions, or takes more room than is left: all patterns of the files together have 256 MiB.\n";

@@ -2,7 +2,7 @@
 use crate::pattern_flaw::flaw_of;
 use std::alloc::{AllocError, Global};
 use yv_note_statements::Message;
-use yv_statement::Code;
+use yv_text_statement::Code;
 
 /// Adds what of a pattern is not supported, at which character, and what to write.
 pub fn tell_pattern<'a>(telling: &mut Message<'a>, text: &'a str) -> Result<(), AllocError> {

@@ -1,13 +1,13 @@
 //! Patterns that the library of regular expressions doesn't build.
 ghost use Rattle.std.specs.{Prelude.{◌≡◌, true, false, IfOk, IfNone, IfSome, codes}, Str.{bytes_eq}};
-ghost use Rattle.yv_statement.specs.Tree.{name_of as name_at};
+ghost use Rattle.yv_text_statement.specs.Tree.{name_of as name_at};
 ghost use Rattle.yv_link_scopes.specs.{Rows.{row}, Views.{rows_in}};
 ghost use Rattle.yv_note_patterns.specs.PatternFailure.{AreNoPatterns, IsOfDialect, IsPatternAmong};
 
 use std::alloc::{AllocError, Global};
 use yv_link_scopes::{Entry, Rows, name_of};
 use yv_pattern::Patterns;
-use yv_statement::{Keyword, Statement, Stop};
+use yv_text_statement::{Keyword, Statement, Stop};
 
 // Whether a text is a pattern of the dialect that isn't built in the room that is left.
 fn is_unbuilt_text(alloc: Global, patterns: &mut Patterns, text: &str) -> Result<bool, AllocError>

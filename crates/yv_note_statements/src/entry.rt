@@ -1,7 +1,7 @@
 //! The statements of the files as one list, with what their arguments mean.
 use std::alloc::{AllocError, Global};
 use yv_link_scopes::{NameKind, NamePlaces, Rows, first_places, local, name_of};
-use yv_statement::Statement;
+use yv_text_statement::Statement;
 
 /// A statement of the files.
 #[derive(Clone, Copy)]

@@ -1,5 +1,5 @@
 //! What each refusal means, in one sentence.
-use yv_statement::Code;
+use yv_text_statement::Code;
 
 /// A sentence: the words before and after the word that a refusal is about.
 #[derive(Clone, Copy)]

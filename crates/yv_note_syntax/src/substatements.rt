@@ -1,6 +1,6 @@
 //! Statements that are misplaced, duplicate, missing or misspelt.
 use yv_note_statements::{Guess, Message, Site, Sites, is_among, nearest_word, say_guess};
-use yv_statement::Code;
+use yv_text_statement::Code;
 
 const FILES: &str = "module submodule";
 

@@ -6,8 +6,8 @@ use crate::syntax::tell_syntax;
 use crate::tokens::{tell_escape, tell_token};
 use std::alloc::{AllocError, Global};
 use yv_note_statements::{Message, push_plain};
-use yv_statement::{Code, Refusal};
-use yv_streams::Input;
+use yv_text_statement::{Code, Refusal};
+use yv_base_streams::Input;
 
 // The character at the front of a text that is UTF-8 there.
 fn character_of(rest: &[u8]) -> Option<char> {

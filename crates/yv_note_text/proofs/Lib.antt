@@ -1,3 +1,3 @@
 pub mod Alike
 pub mod CodePoints
-pub mod Quoting
+pub mod QuotedWords

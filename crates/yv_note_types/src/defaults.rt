@@ -4,7 +4,7 @@ use crate::unread_texts::first_unread;
 use crate::values::say_values;
 use std::alloc::{AllocError, Global};
 use yv_note_statements::{Message, Site, Sites, chain, last_step, state_above};
-use yv_statement::Code;
+use yv_text_statement::Code;
 
 /// How many defaults a leaf-list has at most.
 const MOST_DEFAULTS: usize = 1024;

@@ -1,7 +1,7 @@
 //! What types need and what they can't have.
 use std::alloc::{AllocError, Global};
 use yv_note_statements::{Message, Site, chain, is_among};
-use yv_statement::Code;
+use yv_text_statement::Code;
 
 // Built-in types, the substatements that they can have as far as these restrict values, and the one
 // that a use of them needs.

@@ -6,7 +6,7 @@ use serde_json::{Number, Value};
 use std::alloc::{AllocError, Global};
 use yv_nodes::Node;
 use yv_note_text::push_quoted;
-use yv_statement::is_legal_text;
+use yv_text_statement::is_legal_text;
 use yv_values::{DecimalType, Integer, Intervals, PlainType, TextType, WholeType};
 
 /// A value, if there is one; of a text also the number of its characters, and whether YANG allows

@@ -11,7 +11,7 @@ use Rattle.std.proofs.lemmas.Bool.{eqb-true}
 use Rattle.yv_pattern.specs.Classes.{IsSign, plain, hyphen, escape, IsItem, single, range, digit, space, word, category}
 use Rattle.yv_pattern.specs.InnerClasses.{part_of_size, sign, category_part, closes, is_range, sign_at, character_or_range, item_from, item_at}
 use Rattle.yv_pattern.specs.InnerParts.{place_after, after_item, translation}
-use Rattle.yv_pattern.proofs.Finding.{both, finds}
+use Rattle.yv_pattern.proofs.FirstOccurrences.{both, finds}
 use Rattle.yv_pattern.proofs.Tests.{or_false, escapes_complete, true_not_false}
 
 pub sign_complete : (b first : Bool) (cs : List ℕ) (c : ℕ) (rest : List ℕ) → IsSign b cs c → (b ≡ true → (first || closes rest) ≡ true) → sign_at first (cs ++ rest) ≡ Some (sign (length cs) c)

@@ -8,7 +8,7 @@ use Rattle.yv_pattern.specs.declared.place.Place.TheVariants.{Outside, First, In
 use Rattle.yv_pattern.specs.InnerParts.{part_at, place_after}
 use Rattle.yv_pattern.specs.InnerItems.{ReadsAs, nothing, more, Item, item_of}
 use Rattle.yv_pattern.specs.Spells.{anchor, Translates}
-use Rattle.yv_pattern.proofs.Spelled.{is_read}
+use Rattle.yv_pattern.proofs.PartCompleteness.{is_read}
 
 nothing_at : (p : Place) → part_at p [] ≡ None
 nothing_at Outside = refl

@@ -1,13 +1,13 @@
 //! A pattern that texts are held against.
 ghost use Rattle.std.specs.{Prelude.{◌≡◌, ◌≢◌, ℕ, List, IfOk, IfErr, MatchOption, string_bytes}, Str.{chars}};
-ghost use Rattle.yv_statement.specs.declared.refusal.Stop.TheVariants.{NoMemory};
+ghost use Rattle.yv_text_statement.specs.declared.refusal.Stop.TheVariants.{NoMemory};
 ghost use Rattle.yv_pattern.specs.{Meaning.{verdict}, Spells.{Translates, IsRefusedAs, anchor, bad_pattern}};
 
 use crate::reader::translate;
 use regex::{Error, Regex, RegexBuilder};
 use std::alloc::{AllocError, Global};
 use std::marker::Model;
-use yv_statement::{Code, Refusal, Stop};
+use yv_text_statement::{Code, Refusal, Stop};
 
 /// A pattern that texts are held against. Contracts see it as the bytes of its translation, which
 /// is what `regex` was given.

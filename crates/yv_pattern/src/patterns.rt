@@ -9,7 +9,7 @@ use std::alloc::{AllocError, Global};
 use std::collections::BTreeMap;
 use std::marker::Model;
 use std::rc::Rc;
-use yv_statement::{Refusal, Stop};
+use yv_text_statement::{Refusal, Stop};
 
 // How many bytes of tables `regex` may build for the patterns of one compilation, all together.
 const ROOM: usize = 268_435_456;

@@ -1,12 +1,12 @@
 -- What files come to, from what the layers answer.
 use Rattle.std.proofs.Common.{◌≡◌, ◌∙◌, ℕ, List, Result, Ok, Err, IfOk, OnOk, subst, sym, ap, ap₂, None}
 use Rattle.std.specs.List.{AllZip}
-use Rattle.yv_statement.specs.Tree.{Tree}
-use Rattle.yv_statement.specs.Order.{IsLeast}
-use Rattle.yv_statement.specs.declared.refusal.Refusal.{Refusal}
-use Rattle.yv_statement.specs.declared.refusal.Stop.{Stop}
-use Rattle.yv_statement.specs.declared.refusal.Stop.TheVariants.{Fault}
-use Rattle.yv_statement.specs.Selection.{ModuleChoice}
+use Rattle.yv_text_statement.specs.Tree.{Tree}
+use Rattle.yv_text_statement.specs.Order.{IsLeast}
+use Rattle.yv_text_statement.specs.declared.refusal.Refusal.{Refusal}
+use Rattle.yv_text_statement.specs.declared.refusal.Stop.{Stop}
+use Rattle.yv_text_statement.specs.declared.refusal.Stop.TheVariants.{Fault}
+use Rattle.yv_text_statement.specs.Selection.{ModuleChoice}
 use Rattle.yv_nodes.specs.Rows.{Module, Row, Rows, whole}
 use Rattle.yv_nodes.specs.Numbers.{rows_of}
 use Rattle.yv_nodes.specs.declared.node.NodeId.{NodeId}
@@ -15,7 +15,7 @@ use Rattle.yv_schema_build.specs.Module.{modules_of}
 use Rattle.yv_schema.specs.Refuses.{Refuses}
 use Rattle.yv_schema.specs.Notes.{AreNotes}
 use Rattle.yv_schema.specs.Schema.{AreReferences, IsSchema}
-use Rattle.yv_streams.specs.Files.{File}
+use Rattle.yv_base_streams.specs.Files.{File}
 use Rattle.yv_source.specs.FileStatements.{IsRead, IsUnreadAt}
 use Rattle.yv_run.specs.Compiles.{HasSchema, RefusedAt, FilesCompile, IsGiven, bad_syntax, gives_schema}
 

@@ -2,12 +2,12 @@
 use Rattle.std.proofs.Common.{◌≡◌, ℕ, zero, suc, ◌<◌, List, [], ◌∷◌, take, Option, Some, None, sym, ◌∙◌, ap, ap₂, subst, refl, arith, inl, inr}
 use Rattle.std.specs.List.{AllZip, slice_get}
 use Rattle.std.proofs.lemmas.Bool.{cases_lt}
-use Rattle.yv_statement.specs.Tree.{Tree}
-use Rattle.yv_statement.specs.Order.{IsUpTo, IsLeast}
-use Rattle.yv_statement.specs.declared.refusal.Refusal.{Refusal}
+use Rattle.yv_text_statement.specs.Tree.{Tree}
+use Rattle.yv_text_statement.specs.Order.{IsUpTo, IsLeast}
+use Rattle.yv_text_statement.specs.declared.refusal.Refusal.{Refusal}
 use Rattle.yv_source.specs.Answer.{IsBadFile, IsSpelled, IsRefused}
 use Rattle.yv_source.specs.Legal.{IsLegalFile}
-use Rattle.yv_statement.specs.Selection.{ModuleChoice}
+use Rattle.yv_text_statement.specs.Selection.{ModuleChoice}
 use Rattle.yv_schema.specs.Refuses.{Refuses}
 use Rattle.yv_schema_build.specs.Module.{modules_of}
 use Rattle.yv_schema.specs.Notes.{AreNotes}
@@ -19,7 +19,7 @@ use Rattle.yv_nodes.specs.Numbers.{rows_of}
 use Rattle.yv_job.specs.Jobs.{Task}
 use Rattle.yv_source.specs.FileStatements.{IsRead, IsUnread, in_file}
 use Rattle.yv_run.specs.Compiles.{Compilation, RefusedAt, HasSchema, FilesCompile, IsGiven, bad_syntax, refuses, gives_schema}
-use Rattle.yv_streams.specs.Files.{File}
+use Rattle.yv_base_streams.specs.Files.{File}
 use Rattle.yv_run.specs.Output.{Page, IsOutput, compiled_printed}
 
 -- what stands at a place of the first list has its like in the second

@@ -8,8 +8,8 @@ use Rattle.std.specs.Str.{bytes_eq}
 use Rattle.std.proofs.lemmas.Bool.{false≢true}
 use Rattle.std.proofs.lemmas.Option.{same_Some, slice_get-map}
 use Rattle.std.proofs.lemmas.Slice.Eq.{bytes_eq-Decides}
-use Rattle.yv_statement.specs.Tree.{Head, Tree, Forest, Then, End, trees, name_of}
-use Rattle.yv_statement.specs.declared.refusal.Refusal.{Refusal}
+use Rattle.yv_text_statement.specs.Tree.{Head, Tree, Forest, Then, End, trees, name_of}
+use Rattle.yv_text_statement.specs.declared.refusal.Refusal.{Refusal}
 use Rattle.yv_source.specs.Answer.{IsBadFile, IsSpelled, IsRefused}
 use Rattle.yv_source.specs.Legal.{IsLegalFile}
 use Rattle.yv_source.specs.FileStatements.{IsRead, IsUnread}
@@ -18,8 +18,8 @@ use Rattle.yv_link_scopes.specs.RowList.{rows_of, statements_in, inner_statement
 use Rattle.yv_link_scopes.specs.Rows.{Row, is_extended}
 use Rattle.yv_pattern.specs.Spells.{Translates}
 use Rattle.yv_type_restrictions.specs.Types.{HasTypePattern}
-use Rattle.yv_streams.specs.Files.{File}
-use Rattle.yv_statement.specs.Selection.{ModuleChoice}
+use Rattle.yv_base_streams.specs.Files.{File}
+use Rattle.yv_text_statement.specs.Selection.{ModuleChoice}
 use Rattle.yv_note_patterns.specs.PatternFailure.{AreNoPatterns, HasNoPattern, IsPatternAmong, TellsPattern, read, unread}
 use Rattle.yv_run.specs.Compiles.{HavePattern}
 use Rattle.yv_run.specs.Notes.{NotesPattern}

@@ -4,13 +4,13 @@ use Rattle.std.specs.declared.option.Option.{Option}
 use Rattle.std.specs.declared.option.Option.TheVariants.{None, Some}
 use Rattle.std.specs.Option.{option_map}
 use Rattle.std.proofs.KnownBytes.{Consumes-nil}
-use Rattle.yv_statement.specs.declared.refusal.Refusal.{Refusal}
+use Rattle.yv_text_statement.specs.declared.refusal.Refusal.{Refusal}
 use Rattle.yv_job.specs.Jobs.{CommandAsked, Compiles, Draws, Checks, Task}
-use Rattle.yv_statement.specs.declared.document_kind.Kind.{Kind}
+use Rattle.yv_text_statement.specs.declared.document_kind.Kind.{Kind}
 use Rattle.yv_nodes.specs.Rows.{Rows, whole}
-use Rattle.yv_faults.specs.Flaw.{Flaw}
-use Rattle.yv_streams.specs.Files.{File}
-use Rattle.yv_streams.specs.Stream.{TakesAtMost}
+use Rattle.yv_data_faults.specs.Flaw.{Flaw}
+use Rattle.yv_base_streams.specs.Files.{File}
+use Rattle.yv_base_streams.specs.Stream.{TakesAtMost}
 use Rattle.yv_run.specs.Compiles.{FilesCompile, RefusedAt, HasSchema}
 use Rattle.yv_run.specs.Document.{DocumentText, document_text}
 use Rattle.yv_run.specs.Output.{Gives, IsStopped, Page, ReadsData, count_printed, diagram_printed, refusal_printed}

@@ -1,10 +1,10 @@
 -- What the files of a run come to, in the words of the layers below.
 use Rattle.std.specs.Prelude.{◌≡◌, ℕ, List, take, Some, None, slice_get}
 use Rattle.std.specs.List.{AllZip}
-use Rattle.yv_statement.specs.Tree.{Tree}
-use Rattle.yv_statement.specs.Order.{IsLeast}
-use Rattle.yv_statement.specs.declared.refusal.Refusal.{Refusal}
-use Rattle.yv_statement.specs.Selection.{ModuleChoice}
+use Rattle.yv_text_statement.specs.Tree.{Tree}
+use Rattle.yv_text_statement.specs.Order.{IsLeast}
+use Rattle.yv_text_statement.specs.declared.refusal.Refusal.{Refusal}
+use Rattle.yv_text_statement.specs.Selection.{ModuleChoice}
 use Rattle.yv_type_restrictions.specs.Types.{HasTypePattern}
 use Rattle.yv_nodes.specs.Rows.{Rows, whole}
 use Rattle.yv_nodes.specs.Numbers.{rows_of}
@@ -12,7 +12,7 @@ use Rattle.yv_schema_build.specs.Module.{modules_of}
 use Rattle.yv_schema.specs.Notes.{AreNotes}
 use Rattle.yv_schema.specs.Schema.{AreReferences, IsSchema}
 use Rattle.yv_schema.specs.Refuses.{Refuses, RefusesBeforeTypes}
-use Rattle.yv_streams.specs.Files.{File}
+use Rattle.yv_base_streams.specs.Files.{File}
 use Rattle.yv_source.specs.FileStatements.{IsRead, IsUnread, in_file}
 
 -- files are refused, or give a schema

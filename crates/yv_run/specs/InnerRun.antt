@@ -5,7 +5,7 @@ use Rattle.std.specs.declared.option.Option.{Option}
 use Rattle.std.specs.Io.KnownBytes.{Consumes}
 use Rattle.yv_nodes.specs.Rows.{Rows}
 use Rattle.yv_job.specs.Jobs.{CommandAsked}
-use Rattle.yv_statement.specs.declared.document_kind.Kind.{Kind}
+use Rattle.yv_text_statement.specs.declared.document_kind.Kind.{Kind}
 use Rattle.yv_run.specs.Output.{Gives, data_printed, schema_printed}
 use Rattle.yv_run.specs.PersonNotes.{NotesData}
 use Rattle.yv_run.specs.Notes.{NotesSchema}

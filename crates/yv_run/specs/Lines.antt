@@ -1,7 +1,7 @@
 -- The lines of faults, and how many they are.
 use Rattle.std.specs.Prelude.{ℕ, List, [], ◌∷◌, ◌++◌, codes, decimal, flat_map, length}
-use Rattle.yv_faults.specs.Line.{line_text}
-use Rattle.yv_faults.specs.Flaw.{Flaw}
+use Rattle.yv_data_faults.specs.Line.{line_text}
+use Rattle.yv_data_faults.specs.Flaw.{Flaw}
 
 -- a line ends by a line feed
 abbrev pub ended_line : List ℕ → List ℕ

@@ -3,12 +3,12 @@ use Rattle.std.specs.Prelude.{◌≡◌, ℕ, List, slice_get, IfOk, IsSomeAnd, 
 use Rattle.std.specs.Option.{option_map}
 use Rattle.std.specs.declared.option.Option.{Option}
 use Rattle.std.specs.declared.option.Option.TheVariants.{None}
-use Rattle.yv_statement.specs.declared.refusal.Refusal.{Refusal}
+use Rattle.yv_text_statement.specs.declared.refusal.Refusal.{Refusal}
 use Rattle.yv_nodes.specs.Rows.{Rows}
 use Rattle.yv_job.specs.Jobs.{CommandAsked, Compiles, Draws, Checks, Task}
-use Rattle.yv_statement.specs.declared.document_kind.Kind.{Kind}
-use Rattle.yv_streams.specs.Files.{File}
-use Rattle.yv_refusal_notes.specs.Explanations.{Explains, Speaks, bytes_at}
+use Rattle.yv_text_statement.specs.declared.document_kind.Kind.{Kind}
+use Rattle.yv_base_streams.specs.Files.{File}
+use Rattle.yv_note_refusals.specs.Explanations.{Explains, Speaks, bytes_at}
 use Rattle.yv_note_patterns.specs.PatternFailure.{TellsPattern}
 use Rattle.yv_run.specs.Compiles.{Compilation, HasSchema, RefusedAt}
 use Rattle.yv_run.specs.PersonNotes.{NotesData, NotesDiagram}

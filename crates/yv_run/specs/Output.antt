@@ -3,19 +3,19 @@ use Rattle.std.specs.Prelude.{◌≡◌, ℕ, List, [], ◌∷◌, ◌++◌, tak
 use Rattle.std.specs.declared.option.Option.{Option}
 use Rattle.std.specs.declared.option.Option.TheVariants.{Some, None}
 use Rattle.std.specs.Fmt.{decimal}
-use Rattle.yv_statement.specs.Codes.{name_of}
-use Rattle.yv_statement.specs.declared.refusal.Refusal.{Refusal}
+use Rattle.yv_text_statement.specs.Codes.{name_of}
+use Rattle.yv_text_statement.specs.declared.refusal.Refusal.{Refusal}
 use Rattle.yv_nodes.specs.Tree.{Forest, count as node_count}
 use Rattle.yv_nodes.specs.Rows.{Rows, whole}
-use Rattle.yv_statement.specs.declared.document_kind.Kind.{Kind}
+use Rattle.yv_text_statement.specs.declared.document_kind.Kind.{Kind}
 use Rattle.yv_tree.specs.Diagram.{diagram_of}
 use Rattle.yv_job.specs.Jobs.{CommandAsked, Compiles, Draws, Checks, Task}
-use Rattle.yv_faults.specs.Flaw.{Flaw}
+use Rattle.yv_data_faults.specs.Flaw.{Flaw}
 use Rattle.yv_validate.specs.Faults.{faults}
 use Rattle.yv_run.specs.Lines.{ended_line, faults_text}
 use Rattle.yv_run.specs.Compiles.{Compilation, RefusedAt, HasSchema, FilesCompile, GiveSchema}
 use Rattle.yv_run.specs.Document.{DocumentText, TooLarge, NotJson, Reads, document_text}
-use Rattle.yv_streams.specs.Files.{File}
+use Rattle.yv_base_streams.specs.Files.{File}
 use Rattle.yv_run.specs.declared.print.Body.{Body}
 use Rattle.yv_run.specs.declared.print.Body.TheVariants.{Text, Diagram, Faults}
 use Rattle.yv_run.specs.declared.print.Output.{Output}

@@ -3,10 +3,10 @@ use Rattle.std.specs.Prelude.{◌≡◌, ℕ, List, [], ◌∷◌, IsSome, IsSom
 use Rattle.std.specs.declared.option.Option.{Option}
 use Rattle.std.specs.declared.option.Option.TheVariants.{Some, None}
 use Rattle.yv_nodes.specs.Rows.{Rows}
-use Rattle.yv_statement.specs.declared.document_kind.Kind.{Kind}
-use Rattle.yv_faults.specs.Flaw.{Flaw}
+use Rattle.yv_text_statement.specs.declared.document_kind.Kind.{Kind}
+use Rattle.yv_data_faults.specs.Flaw.{Flaw}
 use Rattle.yv_validate.specs.Faults.{faults}
-use Rattle.yv_fault_notes.specs.Sentences.{Tells}
+use Rattle.yv_note_faults.specs.Sentences.{Tells}
 use Rattle.yv_note_json.specs.Document.{SaysWhy, TellsLarge}
 use Rattle.yv_tree.specs.Diagram.{diagram_of}
 use Rattle.yv_run.specs.Document.{DocumentText, TooLarge, NotJson, Reads, document_text}

@@ -8,7 +8,7 @@ use Rattle.yv_run.specs.Output.{Gives, Page, compiled_printed}
 use Rattle.yv_run.specs.Status.{status_of}
 use Rattle.yv_run.specs.declared.status.Status.{Status}
 use Rattle.yv_run.specs.declared.status.Status.TheVariants as ended
-use Rattle.yv_streams.specs.Files.{File}
+use Rattle.yv_base_streams.specs.Files.{File}
 
 -- the most bytes that are read of a document: one more than it may have
 abbrev pub most_read : ℕ

@@ -3,7 +3,7 @@
 ghost use Rattle.std.specs.Prelude.{◌≡◌, ◌↔◌, ◌⊎◌, true, map, IfErr, IfOk, IsErrOf, IsSomeAnd, OnErr, None, option_map, string_bytes};
 ghost use Rattle.yv_job.specs.Jobs.{asked_of};
 ghost use Rattle.yv_nodes.specs.Rows.{whole};
-ghost use Rattle.yv_streams.specs.{Stream.{stream_inner, has_failed, IsFresh, FailsOnceAtMost, TakesAtMost}, Files.{file_of}};
+ghost use Rattle.yv_base_streams.specs.{Stream.{stream_inner, has_failed, IsFresh, FailsOnceAtMost, TakesAtMost}, Files.{file_of}};
 ghost use Rattle.yv_run.specs.{Output.{ReadsData, IsStopped, count_printed, data_printed, diagram_printed, refusal_printed}, PersonNotes.{NotesData, NotesDiagram}, declared.status.Status.{Status}, InnerRun.{HasNote, RunsData, RunsSchema}, Notes.{TellsRefusal}, Runs.{Writes, most_read}};
 
 use crate::notes::diagram_note;
@@ -13,10 +13,10 @@ use crate::whole_run::{Halt, Holdings, RunEnd};
 use std::alloc::{AllocError, Global};
 use std::io::{Read, Write};
 use yv_job::{Command, Job};
-use yv_refusal_notes::{Bounds, explanation};
+use yv_note_refusals::{Bounds, explanation};
 use yv_schema::Schema;
-use yv_statement::{Kind, Refusal};
-use yv_streams::{Counted, Input, InputFault, read_up_to};
+use yv_text_statement::{Kind, Refusal};
+use yv_base_streams::{Counted, Input, InputFault, read_up_to};
 
 /// What is read of a document: one byte more than it may have, so that its being too large shows.
 const DATA_BYTES: usize = 16_777_217;

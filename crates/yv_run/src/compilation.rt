@@ -1,14 +1,14 @@
 //! The schema of files, through the layers below.
 ghost use Rattle.std.specs.Prelude.{◌≡◌, map, IfOk, Err};
-ghost use Rattle.yv_statement.specs.{declared.refusal.Refusal.{Refusal as TheRefusal}, declared.refusal.Stop.TheVariants.{Fault, PatternBuild}, Selection.{selected_of}};
+ghost use Rattle.yv_text_statement.specs.{declared.refusal.Refusal.{Refusal as TheRefusal}, declared.refusal.Stop.TheVariants.{Fault, PatternBuild}, Selection.{selected_of}};
 ghost use Rattle.yv_run.specs.Compiles.{FilesCompile, RefusedAt, HasSchema, HavePattern};
-ghost use Rattle.yv_streams.specs.Files.{file_of};
+ghost use Rattle.yv_base_streams.specs.Files.{file_of};
 
 use std::alloc::Global;
 use yv_schema::{Schema, compile};
 use yv_source::Texts;
-use yv_statement::{Selection, Stop};
-use yv_streams::Input;
+use yv_text_statement::{Selection, Stop};
+use yv_base_streams::Input;
 
 /// The schema of these files, or what is refused first, `TooManyNodes` where they expand to more
 /// than the limit. `PatternBuild` says that the library of regular expressions doesn't build a

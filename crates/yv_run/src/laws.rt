@@ -1,12 +1,12 @@
 //! Laws about the definitions only. These functions do nothing: the contract of each is the law.
 ghost use Rattle.std.specs.Prelude.{◌≡◌, ℕ, List};
 ghost use Rattle.yv_job.specs.Jobs.{Task};
-ghost use Rattle.yv_streams.specs.Files.{File};
+ghost use Rattle.yv_base_streams.specs.Files.{File};
 ghost use Rattle.yv_run.specs.Output.{Page, IsOutput};
 
 use yv_schema::laws::files_have_one_schema;
 use yv_source::laws::{a_bad_file_is_refused_once, a_text_is_spelled_or_refused_once};
-use yv_statement::laws::order_tells_refusals_apart;
+use yv_text_statement::laws::order_tells_refusals_apart;
 
 /// A task, files and a document's bytes have one output at most, so that text and status are a
 /// function of them.

@@ -1,15 +1,15 @@
 //! Faults as lines on a page.
 ghost use Rattle.std.specs.{Prelude.{◌≡◌, ◌<◌, ◌↔◌, ◌++◌, ◌∷◌, [], ℕ, List, Option, true, false, codes, decimal, take}, Io.KnownBytes.{Appends}, Option.{option_map}};
 ghost use Rattle.yv_nodes.specs.Member.{behind};
-ghost use Rattle.yv_faults.specs.{Line.{escape, escaped_byte, hexadecimal, is_plain, item_text, line_text, path_text, place_text, places_text}, Part.{part_of}};
-ghost use Rattle.yv_leafref_values.specs.Place.{member_text};
-ghost use Rattle.yv_streams.specs.{Stream.{has_failed, stream_inner, FailsOnceAtMost}, Pages.{Adds, paged_output}};
+ghost use Rattle.yv_data_faults.specs.{Line.{escape, escaped_byte, hexadecimal, is_plain, item_text, line_text, path_text, place_text, places_text}, Part.{part_of}};
+ghost use Rattle.yv_data_leafrefs.specs.Place.{member_text};
+ghost use Rattle.yv_base_streams.specs.{Stream.{has_failed, stream_inner, FailsOnceAtMost}, Pages.{Adds, paged_output}};
 ghost use Rattle.yv_run.specs.Lines.{ended_line, fault_lines, faults_text};
-ghost use Rattle.yv_fault_notes.specs.Line.{number_text};
+ghost use Rattle.yv_note_faults.specs.Line.{number_text};
 
 use itoa::Buffer;
 use std::io::Write;
-use yv_streams::{Counted, Page};
+use yv_base_streams::{Counted, Page};
 use yv_validate::{Fault, MemberName, Part, PathSteps};
 
 /// Writes the lines of faults and how many they are, and answers whether all was taken. It takes no

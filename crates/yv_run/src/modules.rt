@@ -2,7 +2,7 @@
 use std::alloc::{AllocError, Global};
 use yv_note_text::{Joint, Likeness, compare, push_between, push_quoted};
 use yv_schema_tables::Module;
-use yv_statement::Selection;
+use yv_text_statement::Selection;
 
 /// Why there is no diagram of the module of this name, and of which modules there is one.
 pub(crate) fn modules_note(

@@ -9,10 +9,10 @@ use crate::print::{Body, CheckResult, Output};
 use crate::status::Verdict;
 use serde_json::Value;
 use std::alloc::{AllocError, Global};
-use yv_fault_notes::sentences;
-use yv_refusal_notes::{why_not_json, why_too_large};
+use yv_note_faults::sentences;
+use yv_note_refusals::{why_not_json, why_too_large};
 use yv_schema::Schema;
-use yv_statement::Selection;
+use yv_text_statement::Selection;
 use yv_validate::Fault;
 
 impl CheckResult {

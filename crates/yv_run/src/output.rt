@@ -1,13 +1,13 @@
 //! What a run writes.
 ghost use Rattle.std.specs.{Prelude.{◌≡◌, ◌<◌, ◌↔◌, ℕ, true, false, take}, Io.KnownBytes.{Appends, Keeps}};
-ghost use Rattle.yv_streams.specs.Stream.{stream_inner, stream_interrupts, has_failed, IsFresh, FailsOnceAtMost};
+ghost use Rattle.yv_base_streams.specs.Stream.{stream_inner, stream_interrupts, has_failed, IsFresh, FailsOnceAtMost};
 ghost use Rattle.yv_run.specs.{Output.{IsStopped, body_text, printed_of}, Runs.{Writes}};
 
 use crate::lines::write_faults;
 use crate::print::{Body, Output};
 use crate::status::Status;
 use std::io::Write;
-use yv_streams::{Counted, write_whole};
+use yv_base_streams::{Counted, write_whole};
 
 /// Writes what was found, has the writer pass it on, and answers how the run ends.
 pub(crate) fn write_output<W: Write>(output: &Output<'_>, writer: &mut Counted<W>) -> Status

@@ -2,8 +2,8 @@
 //! only when all is written.
 ghost use Rattle.std.specs.Prelude.{◌≡◌, ◌↔◌, ◌⊎◌, true, ℕ, map, length, IfOk, IsErrOf, OnErr, None, Ok, option_map, string_bytes};
 ghost use Rattle.yv_job.specs.Jobs.{HasFiles, HasLimit, task_of};
-ghost use Rattle.yv_statement.specs.Selection.{ModuleChoice, selected_of};
-ghost use Rattle.yv_streams.specs.{Stream.{stream_inner, has_failed, IsFresh, FailsOnceAtMost, TakesAtMost}, Files.{file_of}};
+ghost use Rattle.yv_text_statement.specs.Selection.{ModuleChoice, selected_of};
+ghost use Rattle.yv_base_streams.specs.{Stream.{stream_inner, has_failed, IsFresh, FailsOnceAtMost, TakesAtMost}, Files.{file_of}};
 ghost use Rattle.yv_run.specs.{Compiles.{HavePattern}, Output.{WantsData, IsStopped}, Notes.{NotesPattern, RunsWithNote}, Runs.{Runs, most_read}};
 
 use crate::answers::{write_answer, write_refusal};
@@ -15,11 +15,11 @@ use std::alloc::{AllocError, Global};
 use std::io::{Read, Write};
 use thiserror::Error;
 use yv_job::Job;
-use yv_refusal_notes::unbuilt_pattern;
+use yv_note_refusals::unbuilt_pattern;
 use yv_schema::Schema;
 use yv_source::laws::{a_bad_file_is_refused_once, a_text_is_spelled_or_refused_once};
-use yv_statement::Stop;
-use yv_streams::{Counted, Input};
+use yv_text_statement::Stop;
+use yv_base_streams::{Counted, Input};
 
 /// Why there is nothing to write.
 #[derive(Debug, Drop, Error)]

@@ -2,7 +2,7 @@ pub mod Numbering
 pub mod Marks
 pub mod Trees
 pub mod Schemas
-pub mod Added
+pub mod AugmentNodes
 pub mod Notes
 pub mod Phases
 pub mod Refusals

@@ -1,10 +1,10 @@
 -- Where files pass the limit, the least refusal is the same by numbered items and by the tree.
 use Rattle.std.proofs.Common.{◌≡◌, ◌↔◌, ◌⊎◌, inl, inr, ℕ, ◌<◌, Option, Some, None, ap, subst, arith}
-use Rattle.yv_statement.specs.Codes.{phase_of}
-use Rattle.yv_statement.specs.declared.refusal.Refusal.{Refusal}
-use Rattle.yv_statement.specs.Order.{IsLeast, IsUpTo}
-use Rattle.yv_statement.specs.Selection.{ModuleChoice}
-use Rattle.yv_statement.proofs.Least.{least_same, up_to_both, up_to_trans}
+use Rattle.yv_text_statement.specs.Codes.{phase_of}
+use Rattle.yv_text_statement.specs.declared.refusal.Refusal.{Refusal}
+use Rattle.yv_text_statement.specs.Order.{IsLeast, IsUpTo}
+use Rattle.yv_text_statement.specs.Selection.{ModuleChoice}
+use Rattle.yv_text_statement.proofs.Least.{least_same, up_to_both, up_to_trans}
 use Rattle.yv_link_scopes.specs.Files.{Files}
 use Rattle.yv_expand.specs.Limit.{TooMany}
 use Rattle.yv_expand_tree.specs.FileOrder.{marks_of}

@@ -5,8 +5,8 @@ use Rattle.std.specs.Option.{option_and_then, option_map}
 use Rattle.std.proofs.lemmas.Bool.{eq-eqb, eqb-true}
 use Rattle.std.proofs.lemmas.Simd.{map-map}
 use Rattle.std.proofs.lemmas.Option.{get_or_from_slice_get, same_Some, slice_get-map}
-use Rattle.yv_statement.specs.Order.{IsLeast}
-use Rattle.yv_statement.specs.Selection.{ModuleChoice}
+use Rattle.yv_text_statement.specs.Order.{IsLeast}
+use Rattle.yv_text_statement.specs.Selection.{ModuleChoice}
 use Rattle.yv_base_tables.specs.Families.{is_place, numbers_at}
 use Rattle.yv_link_scopes.specs.Files.{Files, brief_of}
 use Rattle.yv_link_scopes.specs.RowList.{rows_of}
@@ -33,7 +33,7 @@ use Rattle.yv_schema_build.specs.InnerSchema.{AreNumberedNotes, IsNumberedBasis}
 use Rattle.yv_schema.specs.Schema.{Basis}
 use Rattle.yv_schema.specs.Notes.{AreNotes, parents_from}
 use Rattle.yv_schema.specs.Notes as by_tree
-use Rattle.yv_schema.proofs.Added.{AreApart, first_placed, found_at, giver_at_place, many_spots, same_numbers, same_parents, same_place}
+use Rattle.yv_schema.proofs.AugmentNodes.{AreApart, first_placed, found_at, giver_at_place, many_spots, same_numbers, same_parents, same_place}
 use Rattle.yv_schema.proofs.Numbering.{listed, not_none}
 use Rattle.yv_schema.proofs.Schemas.{LeftAreItems, OneNodes, Shown, Shows, shown, shows}
 use Rattle.yv_schema.proofs.Trees.{shown_basis}

@@ -1,10 +1,10 @@
 -- The phases of what is refused before the expansion, and of what is refused from it on.
 use Rattle.std.proofs.Common.{◌≡◌, ℕ, ◌<◌, ◌≤◌, ◌⊎◌, inl, inr, Bool, List, [], ◌∷◌, Option, Some, None, refl, ap, ◌∙◌, arith}
-use Rattle.yv_statement.specs.Tree.{Tree}
-use Rattle.yv_statement.specs.Codes.{phase_of}
-use Rattle.yv_statement.specs.declared.refusal.Refusal.{Refusal}
-use Rattle.yv_statement.specs.Order.{IsLeast, IsUpTo}
-use Rattle.yv_statement.specs.Selection.{ModuleChoice}
+use Rattle.yv_text_statement.specs.Tree.{Tree}
+use Rattle.yv_text_statement.specs.Codes.{phase_of}
+use Rattle.yv_text_statement.specs.declared.refusal.Refusal.{Refusal}
+use Rattle.yv_text_statement.specs.Order.{IsLeast, IsUpTo}
+use Rattle.yv_text_statement.specs.Selection.{ModuleChoice}
 use Rattle.yv_link_scopes.specs.Files.{Files}
 use Rattle.yv_link.specs.Links.{BadLinks}
 use Rattle.yv_expand_tree.specs.Refusals.{BadExpansion}
@@ -25,7 +25,7 @@ use Rattle.yv_schema_tables.specs.DuplicateNodes.{HasDuplicate, HasRepeat, names
 use Rattle.yv_schema_build.specs.InnerBasis.{leafrefs_of}
 use Rattle.yv_schema_build.specs.Refusals.{BadFile, BadTyping}
 use Rattle.yv_schema_build.specs.InnerRefuses.{BadNumberedSchema}
-use Rattle.yv_schema_build.proofs.Told.{is_own}
+use Rattle.yv_schema_build.proofs.FileRefusals.{is_own}
 use Rattle.yv_schema_build.proofs.TypePhases.{names_phase, types_phase}
 use Rattle.yv_schema.specs.Schema as by_tree
 use Rattle.yv_schema.specs.Refuses.{RefusesExpansion, BadSchema}

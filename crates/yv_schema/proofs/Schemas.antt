@@ -1,8 +1,8 @@
 -- The schema by numbered items is that of the tree to which files expand.
 use Rattle.std.proofs.Common.{◌≡◌, ℕ, Bool, List, length, map, refl, sym, ap, subst, Option, Some, None}
 use Rattle.std.specs.List.{slice_get}
-use Rattle.yv_statement.specs.Order.{IsLeast}
-use Rattle.yv_statement.specs.Selection.{ModuleChoice}
+use Rattle.yv_text_statement.specs.Order.{IsLeast}
+use Rattle.yv_text_statement.specs.Selection.{ModuleChoice}
 use Rattle.yv_link_scopes.specs.Files.{Files, brief_of}
 use Rattle.yv_link_scopes.specs.RowList.{rows_of}
 use Rattle.yv_link_features.specs.Refusals.{BadFeatures}

@@ -1,7 +1,7 @@
 -- Files have one basis by the tree, and so one schema, one list of augments and one of links.
 use Rattle.std.proofs.Common.{◌≡◌, ℕ, List, refl, sym, ap, ◌∙◌, subst, Bool, Option, None}
-use Rattle.yv_statement.specs.Order.{IsLeast}
-use Rattle.yv_statement.specs.Selection.{ModuleChoice}
+use Rattle.yv_text_statement.specs.Order.{IsLeast}
+use Rattle.yv_text_statement.specs.Selection.{ModuleChoice}
 use Rattle.yv_link_scopes.specs.Files.{Files}
 use Rattle.yv_link_features.specs.On.{Holds}
 use Rattle.yv_link_features.specs.Refusals.{BadFeatures}

@@ -1,6 +1,6 @@
 -- The links of the leafrefs of a schema (RFC 7950, sections 9.9.2 and 9.9.3).
 use Rattle.std.specs.Prelude.{◌≡◌, ℕ, List, Option, Some}
-use Rattle.yv_statement.specs.Selection.{ModuleChoice}
+use Rattle.yv_text_statement.specs.Selection.{ModuleChoice}
 use Rattle.yv_link_scopes.specs.Files.{Files}
 use Rattle.yv_nodes.specs.Link.{Link, reference_in}
 use Rattle.yv_nodes.specs.Rows.{Row}

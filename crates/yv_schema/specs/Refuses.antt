@@ -1,8 +1,8 @@
 -- What the compilation of files refuses, by the tree to which they expand (RFC 7950, sections 3,
 -- 7.5 to 7.17, and 9.9).
 use Rattle.std.specs.Prelude.{◌⊎◌, ℕ}
-use Rattle.yv_statement.specs.declared.refusal.Refusal.{Refusal}
-use Rattle.yv_statement.specs.Selection.{ModuleChoice}
+use Rattle.yv_text_statement.specs.declared.refusal.Refusal.{Refusal}
+use Rattle.yv_text_statement.specs.Selection.{ModuleChoice}
 use Rattle.yv_link_scopes.specs.Files.{Files}
 use Rattle.yv_expand.specs.Limit.{TooMany}
 use Rattle.yv_expand_tree.specs.FileOrder.{marks_of}

@@ -2,7 +2,7 @@
 -- 7.17, and 9.9).
 use Rattle.std.specs.Prelude.{◌≡◌, List, [], ◌∷◌, ◌++◌, Option, slice_get}
 use Rattle.std.specs.Option.{option_and_then}
-use Rattle.yv_statement.specs.Selection.{ModuleChoice}
+use Rattle.yv_text_statement.specs.Selection.{ModuleChoice}
 use Rattle.yv_link_scopes.specs.Files.{Files}
 use Rattle.yv_node_statements.specs.Kinds.{AreTyped, TypeMeanings}
 use Rattle.yv_node_statements.specs.Definitions.{refined_definition}

@@ -1,6 +1,6 @@
 //! The compilation of files.
 ghost use Rattle.std.specs.Prelude.{◌≡◌, ◌<◌, ◌≤◌, ℕ, length, IfOk, OnOk, Some, None, Err};
-ghost use Rattle.yv_statement.specs.{declared.refusal.Refusal.{Refusal}, declared.refusal.Stop.TheVariants.{Fault, NoMemory, PatternBuild}, Order.{IsLeast}, Selection.{selected_of}};
+ghost use Rattle.yv_text_statement.specs.{declared.refusal.Refusal.{Refusal}, declared.refusal.Stop.TheVariants.{Fault, NoMemory, PatternBuild}, Order.{IsLeast}, Selection.{selected_of}};
 ghost use Rattle.yv_link_scopes.specs.RowList.{rows_of};
 ghost use Rattle.yv_type_restrictions.specs.Types.{HasTypePattern};
 ghost use Rattle.yv_nodes.specs.{Rows.{whole}, Tree.{count}};
@@ -19,7 +19,7 @@ use yv_expand_laws::laws::{
 };
 use yv_schema_build::laws::{each_leafref_has_its_link, nodes_are_within_units};
 use yv_schema_tables::Schema;
-use yv_statement::{Selection, Statement, Stop};
+use yv_text_statement::{Selection, Statement, Stop};
 
 /// The schema of the modules that are implemented, by the statements of the files of all modules
 /// (RFC 7950, sections 5.1 and 7.1), or the least refusal by phase, file, offset and code.

@@ -10,6 +10,6 @@ mod compilation;
 pub mod laws;
 
 pub use compilation::compile;
-pub use yv_node_definition::{NodeKind, NodeStatus};
+pub use yv_node_content::{NodeKind, NodeStatus};
 pub use yv_nodes::{Node, NodeId};
 pub use yv_schema_tables::{Measures, Schema};

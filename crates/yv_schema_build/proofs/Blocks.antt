@@ -3,7 +3,7 @@ use Rattle.std.proofs.Common.{◌≡◌, ℕ, zero, suc, ◌<◌, ◌≤◌, Lis
 use Rattle.std.specs.List.{slice_get}
 use Rattle.std.proofs.lemmas.Option.{slice_get_read}
 use Rattle.std.proofs.lemmas.List.{at_drop_all}
-use Rattle.yv_statement.specs.Tree.{Tree, Forest, End, Then, trees, forest, count}
+use Rattle.yv_text_statement.specs.Tree.{Tree, Forest, End, Then, trees, forest, count}
 
 pub forest-trees : (f : Forest) → forest (trees f) ≡ f
 forest-trees End = refl

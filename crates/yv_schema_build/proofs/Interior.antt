@@ -7,13 +7,13 @@ use Rattle.std.proofs.lemmas.Bool.{false≢true, false_from_ne_true}
 use Rattle.std.proofs.lemmas.List.{map-append}
 use Rattle.std.proofs.lemmas.Option.{get_or_from_slice_get, same_Some, slice_get_cases, slice_get_within, slice_get-map}
 use Rattle.std.proofs.lemmas.Slice.Eq.{bytes_eq-Decides}
-use Rattle.yv_statement.specs.Tree as statement
-use Rattle.yv_statement.specs.Selection.{ModuleChoice}
+use Rattle.yv_text_statement.specs.Tree as statement
+use Rattle.yv_text_statement.specs.Selection.{ModuleChoice}
 use Rattle.yv_text_if_feature.specs.Bytes.{colon}
 use Rattle.yv_text_grammar.specs.Refusals.{keyword_at}
-use Rattle.yv_statement.specs.Keywords.{keyword_in, keyword_of, names}
-use Rattle.yv_statement.specs.declared.keyword.Keyword.{Keyword}
-use Rattle.yv_statement.specs.declared.keyword.Keyword.TheVariants as word
+use Rattle.yv_text_statement.specs.Keywords.{keyword_in, keyword_of, names}
+use Rattle.yv_text_statement.specs.declared.keyword.Keyword.{Keyword}
+use Rattle.yv_text_statement.specs.declared.keyword.Keyword.TheVariants as word
 use Rattle.yv_expand.specs.Conformance.{Conform}
 use Rattle.yv_link_scopes.specs.Files.{Files}
 use Rattle.yv_link_scopes.specs.RowList.{rows_of, statements_of}
@@ -31,10 +31,10 @@ use Rattle.yv_expand_tree.specs.Final.{Final, IsFinal, changes_of}
 use Rattle.yv_expand_tree.specs.FinalTree.{no_item, origin_at}
 use Rattle.yv_expand_tree.specs.Remains.{AreLeft}
 use Rattle.yv_expand_tree.specs.Lowest.{is_lowest}
-use Rattle.yv_node_definition.specs.Definition.{Definition}
-use Rattle.yv_node_definition.specs.Kinds.{is_data}
-use Rattle.yv_node_definition.specs.declared.kind.NodeKind.{NodeKind}
-use Rattle.yv_node_definition.specs.declared.kind.NodeKind.TheVariants as kind
+use Rattle.yv_node_content.specs.Definition.{Definition}
+use Rattle.yv_node_content.specs.Kinds.{is_data}
+use Rattle.yv_node_content.specs.declared.kind.NodeKind.{NodeKind}
+use Rattle.yv_node_content.specs.declared.kind.NodeKind.TheVariants as kind
 use Rattle.yv_nodes.specs.declared.node.NodeId.{NodeId}
 use Rattle.yv_nodes.specs.Numbers.{rows_below, rows_from}
 use Rattle.yv_nodes.specs.Rows.{Row, is_root}
@@ -46,7 +46,7 @@ use Rattle.yv_node_statements.specs.Kinds.{TypeMeanings}
 use Rattle.yv_schema_build.specs.InnerRows.{number_at, parent_of}
 use Rattle.yv_schema_build.specs.InnerBasis.{NumberedBasis, label_at, with_labels, nodes_in, stated_of}
 use Rattle.yv_schema_build.specs.InnerSchema.{IsNumberedBasis}
-use Rattle.yv_schema_build.proofs.Parenting.{count_rows, made_at, row_parent}
+use Rattle.yv_schema_build.proofs.ParentNodes.{count_rows, made_at, row_parent}
 
 -- a leaf, leaf-list, anydata or anyxml
 abbrev is_low : NodeKind → Bool

@@ -7,21 +7,21 @@ use Rattle.std.proofs.lemmas.Bool.{cases_Bool, false≢true, false_from_ne_true}
 use Rattle.std.proofs.lemmas.Option.{same_Some, slice_get-map, slice_get_within}
 use Rattle.std.proofs.lemmas.Slice.Eq.{bytes_eq-Decides}
 use denote.Enum.Bare.{same_true}
-use Rattle.yv_statement.specs.Tree.{Head, Tree, Forest, Then, End, trees, name_of}
-use Rattle.yv_statement.specs.Order.{refusal_at}
-use Rattle.yv_statement.specs.declared.refusal.Refusal.{Refusal}
-use Rattle.yv_statement.specs.declared.refusal.Code.TheVariants as code
-use Rattle.yv_statement.specs.Keywords.{keyword_in, keyword_of, names, same}
-use Rattle.yv_statement.specs.contracts.keyword.Keyword.{the_type}
-use Rattle.yv_statement.specs.declared.keyword.Keyword.{Keyword}
-use Rattle.yv_statement.specs.declared.keyword.Keyword.TheVariants as word
+use Rattle.yv_text_statement.specs.Tree.{Head, Tree, Forest, Then, End, trees, name_of}
+use Rattle.yv_text_statement.specs.Order.{refusal_at}
+use Rattle.yv_text_statement.specs.declared.refusal.Refusal.{Refusal}
+use Rattle.yv_text_statement.specs.declared.refusal.Code.TheVariants as code
+use Rattle.yv_text_statement.specs.Keywords.{keyword_in, keyword_of, names, same}
+use Rattle.yv_text_statement.specs.contracts.keyword.Keyword.{the_type}
+use Rattle.yv_text_statement.specs.declared.keyword.Keyword.{Keyword}
+use Rattle.yv_text_statement.specs.declared.keyword.Keyword.TheVariants as word
 use Rattle.yv_text_grammar.specs.Refusals.{Bad, has, keyword_at, number}
 use Rattle.yv_text_grammar.specs.Refusals.{is_module as is_module_word}
 use Rattle.yv_text_grammar.specs.Table.{is_one}
 use Rattle.yv_text_grammar.specs.Table.{rows_of as table_of}
 use Rattle.yv_link.specs.Links.{BadLinks}
 use Rattle.yv_link_modules.specs.Links.{is_link, is_wrong, is_wrong_link, wrong_at}
-use Rattle.yv_statement.specs.Selection.{ModuleChoice, is_implemented}
+use Rattle.yv_text_statement.specs.Selection.{ModuleChoice, is_implemented}
 use Rattle.yv_link_scopes.specs.Files.{Brief, Briefs, Files, brief_of, first_name, has_word, module_file_at, module_file_in, is_module, module_name, file_named, tree_name}
 use Rattle.yv_link_scopes.specs.Rows.{Row, is_extended, row_list, name_in}
 use Rattle.yv_link_scopes.specs.RowList.{bodies, body_of, roots_from, rows_of}

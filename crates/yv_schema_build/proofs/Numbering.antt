@@ -16,9 +16,9 @@ use Rattle.yv_expand_tree.specs.FinalTree.{source_at}
 use Rattle.yv_nodes.specs.Rows.{rank}
 use Rattle.yv_schema_build.specs.InnerRows.{IsWithin, number_at, parent_of}
 use Rattle.yv_schema_build.specs.InnerBasis.{NumberedBasis, nodes_in}
-use Rattle.yv_schema_build.proofs.Noting.{Follows, each_at, givers, rank_up_to}
-use Rattle.yv_schema_build.proofs.Parenting.{before_each}
-use Rattle.yv_schema_build.proofs.Rowing.{within_more}
+use Rattle.yv_schema_build.proofs.AugmentNotes.{Follows, each_at, givers, rank_up_to}
+use Rattle.yv_schema_build.proofs.ParentNodes.{before_each}
+use Rattle.yv_schema_build.proofs.SchemaTreeRows.{within_more}
 
 abbrev pub AllBefore : ℕ → List ℕ → Type 0
 AllBefore n ps = All (λ (p : ℕ). p < n) ps

@@ -6,21 +6,21 @@ use Rattle.std.proofs.lemmas.Bool.{cases_Bool, false≢true, false_from_ne_true}
 use Rattle.std.proofs.lemmas.Bool.Decides.{nat_tests}
 use Rattle.std.proofs.lemmas.Option.{same_Some, slice_get-map, slice_get_within}
 use Rattle.std.proofs.lemmas.Slice.Eq.{bytes_eq-Decides}
-use Rattle.yv_statement.specs.Tree.{Tree}
-use Rattle.yv_statement.specs.Codes.{phase_of}
-use Rattle.yv_statement.specs.declared.refusal.Refusal.{Refusal}
-use Rattle.yv_statement.specs.declared.refusal.Code.TheVariants as code
-use Rattle.yv_statement.specs.Order.{Among, IsLeast, refusal_at}
-use Rattle.yv_statement.proofs.Least.{least_same}
-use Rattle.yv_statement.specs.declared.keyword.Keyword.{Keyword}
-use Rattle.yv_statement.specs.declared.keyword.Keyword.TheVariants as word
+use Rattle.yv_text_statement.specs.Tree.{Tree}
+use Rattle.yv_text_statement.specs.Codes.{phase_of}
+use Rattle.yv_text_statement.specs.declared.refusal.Refusal.{Refusal}
+use Rattle.yv_text_statement.specs.declared.refusal.Code.TheVariants as code
+use Rattle.yv_text_statement.specs.Order.{Among, IsLeast, refusal_at}
+use Rattle.yv_text_statement.proofs.Least.{least_same}
+use Rattle.yv_text_statement.specs.declared.keyword.Keyword.{Keyword}
+use Rattle.yv_text_statement.specs.declared.keyword.Keyword.TheVariants as word
 use Rattle.yv_text_grammar.specs.declared.form.Form.TheVariants as form
-use Rattle.yv_statement.specs.Keywords.{keyword_of}
+use Rattle.yv_text_statement.specs.Keywords.{keyword_of}
 use Rattle.yv_text_grammar.specs.Argument.{ArgumentFits, argument_has}
 use Rattle.yv_text_grammar.specs.Refusals.{Bad, keyword_at, own}
 use Rattle.yv_text_grammar.specs.Forms.{form_of}
 use Rattle.yv_text_grammar.specs.Texts.{is_identifier, is_part, is_start}
-use Rattle.yv_statement.specs.Selection.{ModuleChoice, is_implemented}
+use Rattle.yv_text_statement.specs.Selection.{ModuleChoice, is_implemented}
 use Rattle.yv_link_scopes.specs.Files.{Brief, Briefs, Files, brief_of, is_module, file_named, tree_name}
 use Rattle.yv_link_modules.specs.Links.{is_at}
 use Rattle.yv_link_features.specs.Refusals.{BadFeatures}
@@ -58,7 +58,7 @@ use Rattle.yv_schema_build.specs.InnerSchema.{AreNumberedNotes, AreNumberedRefer
 use Rattle.yv_schema_tables.specs.NodeNumbers.{HasNoColon}
 use Rattle.yv_schema_build.specs.InnerBuild.{AreNames}
 use Rattle.yv_schema_build.proofs.ModuleFilesGiven.{have_module_files}
-use Rattle.yv_schema_build.proofs.Told.{is_own}
+use Rattle.yv_schema_build.proofs.FileRefusals.{is_own}
 use Rattle.yv_schema_build.proofs.TypePhases.{names_phase, types_phase}
 
 and_first : (a b : Bool) → (a && b) ≡ true → a ≡ true

@@ -3,13 +3,13 @@ use Rattle.std.proofs.Common.{inl, inr, ◌≡◌, ◌≢◌, ℕ, ◌<◌, true
 use Rattle.std.specs.List.{slice_get}
 use Rattle.std.specs.Option.{option_and_then}
 use Rattle.std.proofs.lemmas.Option.{same_Some, slice_get_within}
-use Rattle.yv_statement.specs.Tree.{Tree}
-use Rattle.yv_statement.specs.Order.{IsLeast}
-use Rattle.yv_statement.specs.declared.refusal.Refusal.{Refusal}
-use Rattle.yv_statement.specs.declared.refusal.Code.TheVariants as code
+use Rattle.yv_text_statement.specs.Tree.{Tree}
+use Rattle.yv_text_statement.specs.Order.{IsLeast}
+use Rattle.yv_text_statement.specs.declared.refusal.Refusal.{Refusal}
+use Rattle.yv_text_statement.specs.declared.refusal.Code.TheVariants as code
 use Rattle.yv_text_grammar.specs.Refusals.{Bad}
 use Rattle.yv_text_grammar.specs.Fits.{Fits}
-use Rattle.yv_statement.specs.Selection.{ModuleChoice}
+use Rattle.yv_text_statement.specs.Selection.{ModuleChoice}
 use Rattle.yv_link_scopes.specs.Files.{Files}
 use Rattle.yv_expand.specs.Tree.{Node}
 use Rattle.yv_nodes.specs.Link.{Link, link_in, reference_in}
@@ -26,8 +26,8 @@ use Rattle.yv_schema_build.specs.InnerRefuses.{RefusesByNumber}
 use Rattle.yv_schema_build.specs.Refusals.{in_file}
 use Rattle.yv_schema_build.specs.InnerSchema.{AreNumberedReferences, IsNumberedBasis, IsNumberedSchema}
 use Rattle.yv_node_leafrefs.specs.Links.{AreLinks}
-use Rattle.yv_node_leafrefs.proofs.Required.{has_link, has_reference}
-use Rattle.yv_schema_build.proofs.Beginning.{Conform, Headed, Origins, begins, no_value}
+use Rattle.yv_node_leafrefs.proofs.LeafrefLinks.{has_link, has_reference}
+use Rattle.yv_schema_build.proofs.LeafrefPathStarts.{Conform, Headed, Origins, begins, no_value}
 use Rattle.yv_schema_build.proofs.Interior.{NothingBelow, basis_inner}
 
 module _ (choice : ModuleChoice) (b : NumberedBasis) (is : IsNumberedBasis choice b) (fine : Conform b.files) (headed : Headed b.files) (origins : Origins) where

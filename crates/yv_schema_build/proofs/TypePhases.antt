@@ -1,11 +1,11 @@
 -- The phases of what is wrong with the names of definitions, and with types.
 use Rattle.std.proofs.Common.{◌≡◌, ℕ, inl, inr, Option, Some, None, List, refl, ap, ◌∙◌}
-use Rattle.yv_statement.specs.Tree.{Head, Tree, trees}
-use Rattle.yv_statement.specs.Codes.{phase_of}
-use Rattle.yv_statement.specs.declared.refusal.Refusal.{Refusal}
-use Rattle.yv_statement.specs.declared.refusal.Code.{Code}
-use Rattle.yv_statement.specs.declared.refusal.Code.TheVariants as code
-use Rattle.yv_statement.specs.Order.{Stands, refusal_at}
+use Rattle.yv_text_statement.specs.Tree.{Head, Tree, trees}
+use Rattle.yv_text_statement.specs.Codes.{phase_of}
+use Rattle.yv_text_statement.specs.declared.refusal.Refusal.{Refusal}
+use Rattle.yv_text_statement.specs.declared.refusal.Code.{Code}
+use Rattle.yv_text_statement.specs.declared.refusal.Code.TheVariants as code
+use Rattle.yv_text_statement.specs.Order.{Stands, refusal_at}
 use Rattle.yv_link_scopes.specs.Files.{Files}
 use Rattle.yv_link_definitions.specs.Refusals.{BadNames}
 use Rattle.yv_type_chains.specs.Refusals.{BadKinds}

@@ -1,18 +1,18 @@
 -- Only private clauses cite this: what is known before a schema is built, and what is refused of it
 -- first.
 use Rattle.std.specs.Prelude.{◌≡◌, ◌≢◌, ◌<◌, ℕ, true, slice_get, Some}
-use Rattle.yv_statement.specs.Tree as statement
+use Rattle.yv_text_statement.specs.Tree as statement
 use Rattle.yv_text_grammar.specs.Refusals.{Bad}
-use Rattle.yv_statement.specs.Selection.{ModuleChoice}
+use Rattle.yv_text_statement.specs.Selection.{ModuleChoice}
 use Rattle.yv_link_scopes.specs.Files.{Files, tree_name}
 use Rattle.yv_expand_tree.specs.FileOrder.{HaveModuleFiles, is_given}
 use Rattle.std.specs.declared.option.Option.{Option}
 use Rattle.std.specs.declared.result.Result.{Result}
 use Rattle.std.specs.declared.result.Result.TheVariants.{Ok, Err}
-use Rattle.yv_statement.specs.Order.{IsLeast, IsLesser}
-use Rattle.yv_statement.specs.declared.refusal.Refusal.{Refusal}
-use Rattle.yv_statement.specs.declared.refusal.Stop.{Stop}
-use Rattle.yv_statement.specs.declared.refusal.Stop.TheVariants.{Fault}
+use Rattle.yv_text_statement.specs.Order.{IsLeast, IsLesser}
+use Rattle.yv_text_statement.specs.declared.refusal.Refusal.{Refusal}
+use Rattle.yv_text_statement.specs.declared.refusal.Stop.{Stop}
+use Rattle.yv_text_statement.specs.declared.refusal.Stop.TheVariants.{Fault}
 use Rattle.yv_nodes.specs.Rows.{Rows}
 use Rattle.yv_nodes.specs.Tree.{Forest}
 use Rattle.yv_node_leafrefs.specs.Resolution.{IsTyped}

@@ -1,6 +1,6 @@
 -- Only private clauses cite this: what is known of files before their nodes are built.
 use Rattle.std.specs.Prelude.{◌≡◌}
-use Rattle.yv_statement.specs.Selection.{ModuleChoice}
+use Rattle.yv_text_statement.specs.Selection.{ModuleChoice}
 use Rattle.yv_link_scopes.specs.Files.{Files}
 use Rattle.yv_node_statements.specs.Context.{files_in, typing_in}
 use Rattle.yv_node_statements.specs.declared.definitions.Definitions.{Definitions}

@@ -1,8 +1,8 @@
 -- Only private clauses cite this: what a schema is made of.
 use Rattle.std.specs.Prelude.{◌≡◌, ◌⊎◌, None, All}
-use Rattle.yv_statement.specs.Order.{IsLeast}
-use Rattle.yv_statement.specs.Selection.{ModuleChoice}
-use Rattle.yv_statement.specs.declared.refusal.Refusal.{Refusal}
+use Rattle.yv_text_statement.specs.Order.{IsLeast}
+use Rattle.yv_text_statement.specs.Selection.{ModuleChoice}
+use Rattle.yv_text_statement.specs.declared.refusal.Refusal.{Refusal}
 use Rattle.yv_link_scopes.specs.Files.{Files}
 use Rattle.yv_types.specs.declared.type_table.Types.{Types}
 use Rattle.yv_node_statements.specs.Kinds.{typing_of}

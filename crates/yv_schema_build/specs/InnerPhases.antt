@@ -1,7 +1,7 @@
 -- Only private clauses cite this: what is known of files between the phases of their compilation.
 use Rattle.std.specs.Prelude.{ℕ, ◌≤◌, None, length}
-use Rattle.yv_statement.specs.Order.{Among, IsLeast}
-use Rattle.yv_statement.specs.Selection.{ModuleChoice}
+use Rattle.yv_text_statement.specs.Order.{Among, IsLeast}
+use Rattle.yv_text_statement.specs.Selection.{ModuleChoice}
 use Rattle.yv_link_scopes.specs.Files.{Files}
 use Rattle.yv_link.specs.LinkedFiles.{AreLinked, truth_in}
 use Rattle.yv_link.specs.Links.{BadLinks}

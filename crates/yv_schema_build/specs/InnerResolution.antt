@@ -1,6 +1,6 @@
 -- Only private clauses cite this: what comes of resolving the leafrefs of a schema tree.
 use Rattle.std.specs.Prelude.{◌≡◌, ℕ, ◌+◌, List, map, min, replicate, Option, None}
-use Rattle.yv_statement.specs.Order.{IsLeast}
+use Rattle.yv_text_statement.specs.Order.{IsLeast}
 use Rattle.yv_link_scopes.specs.Files.{Files}
 use Rattle.yv_expand.specs.declared.origin.Origin.{Origin}
 use Rattle.yv_expand.specs.declared.origin.Origin.TheVariants as origin

@@ -3,8 +3,8 @@ use Rattle.std.specs.Prelude.{◌≡◌, ℕ, ◌+◌, ◌<◌, ◌&&◌, Bool, 
 use Rattle.yv_expand.specs.Tree.{Node}
 use Rattle.yv_nodes.specs.declared.node.NodeId.{NodeId}
 use Rattle.yv_nodes.specs.Tree.{Label}
-use Rattle.yv_node_definition.specs.Definition.{Definition}
-use Rattle.yv_node_definition.specs.Kinds.{is_leaf}
+use Rattle.yv_node_content.specs.Definition.{Definition}
+use Rattle.yv_node_content.specs.Kinds.{is_leaf}
 use Rattle.yv_node_statements.specs.Definitions.{refined_definition}
 use Rattle.yv_expand_tree.specs.Final.{changes_of}
 use Rattle.yv_expand_tree.specs.FinalTree.{origin_at}

@@ -1,6 +1,6 @@
 -- The schema of files by the numbered items of an expansion (RFC 7950, section 5.6.5).
 use Rattle.std.specs.Prelude.{◌≡◌, List, Option}
-use Rattle.yv_statement.specs.Selection.{ModuleChoice}
+use Rattle.yv_text_statement.specs.Selection.{ModuleChoice}
 use Rattle.yv_link_scopes.specs.Files.{Files}
 use Rattle.yv_node_statements.specs.Kinds.{AreTyped}
 use Rattle.yv_nodes.specs.Link.{Link}

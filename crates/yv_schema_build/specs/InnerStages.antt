@@ -1,8 +1,8 @@
 -- At which stage of a compilation files are refused, and that they have a final tree by number from
 -- then on.
 use Rattle.std.specs.Prelude.{◌≤◌, ◌⊎◌, ℕ, length}
-use Rattle.yv_statement.specs.declared.refusal.Refusal.{Refusal}
-use Rattle.yv_statement.specs.Selection.{ModuleChoice}
+use Rattle.yv_text_statement.specs.declared.refusal.Refusal.{Refusal}
+use Rattle.yv_text_statement.specs.Selection.{ModuleChoice}
 use Rattle.yv_link_scopes.specs.Files.{Files}
 use Rattle.yv_link_scopes.specs.RowList.{rows_of}
 use Rattle.yv_link_definitions.specs.Refusals.{BadNames}

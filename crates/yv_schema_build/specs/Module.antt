@@ -1,10 +1,10 @@
 -- The schema tree that the statements of files give (RFC 7950, sections 5.6.5, 7.5 to 7.17).
 use Rattle.std.specs.Prelude.{ℕ, ◌+◌, List, [], ◌∷◌, Option, Some, None, if◌then◌else◌, slice_get}
-use Rattle.yv_statement.specs.Tree as statement
-use Rattle.yv_statement.specs.Selection.{ModuleChoice}
+use Rattle.yv_text_statement.specs.Tree as statement
+use Rattle.yv_text_statement.specs.Selection.{ModuleChoice}
 use Rattle.yv_link_scopes.specs.Files.{Files, tree_name}
 use Rattle.yv_expand_tree.specs.FileOrder.{is_given}
-use Rattle.yv_statement.specs.declared.keyword.Keyword.TheVariants as word
+use Rattle.yv_text_statement.specs.declared.keyword.Keyword.TheVariants as word
 use Rattle.yv_node_properties.specs.Statements.{argument_of, first_of}
 use Rattle.yv_nodes.specs.Rows.{Module}
 

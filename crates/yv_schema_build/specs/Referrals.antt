@@ -2,7 +2,7 @@
 use Rattle.std.specs.Prelude.{Bool, Option, Some, None}
 use Rattle.yv_link_scopes.specs.Files.{Files}
 use Rattle.yv_expand.specs.declared.origin.Origin.{Origin}
-use Rattle.yv_statement.specs.TextInFile.{TextInFile}
+use Rattle.yv_text_statement.specs.TextInFile.{TextInFile}
 use Rattle.yv_node_paths.specs.Referral.{climbs_of, steps_in}
 use Rattle.yv_types.specs.Referrals.{path_at}
 use Rattle.yv_types.specs.declared.leafref_path.TypeLeafref.{TypeLeafref}

@@ -1,6 +1,6 @@
 -- How many units the files of implemented modules take.
 use Rattle.std.specs.Prelude.{ℕ, length, map}
-use Rattle.yv_statement.specs.Selection.{ModuleChoice}
+use Rattle.yv_text_statement.specs.Selection.{ModuleChoice}
 use Rattle.yv_link_scopes.specs.Files.{Files, brief_of}
 use Rattle.yv_link_scopes.specs.RowList.{rows_of}
 use Rattle.yv_expand.specs.StatementBlocks.{given_before}

@@ -1,6 +1,6 @@
 //! From the parts of a schema to the schema.
 ghost use Rattle.std.specs.Prelude.{◌≡◌, ◌≢◌, IfOk, OnOk, Some, None, Ok, Err};
-ghost use Rattle.yv_statement.specs.{declared.refusal.Refusal.{Refusal}, declared.refusal.Stop.TheVariants.{Fault, PatternBuild}, Order.{IsLesser}};
+ghost use Rattle.yv_text_statement.specs.{declared.refusal.Refusal.{Refusal}, declared.refusal.Stop.TheVariants.{Fault, PatternBuild}, Order.{IsLesser}};
 ghost use Rattle.yv_schema_build.specs.{InnerBasis.{NumberedBasis, leafrefs_of, stated_of}, InnerNotes.{notes_of}, InnerBuild.{HasLeast, IsFirst}, InnerParts.{AreParts, AreReady}};
 ghost use Rattle.yv_nodes.specs.Rows.{whole};
 ghost use Rattle.yv_node_leafrefs.specs.{Resolution.{IsTyped}, Links.{AreLinks}};
@@ -9,7 +9,7 @@ ghost use Rattle.yv_schema_tables.specs.Sound.{IsSound};
 use crate::parts::SchemaParts;
 use std::alloc::Global;
 use yv_schema_tables::Schema;
-use yv_statement::{Refusal, Stop, lesser};
+use yv_text_statement::{Refusal, Stop, lesser};
 
 /// The schema of these parts, or the least refusal of what is wrong with its nodes.
 pub(crate) fn build(alloc: Global, parts: SchemaParts) -> Result<Schema, Stop>

@@ -1,6 +1,6 @@
 //! The compilation of files.
 ghost use Rattle.std.specs.Prelude.{◌≡◌, ◌<◌, ◌≤◌, length, IfOk, OnOk, Some, None, Err};
-ghost use Rattle.yv_statement.specs.{declared.refusal.Refusal.{Refusal}, declared.refusal.Stop.TheVariants.{Fault, NoMemory, PatternBuild}, Order.{IsLeast}, Selection.{selected_of}};
+ghost use Rattle.yv_text_statement.specs.{declared.refusal.Refusal.{Refusal}, declared.refusal.Stop.TheVariants.{Fault, NoMemory, PatternBuild}, Order.{IsLeast}, Selection.{selected_of}};
 ghost use Rattle.yv_link_scopes.specs.RowList.{rows_of};
 ghost use Rattle.yv_type_restrictions.specs.Types.{HasTypePattern};
 ghost use Rattle.yv_schema_build.specs.{InnerRefuses.{RefusesByNumber, RefusesBeforeTypesByNumber}, InnerStages.{AreFew, HaveFinalTree, Stops}, Module.{modules_of}, InnerSchema.{AreNumberedNotes, AreNumberedReferences, IsNumberedSchema}};
@@ -14,7 +14,7 @@ use yv_expand_tree::laws::refusals_of_expansions_have_phases;
 use yv_link::laws::links_have_phases;
 use yv_link::link;
 use yv_schema_tables::Schema;
-use yv_statement::{Selection, Statement, Stop};
+use yv_text_statement::{Selection, Statement, Stop};
 
 /// The schema of the modules that are implemented, by the numbered items of the statements of the
 /// files of all modules (RFC 7950, sections 5.1 and 7.1), or the least refusal by phase, file,

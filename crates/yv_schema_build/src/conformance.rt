@@ -1,9 +1,9 @@
 //! What is wrong with the statements of each file as such.
 ghost use Rattle.std.specs.{Prelude.{◌≡◌, ◌≤◌, length}, Option.{option_map}};
-ghost use Rattle.yv_statement.specs.Order.{Among, IsLeast};
+ghost use Rattle.yv_text_statement.specs.Order.{Among, IsLeast};
 ghost use Rattle.yv_schema_build.specs.Refusals.{BadFile, in_file};
 
-use yv_statement::{Refusal, Statement, lesser};
+use yv_text_statement::{Refusal, Statement, lesser};
 use yv_text_grammar::conform;
 
 /// The least refusal of statements that aren't as the tables of the language say.

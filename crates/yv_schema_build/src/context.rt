@@ -1,7 +1,7 @@
 //! What is known of files before their nodes are built.
 ghost use Rattle.std.specs.Prelude.{◌≡◌, true, None, IfOk};
 ghost use Rattle.yv_expand.specs.Tree.{item_list};
-ghost use Rattle.yv_statement.specs.Selection.{ModuleChoice};
+ghost use Rattle.yv_text_statement.specs.Selection.{ModuleChoice};
 ghost use Rattle.yv_node_statements.specs.Context.{files_in, typing_in};
 ghost use Rattle.yv_expand_tree.specs.FinalTree.{AreKept};
 ghost use Rattle.yv_schema_build.specs.{InnerBasis.{NumberedBasis, module_file_of}, InnerContext.{IsRefinedOf, Tells}, InnerRows.{said_at}};
@@ -9,7 +9,7 @@ ghost use Rattle.yv_schema_build.specs.{InnerBasis.{NumberedBasis, module_file_o
 use std::alloc::{AllocError, Global};
 use yv_expand::RemainingNode;
 use yv_expand_tree::FinalTree;
-use yv_node_definition::Definition;
+use yv_node_content::Definition;
 use yv_node_statements::{Definitions, RefinedDefinitions};
 use yv_values::Matchers;
 

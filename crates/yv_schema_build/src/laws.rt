@@ -1,6 +1,6 @@
 //! Laws about the definitions only. These functions do nothing: the contract of each is the law.
 ghost use Rattle.std.specs.Prelude.{◌≡◌, ◌≤◌, ◌⊎◌, ℕ, List, Option, None, Some, true};
-ghost use Rattle.yv_statement.specs.{Codes.{phase_of}, Order.{IsLeast}, declared.refusal.Refusal.{Refusal}, Selection.{ModuleChoice}};
+ghost use Rattle.yv_text_statement.specs.{Codes.{phase_of}, Order.{IsLeast}, declared.refusal.Refusal.{Refusal}, Selection.{ModuleChoice}};
 ghost use Rattle.yv_link_scopes.specs.Files.{Files};
 ghost use Rattle.yv_schema_build.specs.{InnerRefuses.{RefusesByNumber, RefusesBeforeTypesByNumber}, InnerSchema.{AreNumberedNotes, AreNumberedReferences, IsNumberedSchema}, Units.{TakeUnits}, InnerBasis.{leafrefs_of}};
 ghost use Rattle.yv_node_leafrefs.specs.{Schema.{Referral}, Targets.{IsLeafref, RefersTo}};

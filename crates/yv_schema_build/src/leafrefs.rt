@@ -22,7 +22,7 @@ use yv_node_leafrefs::link_laws::{
 use yv_node_leafrefs::{Leafrefs, links};
 use yv_node_statements::Definitions;
 use yv_nodes::{Links, Nodes};
-use yv_statement::Refusal;
+use yv_text_statement::Refusal;
 
 /// Nodes whose leafrefs are resolved where nothing is wrong with these, where the paths of those
 /// lead that require an instance, and the least that is wrong.

@@ -27,6 +27,6 @@ pub use all_referrals::referrals;
 pub use compilation::compile;
 pub use families::{ChildLists, families_of};
 pub use referral_table::Referrals;
-pub use yv_node_definition::{NodeKind, NodeStatus};
+pub use yv_node_content::{NodeKind, NodeStatus};
 pub use yv_nodes::{Node, NodeId};
 pub use yv_schema_tables::{Measures, Schema};

@@ -1,6 +1,6 @@
 //! The modules of files.
 ghost use Rattle.std.specs.{Prelude.{◌≡◌, ◌≤◌, ℕ, [], length, map, IfOk}, Rc.{rc_str_bytes}};
-ghost use Rattle.yv_statement.specs.Selection.{selected_of};
+ghost use Rattle.yv_text_statement.specs.Selection.{selected_of};
 ghost use Rattle.yv_link_scopes.specs.{Files.{Files, tree_name}, Views.{lent_in}};
 ghost use Rattle.yv_expand_tree.specs.FileOrder.{is_given};
 ghost use Rattle.yv_schema_build.specs.{Module.{module_name, modules_of}, InnerModuleNames.{AreModuleNames}};
@@ -10,7 +10,7 @@ use std::alloc::{AllocError, Global};
 use std::rc::RcStr;
 use yv_link_scopes::Rows;
 use yv_schema_tables::Module;
-use yv_statement::{Keyword, Selection, Statement};
+use yv_text_statement::{Keyword, Selection, Statement};
 
 /// The name of each file, which the nodes of its module share.
 #[derive(Drop)]

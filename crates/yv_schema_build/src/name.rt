@@ -1,10 +1,10 @@
 //! The name and the prefix that a statement gives.
 ghost use Rattle.std.specs.{Prelude.{◌≡◌}, Option.{option_map}};
-ghost use Rattle.yv_statement.specs.declared.keyword.Keyword.TheVariants as word;
-ghost use Rattle.yv_statement.specs.Tree.{name_of as name_at};
+ghost use Rattle.yv_text_statement.specs.declared.keyword.Keyword.TheVariants as word;
+ghost use Rattle.yv_text_statement.specs.Tree.{name_of as name_at};
 ghost use Rattle.yv_node_properties.specs.Statements.{argument_of, first_of, is_of};
 
-use yv_statement::Statement;
+use yv_text_statement::Statement;
 use yv_text_grammar::Keyword;
 
 /// The statement's argument, or no text where it has none.

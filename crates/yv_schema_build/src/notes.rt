@@ -1,6 +1,6 @@
 //! The augments of modules that add nodes.
 ghost use Rattle.std.specs.{Prelude.{◌≡◌, ◌<◌, ◌≤◌, All, length, map, option_to_list, IfOk, IfErr, slice_get}, Option.{option_and_then}};
-ghost use Rattle.yv_statement.specs.declared.refusal.Stop.TheVariants.{NoMemory};
+ghost use Rattle.yv_text_statement.specs.declared.refusal.Stop.TheVariants.{NoMemory};
 ghost use Rattle.yv_link_scopes.specs.{Files.{module_file_at}, Views.{files_in, lent_in, rows_in}};
 ghost use Rattle.yv_expand.specs.Tree.{Node};
 ghost use Rattle.yv_expand_tree.specs.FinalTree.{source_at};
@@ -16,7 +16,7 @@ use yv_expand_tree::FinalTree;
 use yv_expand_tree::laws::{given_nodes_stand_below_their_target, no_item_is_left_twice};
 use yv_link_scopes::Rows;
 use yv_schema_tables::AugmentNote;
-use yv_statement::Stop;
+use yv_text_statement::Stop;
 
 // For each node that is left the place of the augment that gives it, if one does.
 fn sources(alloc: Global, tree: &FinalTree) -> Result<Vec<Option<usize>>, AllocError>

@@ -1,6 +1,6 @@
 //! What a schema is made of.
 ghost use Rattle.std.specs.Prelude.{◌≡◌, ◌≤◌, length, IfErr, IfOk};
-ghost use Rattle.yv_statement.specs.{declared.refusal.Stop.TheVariants.{NoMemory}, Selection.{selected_of}};
+ghost use Rattle.yv_text_statement.specs.{declared.refusal.Stop.TheVariants.{NoMemory}, Selection.{selected_of}};
 ghost use Rattle.yv_link_scopes.specs.Views.{lent_in};
 ghost use Rattle.yv_schema_build.specs.{InnerBasis.{NumberedBasis}, Module.{modules_of}, InnerContext.{Tells, TellsOf}, InnerBuild.{AreNames}, InnerParts.{AreParts, AreReady, HaveBasis, IsBasisOf}};
 
@@ -23,7 +23,7 @@ use yv_node_statements::Definitions;
 use yv_nodes::{Links, NodeId, Nodes};
 use yv_schema_tables::laws::{types_leave_forms, types_leave_notes};
 use yv_schema_tables::{AugmentNote, Module};
-use yv_statement::{Refusal, Selection, Stop, lesser};
+use yv_text_statement::{Refusal, Selection, Stop, lesser};
 use yv_types::Types;
 
 /// What a schema is made of, without what it was read from.

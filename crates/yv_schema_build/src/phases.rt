@@ -1,6 +1,6 @@
 //! The compilation of linked files, phase by phase.
 ghost use Rattle.std.specs.Prelude.{◌≡◌, ◌≤◌, length, IfOk, OnOk, Some, None, Err};
-ghost use Rattle.yv_statement.specs.{declared.refusal.Refusal.{Refusal}, declared.refusal.Stop.TheVariants.{Fault, PatternBuild}, Order.{IsLeast}, Selection.{ModuleChoice, selected_of}};
+ghost use Rattle.yv_text_statement.specs.{declared.refusal.Refusal.{Refusal}, declared.refusal.Stop.TheVariants.{Fault, PatternBuild}, Order.{IsLeast}, Selection.{ModuleChoice, selected_of}};
 ghost use Rattle.yv_link_scopes.specs.Files.{Files};
 ghost use Rattle.yv_type_restrictions.specs.Types.{HasTypePattern};
 ghost use Rattle.yv_link_definitions.specs.Meanings.{AreNames};
@@ -26,7 +26,7 @@ use yv_link_features::laws::an_expression_has_one_truth;
 use yv_node_leafrefs::laws::a_tree_is_typed_once;
 use yv_node_statements::laws::{files_have_one_typing, types_tell_typing};
 use yv_schema_tables::Schema;
-use yv_statement::{Selection, Stop};
+use yv_text_statement::{Selection, Stop};
 use yv_types::{Types, types};
 
 /// The schema of linked files in which nothing is refused so far, or the least refusal of the

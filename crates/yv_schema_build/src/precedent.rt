@@ -6,7 +6,7 @@ use crate::copies::{FirstCopies, Original};
 use crate::tree::{Builder, number_at};
 use std::alloc::AllocError;
 use yv_expand::RemainingNode as LeftNode;
-use yv_node_definition::NodeKind;
+use yv_node_content::NodeKind;
 use yv_nodes::{NodeId, Nodes};
 
 // For names up to this length, reading the list's key again is faster than a look-up.

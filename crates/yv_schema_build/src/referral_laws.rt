@@ -1,6 +1,6 @@
 //! Laws about the definitions only. These functions do nothing: the contract of each is the law.
 ghost use Rattle.std.specs.Prelude.{◌≡◌, ◌≢◌, ℕ, slice_get, Some};
-ghost use Rattle.yv_statement.specs.Tree.{Tree};
+ghost use Rattle.yv_text_statement.specs.Tree.{Tree};
 ghost use Rattle.yv_text_grammar.specs.Fits.{Fits};
 ghost use Rattle.yv_link_scopes.specs.Files.{Files};
 ghost use Rattle.yv_expand.specs.declared.origin.Origin.{Origin};

@@ -1,10 +1,10 @@
 //! The nodes of a schema.
 ghost use Rattle.std.specs.{Prelude.{◌≡◌, ◌<◌, ◌≤◌, ◌+◌, [], ◌∷◌, ◌++◌, ◌&&◌, ℕ, All, List, Some, length, IfOk, IfErr, IfSome, OnOk, slice_get, slice_index_or}, Rc.{rc_str_bytes}};
-ghost use Rattle.yv_statement.specs.declared.refusal.Stop.TheVariants.{NoMemory};
+ghost use Rattle.yv_text_statement.specs.declared.refusal.Stop.TheVariants.{NoMemory};
 ghost use Rattle.yv_schema_build.specs.{Families.{lists_of}, InnerBasis.{NumberedBasis, label_at, stated_of}, InnerContext.{IsTold, Tells}, InnerModuleNames.{AreModuleNames}, InnerRows.{AreSeen, IsWithin, line_at, number_at, numbers_at, parent_of, row_of, rows_of_items}};
 ghost use Rattle.yv_expand.specs.Tree.{Node as Left};
 ghost use Rattle.yv_nodes.specs.{Numbers.{numbers_from, rows_from}, Tree.{Label}, Above.{seen_of}, Labels.{has_key_called, label_of}, Member.{row_with}, Rows.{blank_row, rank}};
-ghost use Rattle.yv_node_definition.specs.Kinds.{is_leaf};
+ghost use Rattle.yv_node_content.specs.Kinds.{is_leaf};
 
 use crate::context::Context;
 use crate::copies::FirstCopies;
@@ -12,10 +12,10 @@ use crate::families::families_of;
 use crate::module_names::ModuleNames;
 use std::alloc::{AllocError, Global};
 use yv_expand::RemainingNode as LeftNode;
-use yv_node_definition::Definition;
+use yv_node_content::Definition;
 use yv_nodes::{Above, Node, NodeId, NodePlace, Nodes};
 use yv_schema_tables::Schema;
-use yv_statement::Stop;
+use yv_text_statement::Stop;
 
 /// The nodes of a final tree, numbered, and the numbers of those at the top.
 #[derive(Drop)]

@@ -3,8 +3,8 @@ use Rattle.std.proofs.Common.{◌≡◌, ℕ, ◌+◌, ◌<◌, ◌≤◌, List,
 use Rattle.std.specs.List.{AllByRecursion, slice_index_or}
 use Rattle.std.proofs.lemmas.List.{map-append}
 use Rattle.std.proofs.lemmas.List.Elements.{All-from_recursion}
-use Rattle.yv_node_definition.specs.Kinds.{is_case, is_choice, is_data, is_passed}
-use Rattle.yv_node_definition.specs.declared.kind.NodeKind.{NodeKind}
+use Rattle.yv_node_content.specs.Kinds.{is_case, is_choice, is_data, is_passed}
+use Rattle.yv_node_content.specs.declared.kind.NodeKind.{NodeKind}
 use Rattle.yv_nodes.specs.declared.node.NodeId.{NodeId}
 use Rattle.yv_nodes.specs.Tree.{count, Forest, Label, labels, no_trees, node, tree}
 use Rattle.yv_nodes.specs.Numbers.{numbers_from}
@@ -14,7 +14,7 @@ use Rattle.yv_schema_tables.specs.DataChildren.{opened_from, opened_trees}
 use Rattle.yv_schema_tables.specs.DuplicateNodes.{family, names_that_differ}
 use Rattle.yv_schema_tables.specs.InnerSits.{HaveTrees, Sits, inside_of, pick_trees, told_from, told_of}
 use Rattle.yv_schema_tables.specs.InnerTables.{labels_at}
-use Rattle.yv_schema_tables.proofs.Sitting.{inside_have, kids_sit, others_sit, picked_have, room_of, row_first, told_have}
+use Rattle.yv_schema_tables.proofs.PickedTrees.{inside_have, kids_sit, others_sit, picked_have, room_of, row_first, told_have}
 
 -- numbers from the first of these on, and below the second
 abbrev pub AreWithin : ℕ → ℕ → List NodeId → Type 0

@@ -6,8 +6,8 @@ use Rattle.std.proofs.lemmas.Option.{get_or_from_slice_get, same_Some, slice_get
 use Rattle.yv_nodes.specs.Rows.{Row, blank_row}
 use Rattle.yv_schema_tables.specs.declared.names.NameTable.{NameTable}
 use Rattle.yv_schema_tables.specs.InnerNames.{HaveNumbers, AreOfNodes, names_of, number_in, with_name}
-use Rattle.yv_schema_tables.proofs.Doubling.{append_cases}
-use Rattle.yv_schema_tables.proofs.Naming.{names_more, number_stays}
+use Rattle.yv_schema_tables.proofs.SiblingNamesakes.{append_cases}
+use Rattle.yv_schema_tables.proofs.NameNumbers.{names_more, number_stays}
 
 module _ (rows : List Row) where
   abbrev name_at : ℕ → List ℕ

@@ -3,7 +3,7 @@
 -- notifications aren't data nodes (sections 7.14 to 7.16), so that no member of a document names
 -- one, or what is in it.
 use Rattle.std.specs.Prelude.{ℕ, ◌+◌, List, [], ◌∷◌, ◌++◌, if◌then◌else◌}
-use Rattle.yv_node_definition.specs.Kinds.{is_data, is_passed}
+use Rattle.yv_node_content.specs.Kinds.{is_data, is_passed}
 use Rattle.yv_nodes.specs.declared.node.NodeId.{NodeId}
 use Rattle.yv_nodes.specs.Tree.{count, Forest, no_trees, node, tree}
 use Rattle.yv_schema_tables.specs.Groups.{join}

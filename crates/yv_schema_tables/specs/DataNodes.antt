@@ -1,6 +1,6 @@
 -- The data nodes of a schema, by number (RFC 7950, section 3).
 use Rattle.std.specs.Prelude.{ℕ, ◌+◌, List, [], ◌∷◌, if◌then◌else◌}
-use Rattle.yv_node_definition.specs.Kinds.{is_data}
+use Rattle.yv_node_content.specs.Kinds.{is_data}
 use Rattle.yv_nodes.specs.declared.node.NodeId.{NodeId}
 use Rattle.yv_nodes.specs.Rows.{Row}
 

@@ -1,10 +1,10 @@
 -- Nodes that are refused, since an earlier one has their name.
 use Rattle.std.specs.Prelude.{◌≡◌, ◌<◌, ◌⊎◌, ℕ, List, [], ◌∷◌, ◌++◌, length, Some, slice_get, if◌then◌else◌}
-use Rattle.yv_statement.specs.declared.refusal.Refusal.{Refusal}
-use Rattle.yv_statement.specs.declared.refusal.Code.TheVariants as code
-use Rattle.yv_statement.specs.Order.{Among, Stands}
-use Rattle.yv_node_definition.specs.declared.kind.NodeKind.{NodeKind}
-use Rattle.yv_node_definition.specs.Kinds.{is_case, is_choice, is_passed}
+use Rattle.yv_text_statement.specs.declared.refusal.Refusal.{Refusal}
+use Rattle.yv_text_statement.specs.declared.refusal.Code.TheVariants as code
+use Rattle.yv_text_statement.specs.Order.{Among, Stands}
+use Rattle.yv_node_content.specs.declared.kind.NodeKind.{NodeKind}
+use Rattle.yv_node_content.specs.Kinds.{is_case, is_choice, is_passed}
 use Rattle.yv_nodes.specs.Places.{places}
 use Rattle.yv_nodes.specs.Refusals.{refusal_of}
 use Rattle.yv_nodes.specs.Tree.{Forest, Label, labels, no_trees, node, tree}

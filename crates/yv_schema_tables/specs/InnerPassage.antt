@@ -1,6 +1,6 @@
 -- Only private clauses cite this: what nodes measure, one after the other.
 use Rattle.std.specs.Prelude.{◌+◌, length, max, ◌||◌, if◌then◌else◌}
-use Rattle.yv_node_definition.specs.Kinds.{is_list, is_operation_or_notification}
+use Rattle.yv_node_content.specs.Kinds.{is_list, is_operation_or_notification}
 use Rattle.yv_nodes.specs.Defaults.{width}
 use Rattle.yv_nodes.specs.Tree.{Label, Forest}
 use Rattle.yv_schema_tables.specs.Measures.{greatest, is_container, is_open, count_met, met_below, types_of, uniques_of}

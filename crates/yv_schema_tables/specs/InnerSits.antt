@@ -1,6 +1,6 @@
 -- Only private clauses cite this: trees whose rows are among others.
 use Rattle.std.specs.Prelude.{◌≡◌, ℕ, ◌+◌, List, [], ◌∷◌, ◌++◌, length, if◌then◌else◌}
-use Rattle.yv_node_definition.specs.Kinds.{is_case, is_passed}
+use Rattle.yv_node_content.specs.Kinds.{is_case, is_passed}
 use Rattle.yv_nodes.specs.declared.node.NodeId.{NodeId}
 use Rattle.yv_nodes.specs.Tree.{count, Forest, Label, no_trees, node, tree}
 use Rattle.yv_nodes.specs.Numbers.{numbers_from, rows_below}

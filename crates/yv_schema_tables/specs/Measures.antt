@@ -1,8 +1,8 @@
 -- What a schema measures: the numbers by which the steps of a validation are bounded.
 use Rattle.std.specs.Prelude.{ℕ, ◌+◌, length, max, Bool, true, false, not, ◌&&◌, ◌||◌, if◌then◌else◌}
-use Rattle.yv_node_definition.specs.declared.kind.NodeKind.{NodeKind}
-use Rattle.yv_node_definition.specs.declared.kind.NodeKind.TheVariants as kind
-use Rattle.yv_node_definition.specs.Kinds.{is_list, is_operation_or_notification, is_passed}
+use Rattle.yv_node_content.specs.declared.kind.NodeKind.{NodeKind}
+use Rattle.yv_node_content.specs.declared.kind.NodeKind.TheVariants as kind
+use Rattle.yv_node_content.specs.Kinds.{is_list, is_operation_or_notification, is_passed}
 use Rattle.yv_nodes.specs.Defaults.{width}
 use Rattle.yv_nodes.specs.Tree.{Label, Forest, no_trees, tree, node}
 use Rattle.yv_schema_tables.specs.declared.measures.Measures.{Measures}

@@ -1,7 +1,7 @@
 -- What holds of every schema, and what a JSON member means in it.
 use Rattle.std.specs.Prelude.{◌≡◌, ◌≢◌, ◌≤◌, ◌<◌, ℕ, List, [], ◌∷◌, length, All, Bool, true, false, not, ◌||◌, Option, Some, None, if◌then◌else◌, slice_get}
 use Rattle.std.specs.Str.{bytes_eq}
-use Rattle.yv_node_definition.specs.Kinds.{is_data, is_passed}
+use Rattle.yv_node_content.specs.Kinds.{is_data, is_passed}
 use Rattle.yv_nodes.specs.declared.node.NodeId.{NodeId}
 use Rattle.yv_nodes.specs.Link.{AreLinked, reference_in}
 use Rattle.yv_nodes.specs.Tree.{Forest, Label, labels, no_trees, node, tree}

@@ -1,10 +1,10 @@
 //! The nodes below one parent, with choices and cases opened.
 ghost use Rattle.std.specs.Prelude.{◌≡◌, ◌++◌, [], ◌∷◌, not, true, IfOk, OnOk, if◌then◌else◌};
-ghost use Rattle.yv_node_definition.specs.Kinds.{is_case, is_data};
+ghost use Rattle.yv_node_content.specs.Kinds.{is_case, is_data};
 ghost use Rattle.yv_schema_tables.specs.InnerSits.{HaveTrees, inner_of, inside_of, told_of};
 
 use std::alloc::{AllocError, Global};
-use yv_node_definition::NodeKind;
+use yv_node_content::NodeKind;
 use yv_nodes::{Node, NodeId, Nodes};
 
 /// Numbers of the nodes below one parent, those in its choices and cases among them, in order.

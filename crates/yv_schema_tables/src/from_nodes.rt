@@ -1,6 +1,6 @@
 //! From numbered nodes to their schema.
 ghost use Rattle.std.specs.Prelude.{◌≡◌, ◌≢◌, All, IfOk, OnOk, Some, None, Err};
-ghost use Rattle.yv_statement.specs.{declared.refusal.Refusal.{Refusal}, declared.refusal.Stop.TheVariants.{Fault, PatternBuild}, Order.{IsLeast}};
+ghost use Rattle.yv_text_statement.specs.{declared.refusal.Refusal.{Refusal}, declared.refusal.Stop.TheVariants.{Fault, PatternBuild}, Order.{IsLeast}};
 ghost use Rattle.yv_nodes.specs.{Tree.{Forest}, Numbers.{numbers_from, rows_from}, Rows.{whole}};
 ghost use Rattle.yv_schema_tables.specs.{Bad.{BadRows}, NodeNumbers.{AreModules, AreNumbered, made_of}, Sound.{IsNote}};
 
@@ -14,7 +14,7 @@ use std::alloc::Global;
 use yv_node_keys::laws::targets_are_leafs;
 use yv_node_keys::leaf_targets;
 use yv_nodes::{Links, NodeId, Nodes};
-use yv_statement::{Stop, lesser};
+use yv_text_statement::{Stop, lesser};
 
 impl Schema {
     /// The schema of numbered nodes of these modules, with the numbers of those at the top, or the

@@ -1,11 +1,11 @@
 //! The numbers by which the steps of a validation are bounded.
 ghost use Rattle.std.specs.Prelude.{◌≡◌, ◌<◌, ◌≤◌, ◌+◌, ◌*◌, ◌^◌, ◌||◌, length, if◌then◌else◌};
-ghost use Rattle.yv_node_definition.specs.Kinds.{is_list};
+ghost use Rattle.yv_node_content.specs.Kinds.{is_list};
 ghost use Rattle.yv_nodes.specs.{Tree.{count}, Rows.{below, rank, whole}};
 ghost use Rattle.yv_schema_tables.specs.{Measures.{is_container, is_open, measures_of}, InnerPassage.{beside, one_of, passage_of}};
 
 use crate::schema::Schema;
-use yv_node_definition::NodeKind;
+use yv_node_content::NodeKind;
 use yv_nodes::{Node, NodeId};
 
 /// What a schema measures. A validation takes no more steps than these and the size of a document

@@ -1,16 +1,16 @@
 //! The families of nodes below one parent.
 ghost use Rattle.std.specs.Prelude.{◌≡◌, ◌<◌, All, length, IfOk, Some};
-ghost use Rattle.yv_statement.specs.Order.{IsLeast};
-ghost use Rattle.yv_node_definition.specs.Kinds.{is_choice};
+ghost use Rattle.yv_text_statement.specs.Order.{IsLeast};
+ghost use Rattle.yv_node_content.specs.Kinds.{is_choice};
 ghost use Rattle.yv_schema_tables.specs.{DuplicateNodes.{names_that_differ}, InnerNames.{AreOfNodes}, InnerSits.{HaveTrees, family_in, inside_of, pick_trees}, InnerTables.{IsDirectory, IsOfRow, Namesakes, labels_at}};
 
 use crate::data_children::{DataChildren, are_data, is_case};
 use crate::directory::Directory;
 use crate::member::{Member, front_of};
 use std::alloc::{AllocError, Global};
-use yv_node_definition::NodeKind;
+use yv_node_content::NodeKind;
 use yv_nodes::{Node, NodeId, Nodes};
-use yv_statement::{Code, Refusal, lesser};
+use yv_text_statement::{Code, Refusal, lesser};
 
 /// What members name below one parent, and the least refusal of a node whose module and name an
 /// earlier one has.

@@ -1,13 +1,13 @@
 //! The directories of all nodes.
 ghost use Rattle.std.specs.Prelude.{◌≡◌, All, length, IfOk};
-ghost use Rattle.yv_statement.specs.Order.{Among, IsLeast};
+ghost use Rattle.yv_text_statement.specs.Order.{Among, IsLeast};
 ghost use Rattle.yv_schema_tables.specs.{InnerTables.{AreDirectories, Namesakes}, InnerNames.{AreOfNodes}, InnerSits.{HaveTrees, family_in}};
 
 use crate::directory::Directory;
 use crate::table::Family;
 use std::alloc::{AllocError, Global};
 use yv_nodes::Nodes;
-use yv_statement::{Refusal, lesser};
+use yv_text_statement::{Refusal, lesser};
 
 /// A directory for each node, empty for choices and cases, and the least refusal of a node that has
 /// the module and the name of an earlier one below one parent.

@@ -1,10 +1,10 @@
 -- The machine takes what the grammar spells.
 use Rattle.std.proofs.Common.{◌≡◌, ℕ, ◌+◌, ◌<◌, ◌≤◌, Bool, true, cond, List, [], ◌∷◌, ◌++◌, length, Option, Some, None, nat_lt, refl, sym, ◌∙◌, ap, inl, inr, arith, append_assoc}
-use Rattle.yv_statement.specs.Tree.{Head, Forest, End, Then, Tree}
+use Rattle.yv_text_statement.specs.Tree.{Head, Forest, End, Then, Tree}
 use Rattle.yv_source.specs.Pieces.{Piece, Blank, LineComment, BlockComment, Word, Single, Double, Semicolon, Open, Close, Plus, Token}
 use Rattle.yv_source.specs.Grammar.{IsHead, Says, IsJoined, IsArgument, IsBody, Spells, SpellsOne, depth}
 use Rattle.yv_source.specs.Inner.Machine.{is_keyword, Step, Next, Wrong, Deep, finish, between, after_argument, after_quoted, after_plus, after_keyword, step, run_tokens}
-use Rattle.yv_statement.specs.Builder.{join_forests, push_child, with_argument, with_more, extend}
+use Rattle.yv_text_statement.specs.Builder.{join_forests, push_child, with_argument, with_more, extend}
 use Rattle.yv_source.specs.Place.{column_of}
 use Rattle.yv_source.specs.declared.machine.Phase.{Phase}
 use Rattle.yv_source.specs.declared.machine.Phase.TheVariants.{Between, Named, Argued, Said, Joined, Done}

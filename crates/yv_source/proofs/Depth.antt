@@ -1,10 +1,10 @@
 -- The limit keeps, and any state is that of the front of a statement.
 use Rattle.std.proofs.Common.{◌≡◌, ℕ, ◌+◌, ◌<◌, ◌≤◌, max, Bool, true, false, cond, List, [], ◌∷◌, ◌++◌, length, nat_lt, refl, sym, ap, subst, arith}
-use Rattle.yv_statement.specs.Tree.{Forest, End, Then, Tree}
+use Rattle.yv_text_statement.specs.Tree.{Forest, End, Then, Tree}
 use Rattle.yv_source.specs.Pieces.{Piece, Blank, LineComment, BlockComment, Word, Single, Double, Semicolon, Open, Close, Plus, Token}
 use Rattle.yv_source.specs.Grammar.{depth, GoesWithin}
 use Rattle.yv_source.specs.Inner.Machine.{is_keyword, Step, Next, Wrong, Deep, leaf, finish, close, between, give_word, give_quoted, after_argument, after_quoted, after_plus, after_keyword, step, run_tokens}
-use Rattle.yv_statement.specs.Builder.{join_forests, push_child, with_more}
+use Rattle.yv_text_statement.specs.Builder.{join_forests, push_child, with_more}
 use Rattle.yv_source.specs.Place.{column_of}
 use Rattle.yv_source.specs.Quotes.{quoted_value}
 use Rattle.yv_source.specs.declared.machine.Phase.{Phase}

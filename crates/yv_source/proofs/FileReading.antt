@@ -2,10 +2,10 @@
 use Rattle.std.proofs.Common.{◌≡◌, ℕ, zero, suc, ◌<◌, ◌≤◌, ◌+◌, List, [], ◌∷◌, ◌++◌, length, length-append, add-one, map, get_or, take, Result, Ok, Err, subst, sym, ap, refl, arith, take_all, Some, inl, inr}
 use Rattle.std.specs.List.{AllZip, slice_get}
 use Rattle.std.proofs.lemmas.Option.{slice_get_within}
-use Rattle.yv_statement.specs.Tree.{Tree}
-use Rattle.yv_statement.specs.declared.refusal.Refusal.{Refusal}
+use Rattle.yv_text_statement.specs.Tree.{Tree}
+use Rattle.yv_text_statement.specs.declared.refusal.Refusal.{Refusal}
 use Rattle.yv_source.specs.Answer.{IsBadFile, IsSpelled, IsRefused}
-use Rattle.yv_streams.specs.Files.{File}
+use Rattle.yv_base_streams.specs.Files.{File}
 use Rattle.yv_source.specs.Texts.{IsText, IsNoText, SpellsNone}
 use Rattle.yv_source.specs.FileStatements.{IsRead, IsUnreadAt, in_file}
 

@@ -3,7 +3,7 @@ use Rattle.std.proofs.Common.{◌≡◌, ℕ, zero, suc, get_or, ◌+◌, ◌-�
 use Rattle.std.specs.Prelude.{count_by}
 use Rattle.std.specs.List.{list_all}
 use Rattle.std.proofs.lemmas.List.{drop_more, drop-drop, take_rest}
-use Rattle.yv_statement.specs.Tree.{Tree}
+use Rattle.yv_text_statement.specs.Tree.{Tree}
 use Rattle.yv_source.specs.Pieces.{LineComment, BlockComment, slice, is_blank, Before, Apart, UnquotedWord, QuotedText, past_gap}
 use Rattle.yv_source.specs.Place.{columns, column_past}
 use Rattle.yv_source.specs.Inner.Place.{Place, place_at}
@@ -20,7 +20,7 @@ use Rattle.yv_source.specs.declared.scan.FoundPiece.{FoundPiece}
 use Rattle.yv_source.specs.declared.scan.FoundPiece.TheVariants as found
 use Rattle.yv_source.proofs.Keyword.{and_first, and_second}
 use Rattle.yv_source.proofs.Meaning.{Means, MeansAhead, means}
-use Rattle.yv_source.proofs.Reading.{place_after, count-cons}
+use Rattle.yv_source.proofs.ReadProgress.{place_after, count-cons}
 use Rattle.yv_source.proofs.Loop.{Reads, settled, read_on, read_to, bad_bound}
 
 passed_none : (p : Place) → place_after p [] ≡ p

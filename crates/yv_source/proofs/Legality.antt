@@ -16,10 +16,10 @@ use Rattle.yv_source.specs.Inner.Plain.{is_common}
 use Rattle.std.specs.List.{list_all}
 use Rattle.std.specs.Prelude.{IsTrue, IsFalse, ◌↔◌, Result, Err}
 use Rattle.std.proofs.Common.{lit<, subst, inl, inr}
-use Rattle.yv_statement.specs.declared.refusal.Code.TheVariants as code
-use Rattle.yv_statement.specs.declared.refusal.Refusal.{Refusal}
-use Rattle.yv_statement.specs.declared.refusal.Stop.{Stop}
-use Rattle.yv_statement.specs.declared.refusal.Stop.TheVariants.{Fault}
+use Rattle.yv_text_statement.specs.declared.refusal.Code.TheVariants as code
+use Rattle.yv_text_statement.specs.declared.refusal.Refusal.{Refusal}
+use Rattle.yv_text_statement.specs.declared.refusal.Stop.{Stop}
+use Rattle.yv_text_statement.specs.declared.refusal.Stop.TheVariants.{Fault}
 use Rattle.yv_source.specs.Legal.{is_legal, most_bytes, IsIllegalAt}
 use Rattle.yv_source.specs.Answer.{refusal_in, IsBadFile}
 use Rattle.yv_source.proofs.Keyword.{false_true, and_first, and_second}

@@ -6,11 +6,11 @@ use Rattle.std.proofs.lemmas.List.{take-append-drop, length-take}
 use Rattle.std.proofs.lemmas.Str.{IsCharBoundary-past_char, IsUtf8-drop}
 use Rattle.std.proofs.lemmas.Bool.{eqb-true}
 use lib.Utf8.{encode}
-use Rattle.yv_statement.specs.Tree.{Tree}
-use Rattle.yv_statement.specs.declared.refusal.Code.{Code}
-use Rattle.yv_statement.specs.declared.refusal.Code.TheVariants as code
-use Rattle.yv_statement.specs.declared.refusal.Stop.{Stop}
-use Rattle.yv_statement.specs.declared.refusal.Stop.TheVariants.{Fault}
+use Rattle.yv_text_statement.specs.Tree.{Tree}
+use Rattle.yv_text_statement.specs.declared.refusal.Code.{Code}
+use Rattle.yv_text_statement.specs.declared.refusal.Code.TheVariants as code
+use Rattle.yv_text_statement.specs.declared.refusal.Stop.{Stop}
+use Rattle.yv_text_statement.specs.declared.refusal.Stop.TheVariants.{Fault}
 use Rattle.yv_source.specs.Pieces.{Piece, Blank, LineComment, BlockComment, Word, Single, Double, Semicolon, Open, Close, Plus, slice, Before, Apart, MayStand}
 use Rattle.yv_source.specs.Place.{mark_len, line_of, columns, column_of}
 use Rattle.yv_source.specs.Outcome.{Outcome, ComesTo, BadToken, BadSyntax, TooDeep, BadEscape, Statement}
@@ -33,7 +33,7 @@ use Rattle.yv_source.specs.declared.scan.Ahead.TheVariants as ahead
 use Rattle.yv_source.specs.declared.scan.FoundPiece.{FoundPiece}
 use Rattle.yv_source.proofs.Keyword.{and_first, and_second}
 use Rattle.yv_source.proofs.Meaning.{MeansAhead, means}
-use Rattle.yv_source.proofs.Reading.{place_after, ReadsTo, spelling, spelled_by, HasMark}
+use Rattle.yv_source.proofs.ReadProgress.{place_after, ReadsTo, spelling, spelled_by, HasMark}
 use Rattle.yv_source.proofs.Turns.{Looks, looks}
 use Rattle.yv_source.proofs.Outcomes as outcomes
 

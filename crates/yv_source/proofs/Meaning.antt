@@ -11,7 +11,7 @@ use Rattle.yv_source.specs.declared.scan.Ahead.TheVariants as ahead
 use Rattle.yv_source.specs.declared.scan.FoundPiece.{FoundPiece}
 use Rattle.yv_source.specs.declared.scan.FoundPiece.TheVariants as found
 use Rattle.yv_source.proofs.Keyword.{false_true}
-use Rattle.yv_source.proofs.Cutting.{may_begin, IsFirst, complete, untests}
+use Rattle.yv_source.proofs.FirstPiece.{may_begin, IsFirst, complete, untests}
 use Rattle.yv_source.proofs.Until.{not_equal}
 use Rattle.yv_source.proofs.Accepts.{append_nil}
 

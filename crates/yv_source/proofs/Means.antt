@@ -1,10 +1,10 @@
 -- What the machine has read begins a statement.
 use Rattle.std.proofs.Common.{◌≡◌, ℕ, Bool, true, false, cond, List, [], ◌∷◌, ◌++◌, length, Option, Some, None, nat_lt, refl, sym, ◌∙◌, ap, subst, inl, inr, append_assoc}
-use Rattle.yv_statement.specs.Tree.{Forest, End, Then, Tree}
+use Rattle.yv_text_statement.specs.Tree.{Forest, End, Then, Tree}
 use Rattle.yv_source.specs.Pieces.{Piece, Blank, LineComment, BlockComment, Word, Single, Double, Semicolon, Open, Close, Plus, Token}
 use Rattle.yv_source.specs.Grammar.{IsHead, Says, IsJoined, IsArgument, IsBody, Spells, SpellsOne}
 use Rattle.yv_source.specs.Inner.Machine.{is_keyword, Step, Next, Wrong, Deep, finish, close, between, give_word, give_quoted, after_argument, after_quoted, after_plus, after_keyword, step, run_tokens}
-use Rattle.yv_statement.specs.Builder.{join_forests, extend}
+use Rattle.yv_text_statement.specs.Builder.{join_forests, extend}
 use Rattle.yv_source.specs.Place.{column_of}
 use Rattle.yv_source.specs.Quotes.{quoted_value}
 use Rattle.yv_source.specs.declared.machine.Phase.{Phase}

@@ -1,13 +1,13 @@
 -- Statements stand in the order of their offsets.
 use Rattle.std.proofs.Common.{◌≡◌, ℕ, ◌+◌, ◌≤◌, List, [], ◌∷◌, ◌++◌, length, sym, ap, subst, inl, inr, arith, length-append, Result, Ok, Err}
 use Rattle.std.specs.Prelude.{IfOk}
-use Rattle.yv_statement.specs.Tree.{Forest, End, Then, Tree}
+use Rattle.yv_text_statement.specs.Tree.{Forest, End, Then, Tree}
 use Rattle.yv_source.specs.Pieces.{Piece, Blank, LineComment, BlockComment, Word, Single, Double, Semicolon, Open, Close, Plus, slice, Before, Apart, past, Cuts, Token, token, tokens}
 use Rattle.yv_source.specs.Grammar.{Spells}
 use Rattle.yv_source.specs.Outcome.{ComesTo, Statement}
-use Rattle.yv_statement.specs.Offsets.{offsets, Ascends, IsInOrder}
+use Rattle.yv_text_statement.specs.Offsets.{offsets, Ascends, IsInOrder}
 use Rattle.yv_source.specs.Inner.End.{Comes}
-use Rattle.yv_statement.specs.declared.refusal.Stop.{Stop}
+use Rattle.yv_text_statement.specs.declared.refusal.Stop.{Stop}
 use Rattle.yv_source.proofs.Loop.{not_empty}
 
 -- tokens in order, from a place to another

@@ -1,6 +1,6 @@
 -- What a text comes to, where the reader stops.
 use Rattle.std.proofs.Common.{◌≡◌, ℕ, ◌+◌, ◌-◌, ◌≤◌, List, [], ◌∷◌, ◌++◌, length, Option, Some, None, sym, ◌∙◌, ap, subst, inl, inr, arith, length-append}
-use Rattle.yv_statement.specs.Tree.{Tree}
+use Rattle.yv_text_statement.specs.Tree.{Tree}
 use Rattle.yv_source.specs.Pieces.{slice, Before, Apart, MayStand, behind, IsUncut, Token, token, tokens}
 use Rattle.yv_source.specs.Grammar.{depth, SpellsOne, Goes, GoesWithin}
 use Rattle.yv_source.specs.Escapes.{IsNewer}
@@ -16,7 +16,7 @@ use Rattle.yv_source.specs.declared.machine.Phase.{Phase}
 use Rattle.yv_source.specs.declared.machine.Phase.TheVariants.{Between, Named, Argued, Said, Joined, Done}
 use Rattle.yv_source.specs.declared.scan.Before.{Before as Left}
 use Rattle.yv_source.specs.declared.scan.FoundPiece.{FoundPiece}
-use Rattle.yv_source.proofs.Reading.{place_after, ReadsTo, spelling, spelled_by, tokens-append, tokens_one, advances}
+use Rattle.yv_source.proofs.ReadProgress.{place_after, ReadsTo, spelling, spelled_by, tokens-append, tokens_one, advances}
 use Rattle.yv_source.proofs.Turns.{Looks}
 use Rattle.yv_source.proofs.Verdict.{Stands, goes_so_far, goes_no_further, goes_too_deep, deep_goes, spelled_end, done_end, behind_all}
 

@@ -3,7 +3,7 @@ use Rattle.std.proofs.Common.{◌≡◌, ℕ, suc, ◌+◌, ◌-◌, ◌<◌, �
 use Rattle.std.proofs.lemmas.Bool.{eqb-true, or_cases, cases_Bool}
 use Rattle.std.proofs.lemmas.Slice.Eq.{bytes_eq-Decides}
 use Rattle.std.specs.Prelude.{bytes_eq}
-use Rattle.yv_statement.specs.Tree.{Forest, End, Then, trees}
+use Rattle.yv_text_statement.specs.Tree.{Forest, End, Then, trees}
 use Rattle.yv_source.specs.Pieces.{Piece, Blank, LineComment, BlockComment, Word, Single, Double, Semicolon, Open, Close, Plus, Token, token}
 use Rattle.yv_source.specs.Escapes.{is_escape, begins_escape, all_pairs_good, IsBadPair}
 use Rattle.yv_source.specs.Escapes.{inside_double, HasNoBadPair, HasBadPair, IsNewer, yang_version, newer}
@@ -12,7 +12,7 @@ use Rattle.yv_source.proofs.Accepts.{append_nil}
 use Rattle.yv_source.proofs.Keyword.{false_true, and_first, and_second}
 use Rattle.std.proofs.lemmas.List.{drop-drop, drop_all, length-drop}
 use Rattle.yv_source.specs.Pieces.{begins, until}
-use Rattle.yv_source.proofs.Built.{length-until}
+use Rattle.yv_source.proofs.MachineViews.{length-until}
 use Rattle.yv_source.proofs.Until.{stopped}
 
 abbrev pub IsFirstBad : Option ℕ → List Token → Type 0

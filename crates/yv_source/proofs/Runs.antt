@@ -19,7 +19,7 @@ use Rattle.yv_source.specs.Escapes.{is_escape}
 use Rattle.yv_source.specs.Inner.Writer.{TakesEach, BeginsEscape, escape_bytes, is_ascii, take_each, WriterState, take_in, trail, all_of, fresh, is_in_run, ends_well, is_at_rest, with_run, Runs}
 use Rattle.yv_source.proofs.Accepts.{append_nil}
 use Rattle.yv_source.proofs.Keyword.{false_true, and_first, and_second}
-use Rattle.yv_source.proofs.Writing.{AllGap, is_gap_means, gap_ascii, read, crs, value, other_breaks, other_stays, lead, takes, ends, lead_lines, first_stays}
+use Rattle.yv_source.proofs.WriterOutput.{AllGap, is_gap_means, gap_ascii, read, crs, value, other_breaks, other_stays, lead, takes, ends, lead_lines, first_stays}
 
 -- what is true of each byte is true of each character
 pub chars_pass : (p : ℕ → Bool) → ((c : ℕ) → 128 ≤ c → p c ≡ true) → (cs : List ℕ) → list_all p (encode_utf8_all cs) ≡ true → list_all p cs ≡ true

@@ -1,8 +1,8 @@
 -- The innermost open statement, which is the last of the stack and the first of its reverse.
 use Rattle.std.proofs.Common.{◌≡◌, ℕ, zero, suc, ◌-◌, ◌<◌, List, [], ◌∷◌, ◌++◌, length, slice_set, slice_index_or, refl, sym, ap, ◌∙◌, arith}
 use Rattle.std.specs.Prelude.{reverse}
-use Rattle.yv_statement.specs.Tree.{Tree}
-use Rattle.yv_statement.specs.Builder.{push_child, with_argument, with_more}
+use Rattle.yv_text_statement.specs.Tree.{Tree}
+use Rattle.yv_text_statement.specs.Builder.{push_child, with_argument, with_more}
 use Rattle.yv_source.specs.Inner.Machine.{Next, give_word, give_quoted, finish}
 use Rattle.yv_source.specs.declared.machine.Phase.TheVariants.{Argued, Said, Between}
 use Rattle.std.proofs.lemmas.List.{reverse-append}

@@ -3,7 +3,7 @@ use Rattle.std.proofs.Common.{◌≡◌, ℕ, ◌+◌, ◌<◌, Bool, true, List
 use Rattle.std.specs.Prelude.{IsUtf8, IsCharBoundary}
 use Rattle.std.proofs.Math.Seq.{take-append_seam, drop-append_seam}
 use Rattle.std.proofs.lemmas.Str.{IsCharBoundary-at_seam}
-use Rattle.yv_statement.specs.Tree.{Tree}
+use Rattle.yv_text_statement.specs.Tree.{Tree}
 use Rattle.yv_source.specs.Pieces.{Piece, Blank, LineComment, BlockComment, Word, Single, Double, Semicolon, Open, Close, Plus, slice, until, begins, ends_word, Before, past, MayStand, token}
 use Rattle.yv_source.specs.Inner.Machine.{Next, step_at, run_tokens}
 use Rattle.yv_source.specs.Inner.Place.{Place, place_of}
@@ -12,7 +12,7 @@ use Rattle.yv_source.specs.Inner.Pairs.{bad_found, bad_on}
 use Rattle.yv_source.specs.declared.machine.Phase.{Phase}
 use Rattle.yv_source.specs.declared.scan.FoundPiece.{FoundPiece}
 use Rattle.yv_source.specs.declared.scan.FoundPiece.TheVariants as found
-use Rattle.yv_source.proofs.Cutting.{from_stops, from_behind}
+use Rattle.yv_source.proofs.FirstPiece.{from_stops, from_behind}
 use Rattle.yv_source.proofs.Meaning.{cons_empty, Means, Begins, AsciiHead, seam_utf8, tail_utf8, blank_ascii, word_head, is_ascii}
 
 -- what a stop says of what is left

@@ -1,21 +1,21 @@
 -- A text comes to one outcome at most.
 use Rattle.std.proofs.Common.{◌≡◌, ℕ, ◌+◌, ◌-◌, List, [], ◌∷◌, ◌++◌, length, Some, None, refl, sym, ◌∙◌, ap, subst, inl, inr, ◌⊎◌, arith, append_assoc, length-append}
-use Rattle.yv_statement.specs.Tree.{Tree}
+use Rattle.yv_text_statement.specs.Tree.{Tree}
 use Rattle.yv_source.specs.Pieces.{Piece, slice, Before, Apart, past, MayStand, Cuts, behind, Token, tokens}
 use Rattle.yv_source.specs.Grammar.{SpellsOne, Goes, GoesWithin}
 use Rattle.yv_source.specs.Escapes.{IsNewer}
 use Rattle.yv_source.specs.Outcome.{Outcome, Statement, BadToken, BadSyntax, TooDeep, BadEscape, ComesTo, Why, StandsAt}
 use Rattle.yv_source.specs.Inner.Scan.{First, first}
 use Rattle.yv_source.proofs.Pairs.{one_escape, not_both}
-use Rattle.yv_source.proofs.Cutting.{complete}
-use Rattle.yv_source.proofs.Reading.{tokens-append}
+use Rattle.yv_source.proofs.FirstPiece.{complete}
+use Rattle.yv_source.proofs.ReadProgress.{tokens-append}
 use Rattle.yv_source.proofs.Verdict.{one_statement}
 use Rattle.yv_source.proofs.Loop.{not_empty}
 use Rattle.yv_source.specs.Answer.{IsSpelled, IsRefused, IsRefusalOf}
 use Rattle.yv_source.specs.Inner.End.{Comes}
-use Rattle.yv_statement.specs.declared.refusal.Refusal.{Refusal}
-use Rattle.yv_statement.specs.declared.refusal.Stop.{Stop}
-use Rattle.yv_statement.specs.declared.refusal.Stop.TheVariants.{Fault, PatternBuild, NoMemory}
+use Rattle.yv_text_statement.specs.declared.refusal.Refusal.{Refusal}
+use Rattle.yv_text_statement.specs.declared.refusal.Stop.{Stop}
+use Rattle.yv_text_statement.specs.declared.refusal.Stop.TheVariants.{Fault, PatternBuild, NoMemory}
 use Rattle.std.proofs.Common.{Result, Ok, Err}
 
 -- the first piece and what is left are one

@@ -7,7 +7,7 @@ use Rattle.yv_source.proofs.Keyword.{false_true}
 use Rattle.std.proofs.lemmas.Bool.Decides.{eqb_tells}
 use Rattle.std.proofs.Common.{inl, inr}
 use Rattle.std.proofs.lemmas.Bool.{eqb-true}
-use Rattle.yv_source.proofs.Built.{length-until}
+use Rattle.yv_source.proofs.MachineViews.{length-until}
 use Rattle.std.proofs.lemmas.List.{drop_all, drop-drop, length-drop}
 use Rattle.std.specs.Option.{unwrap_or}
 use Rattle.memchr.specs.Find.{IsFirstByte}

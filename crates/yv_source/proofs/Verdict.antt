@@ -1,11 +1,11 @@
 -- What a state of the machine says of the tokens that it has read.
 use Rattle.std.proofs.Common.{◌≡◌, ℕ, ◌+◌, ◌≤◌, true, cond, List, [], ◌∷◌, ◌++◌, length, nat_lt, refl, sym, ◌∙◌, ap, subst, inl, inr, ◌⊎◌, arith}
 use Rattle.std.proofs.lemmas.Bool.{cases_Bool}
-use Rattle.yv_statement.specs.Tree.{Tree}
+use Rattle.yv_text_statement.specs.Tree.{Tree}
 use Rattle.yv_source.specs.Pieces.{Piece, Blank, LineComment, BlockComment, Word, Single, Double, Semicolon, Open, Close, Plus, Token}
 use Rattle.yv_source.specs.Grammar.{SpellsOne, depth, Goes, GoesWithin}
 use Rattle.yv_source.specs.Inner.Machine.{is_keyword, Step, Next, Wrong, Deep, leaf, finish, start, close, between, give_word, give_quoted, after_argument, after_quoted, after_plus, after_keyword, step, run_tokens}
-use Rattle.yv_statement.specs.Builder.{push_child}
+use Rattle.yv_text_statement.specs.Builder.{push_child}
 use Rattle.yv_source.specs.Place.{column_of}
 use Rattle.yv_source.specs.Quotes.{quoted_value}
 use Rattle.yv_source.specs.declared.machine.Phase.{Phase}

@@ -1,10 +1,10 @@
 -- What the calls of this crate answer and refuse. A call is about one file, whose number is 0.
 use Rattle.std.specs.Prelude.{◌≡◌, ℕ, List, take, ◌⊎◌}
 use Rattle.std.specs.Str.Lossy.{utf8_valid_len}
-use Rattle.yv_statement.specs.Tree.{Tree}
-use Rattle.yv_statement.specs.declared.refusal.Code.{Code}
-use Rattle.yv_statement.specs.declared.refusal.Code.TheVariants as code
-use Rattle.yv_statement.specs.declared.refusal.Refusal.{Refusal}
+use Rattle.yv_text_statement.specs.Tree.{Tree}
+use Rattle.yv_text_statement.specs.declared.refusal.Code.{Code}
+use Rattle.yv_text_statement.specs.declared.refusal.Code.TheVariants as code
+use Rattle.yv_text_statement.specs.declared.refusal.Refusal.{Refusal}
 use Rattle.yv_source.specs.Place.{line_of}
 use Rattle.yv_source.specs.Legal.{IsTooLarge, IsNoText, IsText, IsIllegalAt}
 use Rattle.yv_source.specs.Outcome as outcome

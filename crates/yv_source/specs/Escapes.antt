@@ -1,7 +1,7 @@
 -- The backslash pairs of double-quoted texts that YANG 1.1 refuses (RFC 7950, section 6.1.3). They
 -- are judged where they are, since what is stripped of a text makes no pair good or bad.
 use Rattle.std.specs.Prelude.{◌≡◌, ℕ, ◌+◌, Bool, true, false, ◌==◌, ◌&&◌, ◌||◌, IsTrue, IsFalse, List, [], ◌∷◌, ◌++◌, length, Some, ◌⊎◌, codes}
-use Rattle.yv_statement.specs.Tree.{Forest, End, Then}
+use Rattle.yv_text_statement.specs.Tree.{Forest, End, Then}
 use Rattle.yv_source.specs.Characters.{double_quote, backslash, letter_n, letter_t}
 use Rattle.yv_source.specs.Pieces.{Piece, Double, Token}
 

@@ -1,11 +1,11 @@
 -- What files are read as.
 use Rattle.std.specs.Prelude.{◌≡◌, ◌⊎◌, ℕ, List, take, Some, slice_get}
 use Rattle.std.specs.List.{AllZip}
-use Rattle.yv_statement.specs.Tree.{Tree}
-use Rattle.yv_statement.specs.declared.refusal.Refusal.{Refusal}
+use Rattle.yv_text_statement.specs.Tree.{Tree}
+use Rattle.yv_text_statement.specs.declared.refusal.Refusal.{Refusal}
 use Rattle.yv_source.specs.Answer.{IsBadFile, IsSpelled, IsRefused}
 use Rattle.yv_source.specs.Legal.{IsLegalFile}
-use Rattle.yv_streams.specs.Files.{File}
+use Rattle.yv_base_streams.specs.Files.{File}
 
 -- a file's bytes are a legal text that spells this statement
 abbrev pub IsRead : File → Tree → Type 0

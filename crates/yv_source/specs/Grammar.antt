@@ -1,6 +1,6 @@
 -- Which statements a list of tokens spells (RFC 7950, section 6.3).
 use Rattle.std.specs.Prelude.{◌≡◌, ℕ, ◌+◌, ◌≤◌, max, List, [], ◌∷◌, ◌++◌, length, Option, Some, None, ◌⊎◌}
-use Rattle.yv_statement.specs.Tree.{Head, Forest, End, Then, Tree}
+use Rattle.yv_text_statement.specs.Tree.{Head, Forest, End, Then, Tree}
 use Rattle.yv_source.specs.Place.{line_of, column_of}
 use Rattle.yv_source.specs.Quotes.{quoted_value}
 use Rattle.yv_source.specs.Keywords.{IsKeyword}

@@ -2,7 +2,7 @@
 use Rattle.std.specs.Prelude.{◌≡◌, ℕ, ◌≤◌, ◌<◌, IsTrue, IsFalse, List, ◌∷◌, ◌++◌, length, encode_utf8_all, IsUtf8}
 use Rattle.std.specs.List.{list_all}
 use Rattle.std.specs.Str.{chars}
-pub use Rattle.yv_statement.specs.Legal.{is_legal}
+pub use Rattle.yv_text_statement.specs.Legal.{is_legal}
 
 -- 4 MiB, a limit of this compiler
 abbrev pub most_bytes : ℕ

@@ -14,8 +14,8 @@ pub mod Quotes
 -- what private clauses only cite
 pub mod Inner
 -- statements as trees, how they are built, and the codes of refusals
-pub use Rattle.yv_statement.specs.Tree
-pub use Rattle.yv_statement.specs.Builder
-pub use Rattle.yv_statement.specs.Codes
+pub use Rattle.yv_text_statement.specs.Tree
+pub use Rattle.yv_text_statement.specs.Builder
+pub use Rattle.yv_text_statement.specs.Codes
 pub mod FileStatements
 pub mod Texts

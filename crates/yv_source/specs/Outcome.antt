@@ -1,6 +1,6 @@
 -- The outcome of a text: the one statement that it spells, or what is refused first.
 use Rattle.std.specs.Prelude.{◌≡◌, ℕ, ◌+◌, ◌-◌, ◌≤◌, List, [], ◌∷◌, ◌++◌, length, take, drop, ◌⊎◌}
-use Rattle.yv_statement.specs.Tree.{Tree}
+use Rattle.yv_text_statement.specs.Tree.{Tree}
 use Rattle.yv_source.specs.Place.{mark_len}
 use Rattle.yv_source.specs.Pieces.{Piece, Before, Apart, MayBegin, Cuts, behind, IsUncut, tokens}
 use Rattle.yv_source.specs.Grammar.{SpellsOne, depth, Goes, GoesWithin}

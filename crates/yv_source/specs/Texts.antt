@@ -1,12 +1,12 @@
 -- How far files were read, one after the other; how, only the readers ask.
 use Rattle.std.specs.Prelude.{◌≡◌, ◌≤◌, ℕ, List, length, take, IfSome, MatchOption, slice_get, Some}
 use Rattle.std.specs.List.{AllZip}
-use Rattle.yv_statement.specs.Tree.{Tree}
-use Rattle.yv_statement.specs.declared.refusal.Refusal.{Refusal}
+use Rattle.yv_text_statement.specs.Tree.{Tree}
+use Rattle.yv_text_statement.specs.declared.refusal.Refusal.{Refusal}
 use Rattle.yv_source.specs.Answer.{IsBadFile, IsSpelled, IsRefused}
 use Rattle.yv_source.specs.Legal.{IsLegalFile}
 use Rattle.yv_source.specs.FileStatements.{in_file}
-use Rattle.yv_streams.specs.Files.{File}
+use Rattle.yv_base_streams.specs.Files.{File}
 use Rattle.yv_source.specs.declared.texts.Texts.{Texts}
 
 -- the file's bytes are a legal text, which is this one

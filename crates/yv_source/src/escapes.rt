@@ -1,11 +1,11 @@
 //! The backslash pairs that a file of YANG 1.1 may not have.
 
 ghost use Rattle.std.specs.Prelude.{◌≡◌, ◌≤◌, ◌<◌, ◌+◌, false, length, IfSome};
-ghost use Rattle.yv_statement.specs.Tree.{trees};
+ghost use Rattle.yv_text_statement.specs.Tree.{trees};
 ghost use Rattle.yv_source.specs.{Escapes.{begins_escape, is_escape}, Inner.Turn.{length_of}, Inner.Pairs.{bad_found, bad_pair, is_newer, is_version}};
 
 use crate::scan::{FoundPiece, first_byte};
-use yv_statement::{Keyword, Statement};
+use yv_text_statement::{Keyword, Statement};
 
 /// Where the first bad backslash pair is, of those so far and of the piece at a place.
 pub(crate) fn bad_found(

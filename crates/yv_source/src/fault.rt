@@ -4,7 +4,7 @@ ghost use Rattle.std.specs.Prelude.{◌≡◌, ◌≤◌, take, length};
 ghost use Rattle.yv_source.specs.{Answer.{refusal_in}, Place.{line_of}};
 
 use crate::place::line_feeds;
-use yv_statement::{Code, Refusal, Stop};
+use yv_text_statement::{Code, Refusal, Stop};
 
 /// Refuses a text at an offset.
 pub(crate) fn refuse(code: Code, bytes: &[u8], at: usize) -> Stop

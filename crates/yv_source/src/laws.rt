@@ -1,6 +1,6 @@
 //! Laws about the definitions only. These functions do nothing: the contract of each is the law.
 ghost use Rattle.std.specs.Prelude.{◌≡◌, ℕ, List};
-ghost use Rattle.yv_statement.specs.{Tree.{Tree}, declared.refusal.Refusal.{Refusal}};
+ghost use Rattle.yv_text_statement.specs.{Tree.{Tree}, declared.refusal.Refusal.{Refusal}};
 ghost use Rattle.yv_source.specs.{Answer.{IsBadFile, IsSpelled, IsRefused}, Legal.{IsLegalFile}};
 
 /// A bad file is refused in one way, and isn't legal.

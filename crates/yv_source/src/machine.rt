@@ -8,7 +8,7 @@ use crate::identifier::is_keyword;
 use crate::place::Lines;
 use std::alloc::{AllocError, AllocFailed, Global};
 use std::borrow::CowStr;
-use yv_statement::{Keyword, Statement};
+use yv_text_statement::{Keyword, Statement};
 
 /// How deep a statement may be, the outermost having depth 1.
 const MOST_DEEP: usize = 64;

@@ -1,9 +1,9 @@
 //! The statement that a text spells.
 
 ghost use Rattle.std.specs.Prelude.{◌≡◌, ◌≤◌, ◌+◌, ◌*◌, ◌⊎◌, None, IfOk, IfSome, drop, length, reverse};
-ghost use Rattle.yv_statement.specs.{Tree.{Tree}, declared.refusal.Refusal.{Refusal}};
+ghost use Rattle.yv_text_statement.specs.{Tree.{Tree}, declared.refusal.Refusal.{Refusal}};
 ghost use Rattle.yv_source.specs.{Answer.{IsSpelled, IsRefused}, Legal.{IsLegalFile, most_bytes}, Place.{mark_len}, Inner.End.{Comes, ended_in, refusal_of_halt, IsChecked, IsEnd}};
-ghost use Rattle.yv_statement.specs.Offsets.{IsInOrder};
+ghost use Rattle.yv_text_statement.specs.Offsets.{IsInOrder};
 
 use crate::escapes::{bad_found, is_newer};
 use crate::fault::refuse;
@@ -14,7 +14,7 @@ use crate::scan::{Ahead, Before, look_ahead};
 use crate::source::Source;
 use crate::turn::turn;
 use std::alloc::Global;
-use yv_statement::{Code, Statement, Stop};
+use yv_text_statement::{Code, Statement, Stop};
 
 /// The one statement of a source (RFC 7950, section 6), or what is refused first: BadToken where no
 /// token is allowed, BadSyntax at the first token that cannot continue a statement, or at the

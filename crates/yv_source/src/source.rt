@@ -1,14 +1,14 @@
 //! A file's text.
 
 ghost use Rattle.std.specs.{Prelude.{◌≡◌, ◌≤◌, ◌↔◌, ◌++◌, [], length, take, drop, encode_utf8, OnOk, IfOk, IfSome, IfNone, IsTrue, Err}, Char.{len_utf8}, List.{list_all}, Str.{chars}};
-ghost use Rattle.yv_statement.specs.declared.refusal.Refusal.{Refusal as TheRefusal};
+ghost use Rattle.yv_text_statement.specs.declared.refusal.Refusal.{Refusal as TheRefusal};
 ghost use Rattle.yv_source.specs.{Answer.{IsBadFile}, Legal.{most_bytes, is_legal, IsIllegalAt, IsLegalFile}, Inner.Plain.{is_common}};
 
 use crate::fault::refusal;
 use std::alloc::Global;
 use std::marker::Model;
 use std::str;
-use yv_statement::{Code, Refusal, Stop, is_legal};
+use yv_text_statement::{Code, Refusal, Stop, is_legal};
 
 /// How many bytes a file may have.
 pub const MOST_BYTES: usize = 4_194_304;
@@ -39,7 +39,7 @@ impl Model for Source {
 
 impl Source {
     ghost use Rattle.std.specs.Prelude.{◌≡◌, ◌↔◌, ◌⊎◌, OnOk, IfOk};
-    ghost use Rattle.yv_statement.specs.declared.refusal.Refusal.{Refusal};
+    ghost use Rattle.yv_text_statement.specs.declared.refusal.Refusal.{Refusal};
     ghost use Rattle.yv_source.specs.{Answer.{IsBadFile}, Legal.{IsLegalFile}};
 
     /// The text of a file, or what is refused: TooLarge at offset 0, else NotUtf8 at the first byte

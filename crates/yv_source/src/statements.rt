@@ -1,12 +1,12 @@
 //! The statements of texts.
 ghost use Rattle.std.specs.{Prelude.{◌≡◌, ◌≢◌, ◌<◌, ◌≤◌, ◌⊎◌, IfOk, OnErr, Err}, List.{AllZip}};
-ghost use Rattle.yv_statement.specs.{declared.refusal.Refusal.{Refusal as TheRefusal}, declared.refusal.Stop.TheVariants.{Fault, NoMemory, PatternBuild}};
+ghost use Rattle.yv_text_statement.specs.{declared.refusal.Refusal.{Refusal as TheRefusal}, declared.refusal.Stop.TheVariants.{Fault, NoMemory, PatternBuild}};
 ghost use Rattle.yv_source.specs.{Answer.{IsSpelled}, FileStatements.{in_file}, Texts.{SpellsNone}};
 
 use crate::reader::parse_text;
 use crate::text::Text;
 use std::alloc::{AllocError, Global};
-use yv_statement::{Refusal, Statement, Stop};
+use yv_text_statement::{Refusal, Statement, Stop};
 
 /// A refusal of one file, reported for the file of this number. Want of memory where 32 bits don't
 /// hold the number, and nowhere else.

@@ -1,15 +1,15 @@
 //! The texts of files.
 ghost use Rattle.std.specs.{Prelude.{◌≡◌, ◌≢◌, List, map, IfOk, Err}, List.{AllZip}};
-ghost use Rattle.yv_statement.specs.{declared.refusal.Refusal.{Refusal as TheRefusal}, declared.refusal.Stop.TheVariants.{Fault, PatternBuild}};
-ghost use Rattle.yv_streams.specs.Files.{File, file_of};
+ghost use Rattle.yv_text_statement.specs.{declared.refusal.Refusal.{Refusal as TheRefusal}, declared.refusal.Stop.TheVariants.{Fault, PatternBuild}};
+ghost use Rattle.yv_base_streams.specs.Files.{File, file_of};
 ghost use Rattle.yv_source.specs.{FileStatements.{IsRead, IsUnreadAt}, Texts.{AreTexts}};
 
 use crate::source::legal_text;
 use crate::statements::{in_file, parse_all};
 use crate::text::Text;
 use std::alloc::{AllocError, Global};
-use yv_statement::{Refusal, Statement, Stop};
-use yv_streams::Input;
+use yv_text_statement::{Refusal, Statement, Stop};
+use yv_base_streams::Input;
 
 /// The texts of files, up to the first whose bytes are not text. They lie in the files' bytes, and
 /// statements borrow from them there.

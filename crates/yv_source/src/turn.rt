@@ -7,7 +7,7 @@ use crate::machine::{Halt, Phase, Token, step};
 use crate::place::Lines;
 use crate::scan::FoundPiece;
 use std::alloc::Global;
-use yv_statement::Statement;
+use yv_text_statement::Statement;
 
 /// Takes the piece that was found at an offset, where it is a token.
 pub(crate) fn turn<'a>(

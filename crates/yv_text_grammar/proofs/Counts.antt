@@ -4,11 +4,11 @@ use Rattle.std.specs.List.{slice_get, list_any}
 use Rattle.std.proofs.lemmas.List.Folds.{list_any_more}
 use Rattle.std.proofs.lemmas.List.{take_all}
 use Rattle.std.proofs.lemmas.Option.{slice_get_within, get_or_from_slice_get}
-use Rattle.yv_statement.specs.Keywords.{same}
+use Rattle.yv_text_statement.specs.Keywords.{same}
 use Rattle.yv_text_grammar.specs.Table.{Rows, is_one}
 use Rattle.yv_text_grammar.specs.Refusals.{has, keyword_at}
-use Rattle.yv_statement.specs.Tree.{Tree}
-use Rattle.yv_statement.specs.declared.keyword.Keyword.{Keyword}
+use Rattle.yv_text_statement.specs.Tree.{Tree}
+use Rattle.yv_text_statement.specs.declared.keyword.Keyword.{Keyword}
 
 or_comm : (a b : Bool) → (a || b) ≡ (b || a)
 or_comm true true = refl

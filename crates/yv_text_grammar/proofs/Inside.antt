@@ -1,13 +1,13 @@
 -- What stands in a statement is of three kinds.
 use Rattle.std.proofs.Common.{◌≡◌, ◌≢◌, ◌⊎◌, inl, inr, ⊎_elim, Option, None, length}
 use Rattle.std.proofs.lemmas.Option.{slice_get_within}
-use Rattle.yv_statement.specs.Order.{Among, IsLeast, IsLesser}
+use Rattle.yv_text_statement.specs.Order.{Among, IsLeast, IsLesser}
 use Rattle.yv_text_grammar.specs.Refusals.{Faulty, own, number, below, CountsBadly, OwnRefusal, keyword_at}
-use Rattle.yv_statement.specs.Tree.{Tree, trees}
-use Rattle.yv_statement.specs.declared.refusal.Refusal.{Refusal}
-use Rattle.yv_statement.specs.declared.keyword.Keyword.{Keyword}
-use Rattle.yv_statement.specs.declared.keyword.Keyword.TheVariants as word
-use Rattle.yv_statement.proofs.Least.{least_lesser, least_same}
+use Rattle.yv_text_statement.specs.Tree.{Tree, trees}
+use Rattle.yv_text_statement.specs.declared.refusal.Refusal.{Refusal}
+use Rattle.yv_text_statement.specs.declared.keyword.Keyword.{Keyword}
+use Rattle.yv_text_statement.specs.declared.keyword.Keyword.TheVariants as word
+use Rattle.yv_text_statement.proofs.Least.{least_lesser, least_same}
 
 -- what stands in one of the children
 abbrev pub Inner : Tree → Refusal → Type 0

@@ -2,9 +2,9 @@
 use Rattle.std.proofs.Common.{◌≡◌, Bool, true, false, not, MatchBool, sym, refl}
 use Rattle.std.proofs.lemmas.Bool.{false≢true}
 use denote.Enum.Bare.{same_true, true_same, same_false}
-use Rattle.yv_statement.specs.Keywords.{same}
-use Rattle.yv_statement.specs.contracts.keyword.Keyword.{the_type}
-use Rattle.yv_statement.specs.declared.keyword.Keyword.{Keyword}
+use Rattle.yv_text_statement.specs.Keywords.{same}
+use Rattle.yv_text_statement.specs.contracts.keyword.Keyword.{the_type}
+use Rattle.yv_text_statement.specs.declared.keyword.Keyword.{Keyword}
 
 pub one : (a b : Keyword) → same a b ≡ true → a ≡ b
 one a b h = same_true the_type tt a b h

@@ -1,7 +1,7 @@
-pub mod Ascending
-pub mod Counting
+pub mod SortedWords
+pub mod KeywordCounts
 pub mod Counts
-pub mod Fitting
+pub mod StatementFit
 pub mod Inside
 pub mod Keywords
 pub mod Marks

@@ -1,7 +1,7 @@
 -- A child has fewer statements below it than its parent.
 use Rattle.std.proofs.Common.{◌≡◌, ℕ, zero, suc, ◌<◌, Some, arith}
 use Rattle.std.specs.List.{slice_get}
-use Rattle.yv_statement.specs.Tree.{Tree, Forest, End, Then, trees, count}
+use Rattle.yv_text_statement.specs.Tree.{Tree, Forest, End, Then, trees, count}
 
 pub fewer : (f : Forest) (k : ℕ) (c : Tree) → slice_get (trees f) k ≡ Some c → count c.children < count f
 fewer End k c h = cc

@@ -4,7 +4,7 @@ use Rattle.yv_text_grammar.specs.Forms.{form_of}
 use Rattle.yv_text_if_feature.specs.IfFeature.{IfFeature, Spells}
 use Rattle.yv_text_if_feature.specs.Names.{is_identifier, is_name}
 use Rattle.yv_text_grammar.specs.Texts.{is_absolute_path, is_date, is_descendant_path, is_enum_name, is_enum_value, is_fraction_digits, is_key, is_leafref_path, is_max_elements, is_number, is_one_of, is_unique}
-use Rattle.yv_statement.specs.declared.keyword.Keyword.{Keyword}
+use Rattle.yv_text_statement.specs.declared.keyword.Keyword.{Keyword}
 use Rattle.yv_text_grammar.specs.declared.form.Form.{Form}
 use Rattle.yv_text_grammar.specs.declared.form.Form.TheVariants as form
 

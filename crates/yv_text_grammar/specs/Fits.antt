@@ -1,13 +1,13 @@
 -- Which statements are as the tables say.
 use Rattle.std.specs.Prelude.{◌≡◌, ◌≢◌, ℕ, ◌+◌, ◌≤◌, true, false, List, [], ◌∷◌, Option, None, Some, if◌then◌else◌}
 use Rattle.std.specs.List.{slice_get}
-use Rattle.yv_statement.specs.Tree.{Tree, trees}
-use Rattle.yv_statement.specs.Keywords.{same}
+use Rattle.yv_text_statement.specs.Tree.{Tree, trees}
+use Rattle.yv_text_statement.specs.Keywords.{same}
 use Rattle.yv_text_grammar.specs.Table.{occurs_in, rows_of}
 use Rattle.yv_text_grammar.specs.Argument.{ArgumentFits}
 use Rattle.yv_text_grammar.specs.Refusals.{keyword_at, is_unsupported, is_module}
-use Rattle.yv_statement.specs.declared.keyword.Keyword.{Keyword}
-use Rattle.yv_statement.specs.declared.keyword.Keyword.TheVariants as word
+use Rattle.yv_text_statement.specs.declared.keyword.Keyword.{Keyword}
+use Rattle.yv_text_statement.specs.declared.keyword.Keyword.TheVariants as word
 use Rattle.yv_text_grammar.specs.declared.table.Occurs.{Occurs}
 use Rattle.yv_text_grammar.specs.declared.table.Occurs.TheVariants.{One, Optional, Any}
 

@@ -1,9 +1,9 @@
 -- Which form the argument of each statement has (RFC 7950, sections 7 and 9, and the grammar of
 -- section 14).
 use Rattle.std.specs.Prelude.{if◌then◌else◌}
-use Rattle.yv_statement.specs.Keywords.{same}
-use Rattle.yv_statement.specs.declared.keyword.Keyword.{Keyword}
-use Rattle.yv_statement.specs.declared.keyword.Keyword.TheVariants as word
+use Rattle.yv_text_statement.specs.Keywords.{same}
+use Rattle.yv_text_statement.specs.declared.keyword.Keyword.{Keyword}
+use Rattle.yv_text_statement.specs.declared.keyword.Keyword.TheVariants as word
 use Rattle.yv_text_grammar.specs.declared.form.Form.{Form}
 use Rattle.yv_text_grammar.specs.declared.form.Form.TheVariants as form
 

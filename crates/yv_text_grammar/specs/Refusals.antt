@@ -2,16 +2,16 @@
 use Rattle.std.specs.Prelude.{◌≡◌, ◌≢◌, ℕ, ◌⊎◌, ◌==◌, Bool, true, false, not, ◌&&◌, ◌||◌, List, Option, None, Some, take, length, codes}
 use Rattle.std.specs.List.{list_any, slice_get}
 use Rattle.std.specs.Str.{bytes_eq}
-use Rattle.yv_statement.specs.Tree.{Tree, trees}
-use Rattle.yv_statement.specs.Order.{Among, Stands, refusal_at}
-use Rattle.yv_statement.specs.declared.refusal.Refusal.{Refusal}
-use Rattle.yv_statement.specs.declared.refusal.Code.TheVariants as code
+use Rattle.yv_text_statement.specs.Tree.{Tree, trees}
+use Rattle.yv_text_statement.specs.Order.{Among, Stands, refusal_at}
+use Rattle.yv_text_statement.specs.declared.refusal.Refusal.{Refusal}
+use Rattle.yv_text_statement.specs.declared.refusal.Code.TheVariants as code
 use Rattle.yv_text_grammar.specs.Bytes.{opening_bracket, opening_parenthesis}
-use Rattle.yv_statement.specs.Keywords.{keyword_of, same}
+use Rattle.yv_text_statement.specs.Keywords.{keyword_of, same}
 use Rattle.yv_text_grammar.specs.Table.{Rows, rows_of, occurs_in, is_one}
 use Rattle.yv_text_grammar.specs.Argument.{ArgumentFits}
-use Rattle.yv_statement.specs.declared.keyword.Keyword.{Keyword}
-use Rattle.yv_statement.specs.declared.keyword.Keyword.TheVariants as word
+use Rattle.yv_text_statement.specs.declared.keyword.Keyword.{Keyword}
+use Rattle.yv_text_statement.specs.declared.keyword.Keyword.TheVariants as word
 use Rattle.yv_text_grammar.specs.declared.table.Occurs.{Occurs}
 use Rattle.yv_text_grammar.specs.declared.table.Occurs.TheVariants.{One, Optional, Any}
 

@@ -2,7 +2,7 @@
 ghost use Rattle.std.specs.Prelude.{◌≡◌};
 ghost use Rattle.yv_text_grammar.specs.Forms.{form_of};
 
-use yv_statement::Keyword;
+use yv_text_statement::Keyword;
 
 /// The form of an argument.
 #[derive(Clone, Copy, PartialEq, Eq, Debug)]

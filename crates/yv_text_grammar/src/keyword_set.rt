@@ -1,9 +1,9 @@
 //! A set of keywords.
 ghost use Rattle.std.specs.Prelude.{◌≡◌, ◌<◌, ◌||◌, false};
-ghost use Rattle.yv_statement.specs.{Keywords.{same}, declared.keyword.Keyword.{Keyword}};
+ghost use Rattle.yv_text_statement.specs.{Keywords.{same}, declared.keyword.Keyword.{Keyword}};
 ghost use Rattle.yv_text_grammar.specs.InnerKeywordSet.{number, is_marked};
 
-use yv_statement::Keyword as Word;
+use yv_text_statement::Keyword as Word;
 
 /// How many keywords there are.
 pub const KEYWORDS: usize = 70;

@@ -12,4 +12,4 @@ mod text;
 mod words;
 
 pub use refusal::conform;
-pub use yv_statement::Keyword;
+pub use yv_text_statement::Keyword;

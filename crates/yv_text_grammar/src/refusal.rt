@@ -1,12 +1,12 @@
 //! What is wrong with the statements of a file.
 ghost use Rattle.std.specs.{Prelude.{◌≡◌, ◌↔◌, not, ◌&&◌, map, IfNone, IsOk}, List.{list_any}, Option.{option_copied}, Result.{result_err}};
-ghost use Rattle.yv_statement.specs.Order.{IsLeast};
+ghost use Rattle.yv_text_statement.specs.Order.{IsLeast};
 ghost use Rattle.yv_text_grammar.specs.{InnerEntries.{row}, InnerKeywordSet.{is_marked}, Refusals.{Bad, Faulty, CountsBadly, OwnRefusal, has_call_or_filter, is_excess, is_misplaced, is_module, is_unsupported, keyword_at}, Fits.{Fits, FitsIn, OwnFits}, Table.{is_one, occurs_in}};
 
 use crate::argument;
 use crate::keyword_set::KeywordSet;
 use crate::table::{self, Occurs, Row};
-use yv_statement::{Code, Keyword, Refusal, Statement, lesser, refusal_if};
+use yv_text_statement::{Code, Keyword, Refusal, Statement, lesser, refusal_if};
 
 /// Whether the statements of a file are as the tables of RFC 7950, sections 7 and 9, say: each has
 /// the substatements that it may have, no more and no fewer, and an argument in its grammar. The

@@ -2,7 +2,7 @@
 ghost use Rattle.std.specs.Prelude.{◌≡◌, map};
 ghost use Rattle.yv_text_grammar.specs.{InnerEntries.{row}, Table.{is_one, rows_of}};
 
-use yv_statement::Keyword;
+use yv_text_statement::Keyword;
 
 /// How often a substatement may occur in a block.
 #[derive(Clone, Copy, PartialEq, Eq, Debug)]

@@ -1,9 +1,9 @@
 pub mod Ascii
-pub mod Decided
+pub mod ConditionTruth
 pub mod Frames
-pub mod Named
+pub mod ConditionNames
 pub mod One
 pub mod Passes
-pub mod Spelled
-pub mod Taken
+pub mod ConditionSpelling
+pub mod AcceptedConditions
 pub mod WordCuts

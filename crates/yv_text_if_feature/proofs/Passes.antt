@@ -7,7 +7,7 @@ use Rattle.yv_text_if_feature.specs.State.{differ, empty, ends, holds, with_not,
 use Rattle.yv_text_if_feature.specs.IfFeature.{IfFeature, IsIfFeature, IsExpression, IsTerm, IsFactor, term, either, factor, both, name, after_not, inner, truth}
 use Rattle.yv_text_if_feature.specs.Truth.{IsTruth}
 use Rattle.yv_text_if_feature.specs.declared.frame.Frame.{Frame}
-use Rattle.yv_text_if_feature.proofs.Taken.{accepts, taken}
+use Rattle.yv_text_if_feature.proofs.AcceptedConditions.{accepts, taken}
 
 differ_not : (f a : Bool) → differ (not f) a ≡ differ f (not a)
 differ_not true true = refl

@@ -1,8 +1,8 @@
 pub mod Tops
-pub mod Shown
-pub mod Found
-pub mod Placing
+pub mod ParentNodes
+pub mod FilterLoop
+pub mod ModulePlaces
 pub mod Parts
 pub mod Texts
-pub mod Drawn
-pub mod Waiting
+pub mod TextRemainder
+pub mod PendingLines

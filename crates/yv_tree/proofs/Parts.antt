@@ -4,7 +4,7 @@ use Rattle.std.specs.List.{flat_map}
 use Rattle.std.proofs.lemmas.Grind.{flat_map-append}
 use Rattle.yv_nodes.specs.declared.node.NodeId.{NodeId}
 use Rattle.yv_nodes.specs.Rows.{Module, Rows, forest}
-use Rattle.yv_streams.specs.Pages.{Adds, Output, IsPaged}
+use Rattle.yv_base_streams.specs.Pages.{Adds, Output, IsPaged}
 use Rattle.yv_tree.specs.Lines.{forest_lines}
 use Rattle.yv_tree.specs.Diagram.{augment_section, diagram_lines, section, text_of, tops}
 use Rattle.yv_tree.specs.InnerDraw.{trees_text}

@@ -4,7 +4,7 @@ use Rattle.std.specs.declared.option.Option.{Option}
 use Rattle.std.specs.declared.option.Option.TheVariants.{Some}
 use Rattle.std.proofs.KnownBytes.{Appends-trans}
 use Rattle.std.proofs.lemmas.Bool.{false≢true}
-use Rattle.yv_streams.specs.Pages.{output_of, IsPaged}
+use Rattle.yv_base_streams.specs.Pages.{output_of, IsPaged}
 
 -- a piece was put behind what there was, or the text has failed and is as before
 pub pushed : (start : Option (List ℕ)) (text before after piece : List ℕ) (had has : Bool) → had ≡ false → (has ≡ false → after ≡ before ++ piece) → (has ≡ true → after ≡ before)

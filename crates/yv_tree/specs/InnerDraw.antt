@@ -4,7 +4,7 @@ use Rattle.yv_nodes.specs.declared.node.NodeId.{NodeId}
 use Rattle.yv_nodes.specs.Tree.{Forest, tree}
 use Rattle.yv_nodes.specs.Rows.{Module, Rows, tree_of}
 use Rattle.yv_schema_tables.specs.Sound.{IsChild}
-use Rattle.yv_streams.specs.Pages.{Adds, Output}
+use Rattle.yv_base_streams.specs.Pages.{Adds, Output}
 use Rattle.yv_tree.specs.Lines.{has_line, tree_lines, forest_lines}
 use Rattle.yv_tree.specs.Diagram.{text_of}
 

@@ -1,11 +1,11 @@
 -- The lines of schema nodes in a tree diagram (RFC 8340, section 2.6).
 use Rattle.std.specs.Prelude.{ℕ, List, [], ◌∷◌, ◌++◌, Bool, true, false, ◌||◌, ◌==◌, Option, Some, None, map, if◌then◌else◌, codes}
 use Rattle.std.specs.List.{flat_map}
-use Rattle.yv_node_definition.specs.Steps.{Piece, Step, is_module_file}
-use Rattle.yv_node_definition.specs.declared.kind.NodeKind.{NodeKind}
-use Rattle.yv_node_definition.specs.declared.kind.NodeKind.TheVariants as kinds
-use Rattle.yv_node_definition.specs.declared.kind.NodeStatus.{NodeStatus}
-use Rattle.yv_node_definition.specs.declared.kind.NodeStatus.TheVariants.{Current, Deprecated, Obsolete}
+use Rattle.yv_node_content.specs.Steps.{Piece, Step, is_module_file}
+use Rattle.yv_node_content.specs.declared.kind.NodeKind.{NodeKind}
+use Rattle.yv_node_content.specs.declared.kind.NodeKind.TheVariants as kinds
+use Rattle.yv_node_content.specs.declared.kind.NodeStatus.{NodeStatus}
+use Rattle.yv_node_content.specs.declared.kind.NodeStatus.TheVariants.{Current, Deprecated, Obsolete}
 use Rattle.yv_nodes.specs.Tree.{Label, Tree, node, Forest, no_trees, tree}
 use Rattle.yv_nodes.specs.Rows.{Module}
 

@@ -2,14 +2,14 @@
 ghost use Rattle.std.specs.Prelude.{◌≡◌, ◌++◌, ◌<◌, All, IfSome, codes, length};
 ghost use Rattle.yv_nodes.specs.Rows.{AreTrees, below, forest, row_at, tree_of};
 ghost use Rattle.yv_schema_tables.specs.Sound.{IsChild};
-ghost use Rattle.yv_streams.specs.Pages.{Adds};
+ghost use Rattle.yv_base_streams.specs.Pages.{Adds};
 ghost use Rattle.yv_tree.specs.{InnerDraw.{tree_text, trees_text, waiting_text, IsShown}, InnerMargin.{margin_text}, Lines.{are_some, has_line, line}};
 
 use crate::line::put_line;
 use crate::margin::{Margin, put_margin};
 use crate::modules::Modules;
 use crate::paper::Paper;
-use yv_node_definition::NodeKind;
+use yv_node_content::NodeKind;
 use yv_nodes::NodeId;
 use yv_schema_tables::Schema;
 

@@ -1,12 +1,12 @@
 //! A node's line.
 ghost use Rattle.std.specs.Prelude.{◌≡◌, ◌++◌, Some, codes, map};
-ghost use Rattle.yv_node_definition.specs.Steps.{is_module_file};
-ghost use Rattle.yv_streams.specs.Pages.{Adds};
+ghost use Rattle.yv_node_content.specs.Steps.{is_module_file};
+ghost use Rattle.yv_base_streams.specs.Pages.{Adds};
 ghost use Rattle.yv_tree.specs.Lines.{status_mark, access, flags, line_start, lead, full_name, shown_name, options, optional, list_options, key_name, between, behind, behind_each, written_prefix, shown_piece, shown_type, if_features, line};
 
 use crate::draw::Drawing;
 use crate::paper::Paper;
-use yv_node_definition::{NodeKind, NodeStatus, PathPiece, PathStep};
+use yv_node_content::{NodeKind, NodeStatus, PathPiece, PathStep};
 use yv_nodes::Node;
 
 /// Puts the line of a node in a diagram, without its margin and its line feed.

@@ -1,9 +1,9 @@
 //! What a diagram is drawn on.
 ghost use Rattle.std.specs.Prelude.{◌≡◌};
-ghost use Rattle.yv_streams.specs.Pages.{Adds, Output};
+ghost use Rattle.yv_base_streams.specs.Pages.{Adds, Output};
 
 use std::io::Write;
-use yv_streams::{Counted, Page};
+use yv_base_streams::{Counted, Page};
 
 /// What takes a text piece by piece: a stream, by way of its page, or a text in memory. Once it has
 /// failed it takes no more.
@@ -23,7 +23,7 @@ pub(crate) trait Paper {
 }
 
 impl<W: Write> Paper for Counted<W> {
-    ghost use Rattle.yv_streams.specs.Pages.{paged_output};
+    ghost use Rattle.yv_base_streams.specs.Pages.{paged_output};
 
     type Page = Page;
 

@@ -2,14 +2,14 @@
 ghost use Rattle.std.specs.Prelude.{◌≡◌, ◌==◌, [], ◌++◌, ◌<◌, All, IfOk, flat_map, length};
 ghost use Rattle.yv_nodes.specs.Rows.{row_at, AreTrees};
 ghost use Rattle.yv_schema_tables.specs.Sound.{IsChild, IsNote, IsSound};
-ghost use Rattle.yv_streams.specs.Pages.{Adds};
+ghost use Rattle.yv_base_streams.specs.Pages.{Adds};
 ghost use Rattle.yv_tree.specs.{Diagram.{augment_section, belongs, first_module_file, is_shown, is_top, section, text_of, tops}, InnerTops.{AreTops}};
 
 use crate::draw::Drawing;
 use crate::margin::Margin;
 use crate::paper::Paper;
 use std::alloc::{AllocError, Global};
-use yv_node_definition::NodeKind;
+use yv_node_content::NodeKind;
 use yv_nodes::NodeId;
 use yv_schema_tables::laws::children_are_trees;
 use yv_schema_tables::{AugmentNote, Schema};

@@ -1,6 +1,6 @@
 //! A text in memory that a diagram is drawn on.
 ghost use Rattle.std.specs.Prelude.{◌≡◌, [], List, ℕ, Some, IfOk, false, is_err, string_bytes};
-ghost use Rattle.yv_streams.specs.Pages.{Adds, IsPaged, output_of};
+ghost use Rattle.yv_base_streams.specs.Pages.{Adds, IsPaged, output_of};
 
 use crate::paper::Paper;
 use std::alloc::{AllocError, Global};
@@ -49,7 +49,7 @@ impl Text {
 
 impl Paper for Text {
     ghost use Rattle.std.specs.Prelude.{[], Some, is_err, string_bytes};
-    ghost use Rattle.yv_streams.specs.Pages.{output_of};
+    ghost use Rattle.yv_base_streams.specs.Pages.{output_of};
 
     type Page = ();
 

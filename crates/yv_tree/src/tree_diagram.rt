@@ -1,6 +1,6 @@
 //! The diagram of a module, which is drawn in memory or written to a stream.
 ghost use Rattle.std.specs.{Prelude.{◌≡◌, ◌++◌, ◌∷◌, [], ◌↔◌, ℕ, true, false, Some, IfOk, codes, option_map, string_bytes, take}, Io.KnownBytes.{Appends}};
-ghost use Rattle.yv_streams.specs.{Stream.{has_failed, stream_inner, FailsOnceAtMost}, Pages.{Adds}};
+ghost use Rattle.yv_base_streams.specs.{Stream.{has_failed, stream_inner, FailsOnceAtMost}, Pages.{Adds}};
 ghost use Rattle.yv_tree.specs.Diagram.{diagram_lines, diagram_of, module_in, text_of};
 
 use crate::draw::Drawing;
@@ -14,7 +14,7 @@ use std::io::Write;
 use std::marker::Model;
 use yv_nodes::NodeId;
 use yv_schema_tables::{Module, Schema};
-use yv_streams::{Counted, Page};
+use yv_base_streams::{Counted, Page};
 
 /// The tree diagram of a module (RFC 8340), before it is drawn: all that wants memory is at hand.
 /// Contracts see its text.

@@ -15,9 +15,9 @@ use Rattle.yv_type_chains.specs.Counts as counts
 use Rattle.std.specs.Str.{bytes_eq}
 use Rattle.yv_link_definitions.specs.Refers.{is_type}
 use Rattle.yv_type_chains.proofs.Words.{both_true}
-use Rattle.yv_type_chains.proofs.Ordering.{union_built_in}
-use Rattle.yv_type_chains.proofs.Counting.{leafref_built_in, one_kind, shape}
-use Rattle.yv_type_chains.proofs.Basing.{apart, base_by}
+use Rattle.yv_type_chains.proofs.TypeOrder.{union_built_in}
+use Rattle.yv_type_chains.proofs.PlainTypeCounts.{leafref_built_in, one_kind, shape}
+use Rattle.yv_type_chains.proofs.TypeBases.{apart, base_by}
 
 abbrev pub MeansOne : Type 0
 MeansOne = (files : Briefs) (rows : List Row) (kind : NameKind) (number : ℕ) (name : List ℕ) (d e : Option ℕ) → MeansIn files rows kind number name d → MeansIn files rows kind number name e → d ≡ e

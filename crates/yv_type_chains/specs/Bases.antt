@@ -1,6 +1,6 @@
 -- What is known of types that were read.
 use Rattle.std.specs.Prelude.{map}
-use Rattle.yv_statement.specs.Order.{IsLeast}
+use Rattle.yv_text_statement.specs.Order.{IsLeast}
 use Rattle.yv_link_scopes.specs.Files.{Files, brief_of}
 use Rattle.yv_link_scopes.specs.RowList.{rows_of}
 use Rattle.yv_type_chains.specs.Types.{IsOrderOfTypes}

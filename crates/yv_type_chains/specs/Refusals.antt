@@ -1,8 +1,8 @@
 -- What is wrong with the types (RFC 7950, sections 7.3.2, 7.4 and 9).
 use Rattle.std.specs.Prelude.{◌≡◌, ℕ, ◌&&◌, ◌⊎◌, not, Bool, true, List, length, map, Some, codes, slice_get}
-use Rattle.yv_statement.specs.Order.{Stands, Among, refusal_at}
-use Rattle.yv_statement.specs.declared.refusal.Refusal.{Refusal}
-use Rattle.yv_statement.specs.declared.refusal.Code.TheVariants as code
+use Rattle.yv_text_statement.specs.Order.{Stands, Among, refusal_at}
+use Rattle.yv_text_statement.specs.declared.refusal.Refusal.{Refusal}
+use Rattle.yv_text_statement.specs.declared.refusal.Code.TheVariants as code
 use Rattle.yv_link_scopes.specs.Files.{Files, Briefs, brief_of}
 use Rattle.yv_link_scopes.specs.Rows.{Row, name_in}
 use Rattle.yv_link_scopes.specs.RowList.{rows_of}

@@ -1,6 +1,6 @@
 //! The bases of types, and what readers ask of them.
 ghost use Rattle.std.specs.Prelude.{◌≡◌, ◌↔◌, ℕ, Some, map, IfOk};
-ghost use Rattle.yv_statement.specs.Order.{IsLeast};
+ghost use Rattle.yv_text_statement.specs.Order.{IsLeast};
 ghost use Rattle.yv_link_scopes.specs.{Files.{Files, brief_of}, RowList.{rows_of}, Views.{lent_in}};
 ghost use Rattle.yv_link_definitions.specs.Meanings.{AreNames};
 
@@ -10,7 +10,7 @@ use crate::slots::get;
 use std::alloc::{AllocError, Global};
 use yv_link_definitions::Names;
 use yv_link_scopes::Rows;
-use yv_statement::Refusal;
+use yv_text_statement::Refusal;
 
 /// The bases of types: the built-in types to which the types of files lead, and what is wrong with
 /// these.

@@ -5,7 +5,7 @@ ghost use Rattle.yv_link_definitions.specs.Refers.{is_type};
 ghost use Rattle.yv_type_chains.specs.Types.{is_inner};
 
 use yv_link_scopes::Entry;
-use yv_statement::Keyword;
+use yv_text_statement::Keyword;
 
 /// Whether a statement is a type.
 pub(crate) fn is_type(entry: &Entry<'_, '_>) -> bool

@@ -2,7 +2,7 @@
 ghost use Rattle.std.specs.Prelude.{◌≡◌, map};
 ghost use Rattle.yv_type_chains.specs.{Kinds.{is_of_built_in, is_foreign, needs, needs_any}, InnerPairs.{is_in_pair, is_one_of, is_paired, may_be_needed, pair}};
 
-use yv_statement::{Keyword, Statement};
+use yv_text_statement::{Keyword, Statement};
 
 // A built-in type and the keyword of a substatement.
 struct Pair {

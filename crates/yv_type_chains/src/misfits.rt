@@ -10,7 +10,7 @@ use crate::slots::get;
 use crate::steps::is_kind;
 use yv_link_definitions::is_built_in;
 use yv_link_scopes::{Entry, name_of};
-use yv_statement::Statement;
+use yv_text_statement::Statement;
 
 // Whether a statement is a type that names a typedef.
 fn is_derived(entry: &Entry<'_, '_>) -> bool

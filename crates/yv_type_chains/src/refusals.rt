@@ -1,6 +1,6 @@
 //! What is wrong with the types.
 ghost use Rattle.std.specs.Prelude.{◌≡◌, ◌↔◌, ◌&&◌, ◌||◌, not, IsTrue, Some, slice_get};
-ghost use Rattle.yv_statement.specs.Order.{IsLeast};
+ghost use Rattle.yv_text_statement.specs.Order.{IsLeast};
 ghost use Rattle.yv_link_scopes.specs.{Rows.{row, name_in}, Views.{files_in, rows_in}};
 ghost use Rattle.yv_link_definitions.specs.Refers.{is_type};
 ghost use Rattle.yv_type_chains.specs.{Kinds.{needs_any}, Counts.{HasTooMany}, Refusals.{BadIn, BadRow, IsBadType}, InnerFindings.{AreFound}, InnerMarks.{is_marked}};
@@ -12,7 +12,7 @@ use crate::kinds::needs_any;
 use crate::marks::is_marked;
 use crate::slots::get;
 use yv_link_scopes::{Entry, name_of};
-use yv_statement::{Code, Refusal, lesser, refusal_if};
+use yv_text_statement::{Code, Refusal, lesser, refusal_if};
 
 // Whether a type needs a substatement and has none of these.
 fn is_missing(met: &[bool], number: usize, entry: &Entry<'_, '_>) -> bool

@@ -3,9 +3,9 @@ use Rattle.std.proofs.Common.{◌≡◌, ℕ, ◌==◌, length, ℤ, Bool, true,
 use Rattle.std.specs.Prelude.{slice_get, is_some, Result, Ok, Err, IfOk}
 use Rattle.std.specs.Option.{option_map}
 use denote.Ref.{Bor}
-use Rattle.yv_statement.specs.Order.{refusal_at}
-use Rattle.yv_statement.specs.Tree.{Tree}
-use Rattle.yv_statement.specs.declared.refusal.Code.TheVariants.{BadNumbering}
+use Rattle.yv_text_statement.specs.Order.{refusal_at}
+use Rattle.yv_text_statement.specs.Tree.{Tree}
+use Rattle.yv_text_statement.specs.declared.refusal.Code.TheVariants.{BadNumbering}
 use Rattle.yv_base_numbers.specs.Entries.{Entry}
 use Rattle.yv_base_numbers.specs.Numberings.{Pair, IsFirstWrong, keep_numbers, number_in}
 use Rattle.yv_base_numbers.specs.declared.numbering.NumberKind.{NumberKind}

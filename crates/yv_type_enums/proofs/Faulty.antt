@@ -3,11 +3,11 @@ use Rattle.std.proofs.Common.{◌≡◌, ℕ, inl, inr, Bool, List, refl, sym, �
 use Rattle.std.specs.List.{slice_get}
 use Rattle.std.proofs.lemmas.Bool.{cases_lt}
 use Rattle.std.proofs.lemmas.Option.{same_Some}
-use Rattle.yv_statement.specs.Order.{IsLeast, IsUpTo, refusal_at}
-use Rattle.yv_statement.specs.Tree.{Tree}
-use Rattle.yv_statement.specs.declared.refusal.Code.TheVariants.{BadNumbering}
-use Rattle.yv_statement.specs.declared.refusal.Refusal.{Refusal}
-use Rattle.yv_statement.proofs.Least.{least_refused}
+use Rattle.yv_text_statement.specs.Order.{IsLeast, IsUpTo, refusal_at}
+use Rattle.yv_text_statement.specs.Tree.{Tree}
+use Rattle.yv_text_statement.specs.declared.refusal.Code.TheVariants.{BadNumbering}
+use Rattle.yv_text_statement.specs.declared.refusal.Refusal.{Refusal}
+use Rattle.yv_text_statement.proofs.Least.{least_refused}
 use Rattle.yv_base_numbers.specs.Numberings.{Pair, IsFirstWrong, is_wrong, is_wrong_in, keep_numbers, number_entries}
 use Rattle.yv_base_numbers.specs.declared.numbering.NumberKind.{NumberKind}
 use Rattle.yv_base_numbers.specs.Entries.{Entry}

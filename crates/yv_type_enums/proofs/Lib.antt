@@ -1,5 +1,5 @@
-pub mod Adding
+pub mod NextValueName
 pub mod Faults
 mod Faulty
-mod Stepping
-mod Walking
+mod TypeStatementStep
+mod TableWalk

@@ -4,7 +4,7 @@ use Rattle.std.specs.Prelude.{ℕ, Bool, ◌&&◌, List, Option, map, codes}
 use Rattle.std.specs.List.{filter, find, list_any}
 use Rattle.std.specs.Option.{option_map}
 use Rattle.std.specs.Str.{bytes_eq}
-use Rattle.yv_statement.specs.Tree.{Tree, trees, name_of}
+use Rattle.yv_text_statement.specs.Tree.{Tree, trees, name_of}
 use Rattle.yv_link_scopes.specs.Files.{has_word}
 use Rattle.yv_link_features.specs.Blocks.{all_hold}
 use Rattle.yv_base_numbers.specs.Entries.{Entry, stated_number}

@@ -1,6 +1,6 @@
 -- What is known of types that were read.
 use Rattle.std.specs.Prelude.{◌≡◌, ◌↔◌, ℕ, Some}
-use Rattle.yv_statement.specs.Order.{IsLeast}
+use Rattle.yv_text_statement.specs.Order.{IsLeast}
 use Rattle.yv_link_scopes.specs.Files.{Files}
 use Rattle.yv_type_enums.specs.Types.{Truth, NamesView, HasNames}
 use Rattle.yv_type_enums.specs.Refusals.{BadLists}

@@ -2,10 +2,10 @@
 -- 9.6.4, 9.7.3 and
 -- 9.7.4).
 use Rattle.std.specs.Prelude.{◌≡◌, ℕ, ℤ, Bool, ◌&&◌, List, [], ◌∷◌, Option, Some, None, is_some, slice_get}
-use Rattle.yv_statement.specs.Order.{refusal_at}
-use Rattle.yv_statement.specs.Tree.{Tree}
-use Rattle.yv_statement.specs.declared.refusal.Code.TheVariants.{BadNumbering}
-use Rattle.yv_statement.specs.declared.refusal.Refusal.{Refusal}
+use Rattle.yv_text_statement.specs.Order.{refusal_at}
+use Rattle.yv_text_statement.specs.Tree.{Tree}
+use Rattle.yv_text_statement.specs.declared.refusal.Code.TheVariants.{BadNumbering}
+use Rattle.yv_text_statement.specs.declared.refusal.Refusal.{Refusal}
 use Rattle.yv_base_numbers.specs.Entries.{Entry}
 use Rattle.yv_base_numbers.specs.Numberings.{Pair, IsFirstWrong, keep_numbers, number_in, table_of}
 use Rattle.yv_base_numbers.specs.declared.numbering.NumberKind.{NumberKind}

@@ -1,9 +1,9 @@
 -- What is wrong with the names and numbers of enumerations and bits (RFC 7950, sections 9.6.3,
 -- 9.6.4, 9.7.3 and 9.7.4).
 use Rattle.std.specs.Prelude.{◌≡◌, ℕ, length, Some, slice_get}
-use Rattle.yv_statement.specs.Order.{Among}
-use Rattle.yv_statement.specs.Tree.{Tree}
-use Rattle.yv_statement.specs.declared.refusal.Refusal.{Refusal}
+use Rattle.yv_text_statement.specs.Order.{Among}
+use Rattle.yv_text_statement.specs.Tree.{Tree}
+use Rattle.yv_text_statement.specs.declared.refusal.Refusal.{Refusal}
 use Rattle.yv_link_scopes.specs.Files.{Files}
 use Rattle.yv_link_scopes.specs.Rows.{Row}
 use Rattle.yv_link_scopes.specs.RowList.{rows_of, statements_of}

@@ -1,6 +1,6 @@
 //! The entries of a `type` statement: its `enum` or its `bit` statements.
 ghost use Rattle.std.specs.{Prelude.{◌≡◌, ◌||◌, map, not, codes, IfOk, option_map}, List.{find}};
-ghost use Rattle.yv_statement.specs.Tree.{name_of as name_at, trees};
+ghost use Rattle.yv_text_statement.specs.Tree.{name_of as name_at, trees};
 ghost use Rattle.yv_link_scopes.specs.Files.{has_word};
 ghost use Rattle.yv_link.specs.LinkedFiles.{truth_in};
 ghost use Rattle.yv_type_enums.specs.Entries.{entry_of, is_on, listing, number_text, number_word};
@@ -10,7 +10,7 @@ use std::alloc::{AllocError, Global};
 use yv_base_numbers::{ListedEntry, NumberKind};
 use yv_link::Linked;
 use yv_link_scopes::name_of;
-use yv_statement::{Keyword, Statement};
+use yv_text_statement::{Keyword, Statement};
 
 /// The statements that list names, in order.
 pub(crate) fn listing<'a, 'b>(

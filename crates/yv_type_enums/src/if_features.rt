@@ -1,6 +1,6 @@
 //! Which of a type's names are values.
 ghost use Rattle.std.specs.Prelude.{◌≡◌, ◌&&◌, ℕ, List, IfOk};
-ghost use Rattle.yv_statement.specs.Tree.{name_of as name_at};
+ghost use Rattle.yv_text_statement.specs.Tree.{name_of as name_at};
 ghost use Rattle.yv_link.specs.LinkedFiles.{truth_in};
 ghost use Rattle.yv_type_enums.specs.{Entries.{is_on, is_on_among}, InnerEntries.{base_has, counts, borrow}, Values.{has}};
 
@@ -10,7 +10,7 @@ use std::alloc::{AllocError, Global};
 use yv_base_numbers::Numbering;
 use yv_link::Linked;
 use yv_link_scopes::name_of;
-use yv_statement::Statement;
+use yv_text_statement::Statement;
 
 /// The conditions of a file.
 #[derive(Clone, Copy)]

@@ -4,7 +4,7 @@ ghost use Rattle.yv_link_scopes.specs.Files.{has_word};
 ghost use Rattle.yv_type_enums.specs.Entries.{entry_word, number_word};
 
 use yv_base_numbers::NumberKind;
-use yv_statement::{Keyword, Statement};
+use yv_text_statement::{Keyword, Statement};
 
 /// Whether a statement is one of what is listed.
 pub(crate) fn is_entry(kind: NumberKind, statement: &Statement<'_>) -> bool

@@ -1,6 +1,6 @@
 //! The names of types, and what readers ask of them.
 ghost use Rattle.std.specs.{Prelude.{◌≡◌, ◌↔◌, ℕ, Some, IfOk}, Option.{option_map, option_copied}};
-ghost use Rattle.yv_statement.specs.{Order.{IsLeast}, Selection.{ModuleChoice}};
+ghost use Rattle.yv_text_statement.specs.{Order.{IsLeast}, Selection.{ModuleChoice}};
 ghost use Rattle.yv_link_scopes.specs.Files.{Files};
 ghost use Rattle.yv_type_chains.specs.Bases.{AreBases};
 ghost use Rattle.yv_link.specs.LinkedFiles.{AreLinked, truth_in};
@@ -10,7 +10,7 @@ use crate::table::{TypeNames, get};
 use std::alloc::{AllocError, Global};
 use yv_base_tables::Table;
 use yv_link::Linked;
-use yv_statement::{Refusal, lesser};
+use yv_text_statement::{Refusal, lesser};
 use yv_type_chains::Bases;
 
 /// The lists of names of the types of files that lead to `enumeration` or to `bits`, and what is

@@ -6,7 +6,7 @@ ghost use Rattle.yv_type_enums.specs.InnerEntries.{entries_in, refusal_of_entry,
 use crate::entries::entries;
 use std::alloc::{AllocError, Global};
 use yv_base_numbers::{NumberKind, NumberedEntries, Numbering, number_entries};
-use yv_statement::{Code, Refusal, Statement, refusal_if};
+use yv_text_statement::{Code, Refusal, Statement, refusal_if};
 
 /// The numbers of a new type's entries.
 pub(crate) fn new_numbers<'a>(

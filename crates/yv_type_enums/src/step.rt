@@ -12,7 +12,7 @@ use yv_base_numbers::NumberKind;
 use yv_base_tables::Table;
 use yv_link::Linked;
 use yv_link_scopes::{Entry, Rows, name_of};
-use yv_statement::{Keyword, Refusal, Statement};
+use yv_text_statement::{Keyword, Refusal, Statement};
 use yv_type_chains::Bases;
 
 /// The names of a statement, if it has some, and the refusal of its first wrong entry.

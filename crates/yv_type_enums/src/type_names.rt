@@ -14,7 +14,7 @@ use std::alloc::{AllocError, Global};
 use std::rc::Rc;
 use yv_base_numbers::{NumberKind, NumberedEntries};
 use yv_link::Linked;
-use yv_statement::{Refusal, Statement};
+use yv_text_statement::{Refusal, Statement};
 use yv_values::{NameSet, PlainType};
 
 /// The names of an enumeration or of bits, with their numbers, and which of them are values: a name

@@ -11,9 +11,9 @@ use Rattle.yv_link_identities.specs.Derivation.{IsDerivedFrom, directly, further
 use Rattle.yv_link_identities.specs.References.{IsDerived, is_at, number_of, ref_of}
 use Rattle.yv_link_identities.specs.declared.references.IdentityRef.{IdentityRef}
 use Rattle.yv_type_identities.specs.Bases.{IsBelow}
-use Rattle.yv_type_identities.proofs.Placing.{same_at}
+use Rattle.yv_type_identities.proofs.PlaceSets.{same_at}
 use Rattle.yv_type_identities.proofs.Below.{same_place}
-use Rattle.yv_type_identities.proofs.Reading.{both, both_true}
+use Rattle.yv_type_identities.proofs.RowLoop.{both, both_true}
 
 module _ {X : Type 0} (p : X → Bool) where
   abbrev Found : ℕ → ℕ → List X → Type 0

@@ -11,8 +11,8 @@ use Rattle.yv_link_identities.specs.declared.references.IdentityRef.{IdentityRef
 use Rattle.yv_type_identities.specs.Bases.{IsBelow}
 use Rattle.yv_type_identities.specs.InnerBases.{IsBelowKey}
 use Rattle.yv_type_identities.specs.InnerSets.{is_key}
-use Rattle.yv_type_identities.proofs.Placing.{same_at}
-use Rattle.yv_type_identities.proofs.Reading.{both, both_true, found, finds, mapped}
+use Rattle.yv_type_identities.proofs.PlaceSets.{same_at}
+use Rattle.yv_type_identities.proofs.RowLoop.{both, both_true, found, finds, mapped}
 
 pub same_place : (place ref : IdentityRef) → place ≡ ref → is_at place ref ≡ true
 same_place place ref e =

@@ -13,8 +13,8 @@ use Rattle.yv_link_identities.specs.declared.references.IdentityRef.{IdentityRef
 use Rattle.yv_type_identities.specs.Bases.{NamesBase}
 use Rattle.yv_type_identities.specs.InnerBases.{base_of, bases_at}
 use Rattle.yv_type_identities.proofs.Below.{same_place}
-use Rattle.yv_type_identities.proofs.Gathering.{any_one, split, left_true, right_true}
-use Rattle.yv_type_identities.proofs.Placing.{same_at}
+use Rattle.yv_type_identities.proofs.ListMembers.{any_one, split, left_true, right_true}
+use Rattle.yv_type_identities.proofs.PlaceSets.{same_at}
 
 module _ (files : Briefs) (rows : List Row) where
   abbrev NamedFirst : ℕ → ℕ → IdentityRef → Type 0

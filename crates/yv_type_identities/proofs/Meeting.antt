@@ -8,7 +8,7 @@ use Rattle.yv_type_identities.specs.InnerRuns.{HasRun, in_run, is_in, is_met, ru
 use Rattle.yv_type_identities.specs.declared.runs.Run.{Run}
 use Rattle.yv_type_identities.specs.declared.shared_members.SharedMembers.{SharedMembers}
 use Rattle.yv_type_identities.proofs.Below.{ref_at}
-use Rattle.yv_type_identities.proofs.Reading.{both, both_true}
+use Rattle.yv_type_identities.proofs.RowLoop.{both, both_true}
 
 -- what is met of the first bases
 pub record Meets (shared : SharedMembers) (key : List (ℕ × ℕ)) (i : ℕ) (left : Option Run) : Type 0 where

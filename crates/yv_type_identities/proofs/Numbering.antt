@@ -10,7 +10,7 @@ use Rattle.yv_link_identities.specs.declared.references.IdentityRef.{IdentityRef
 use Rattle.yv_type_identities.specs.InnerRuns.{AreIdentityPlaces, number_at}
 use Rattle.yv_type_identities.specs.declared.identity_places.IdentityPlaces.{IdentityPlaces}
 use Rattle.yv_type_identities.proofs.Below.{same_place}
-use Rattle.yv_type_identities.proofs.Placing.{same_at}
+use Rattle.yv_type_identities.proofs.PlaceSets.{same_at}
 
 -- the numbers of the identities among the first statements are kept
 pub record PlacesFirst (rows : List Row) (n : ℕ) (places : IdentityPlaces) : Type 0 where

@@ -1,6 +1,6 @@
 //! What is derived from all of some bases.
 ghost use Rattle.std.specs.Prelude.{◌↔◌, IsTrue, IfOk, map};
-ghost use Rattle.yv_statement.specs.Selection.{ModuleChoice};
+ghost use Rattle.yv_text_statement.specs.Selection.{ModuleChoice};
 ghost use Rattle.yv_link_scopes.specs.{Files.{Files, brief_of}, RowList.{rows_of}};
 ghost use Rattle.yv_link_identities.specs.declared.references.IdentityRef.{IdentityRef};
 ghost use Rattle.yv_link.specs.LinkedFiles.{AreLinked};

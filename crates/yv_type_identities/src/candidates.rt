@@ -1,6 +1,6 @@
 //! The identities that are values wherever they are derived from the bases.
 ghost use Rattle.std.specs.{Prelude.{◌≡◌, map, slice_get, IfOk}, Rc.{rc_str_bytes}};
-ghost use Rattle.yv_statement.specs.Selection.{ModuleChoice};
+ghost use Rattle.yv_text_statement.specs.Selection.{ModuleChoice};
 ghost use Rattle.yv_link_scopes.specs.{Files.{Files, brief_of}, RowList.{rows_of}, Rows.{row}};
 ghost use Rattle.yv_link_features.specs.On.{module_name_in};
 ghost use Rattle.yv_link_identities.specs.{Names.{is_identity}, References.{ref_of}};
@@ -13,7 +13,7 @@ use std::collections::BTreeSet;
 use std::rc::RcStr;
 use yv_link::{IdentityRef, Linked};
 use yv_link_scopes::{Entry, name_of};
-use yv_statement::Keyword;
+use yv_text_statement::Keyword;
 use yv_values::Member;
 
 /// An identity with its module, and where it is.

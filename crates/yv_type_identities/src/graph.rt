@@ -1,7 +1,7 @@
 //! What is directly derived from each identity.
 ghost use Rattle.std.specs.Prelude.{◌≡◌, ◌↔◌, ◌<◌, ℕ, None, Some, true, length, map, IfOk, IfSome};
 ghost use Rattle.yv_base_graph.specs.Graph.{IsGraph};
-ghost use Rattle.yv_statement.specs.Selection.{ModuleChoice};
+ghost use Rattle.yv_text_statement.specs.Selection.{ModuleChoice};
 ghost use Rattle.yv_link_scopes.specs.{Files.{Files, brief_of}, RowList.{rows_of}, Rows.{row}};
 ghost use Rattle.yv_link_identities.specs.InnerPairs.{HasNoEdge};
 ghost use Rattle.yv_link.specs.LinkedFiles.{AreLinked};

@@ -1,6 +1,6 @@
 //! The values of identityref types.
 ghost use Rattle.std.specs.{Prelude.{◌≡◌, ◌↔◌, ℕ, List, IsTrue, IfOk, IfSome, OnOk}, List.{list_any}};
-ghost use Rattle.yv_statement.specs.Selection.{ModuleChoice};
+ghost use Rattle.yv_text_statement.specs.Selection.{ModuleChoice};
 ghost use Rattle.yv_link_scopes.specs.Files.{Files};
 ghost use Rattle.yv_link.specs.LinkedFiles.{AreLinked, truth_in};
 ghost use Rattle.yv_values.specs.Identities.{RiseById, is_identity};

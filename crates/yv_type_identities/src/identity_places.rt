@@ -1,6 +1,6 @@
 //! The identity at each place.
 ghost use Rattle.std.specs.Prelude.{◌≡◌, ◌≢◌, None, Some, true, cond, ℕ, List, map, slice_get, IfOk, IfSome};
-ghost use Rattle.yv_statement.specs.Selection.{ModuleChoice};
+ghost use Rattle.yv_text_statement.specs.Selection.{ModuleChoice};
 ghost use Rattle.yv_link_scopes.specs.{Files.{Files, brief_of}, RowList.{rows_of}, Rows.{Row, row}};
 ghost use Rattle.yv_link_identities.specs.{References.{is_at}, declared.references.IdentityRef.{IdentityRef}};
 ghost use Rattle.yv_link.specs.LinkedFiles.{AreLinked};

@@ -1,6 +1,6 @@
 //! Which statements have a condition that doesn't hold.
 ghost use Rattle.std.specs.{Prelude.{◌≡◌, ◌&&◌, not, ℕ, IfOk}, BTreeSet.{contains}, List.{list_any}, Ordering.{nat_cmp}};
-ghost use Rattle.yv_statement.specs.Selection.{ModuleChoice};
+ghost use Rattle.yv_text_statement.specs.Selection.{ModuleChoice};
 ghost use Rattle.yv_link_scopes.specs.{Files.{Files}, RowList.{rows_of}, Rows.{row, name_in}};
 ghost use Rattle.yv_link_features.specs.Meaning.{is_if_feature};
 ghost use Rattle.yv_link.specs.LinkedFiles.{AreLinked, truth_in};
@@ -10,7 +10,7 @@ use std::alloc::{AllocError, Global};
 use std::collections::BTreeSet;
 use yv_link::Linked;
 use yv_link_scopes::{Entry, name_of};
-use yv_statement::Keyword;
+use yv_text_statement::Keyword;
 
 // Whether a statement is a condition that doesn't hold.
 fn is_false<'a, 'b>(linked: &Linked<'a, 'b>, entry: &Entry<'a, 'b>) -> bool

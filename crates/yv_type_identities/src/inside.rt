@@ -1,6 +1,6 @@
 //! The bases in each block.
 ghost use Rattle.std.specs.{Prelude.{◌≡◌, ◌≢◌, ◌↔◌, ◌∷◌, ◌++◌, ◌<◌, ℕ, [], length, map, IsTrue, IfOk, OnOk}, List.{list_any}};
-ghost use Rattle.yv_statement.specs.Selection.{ModuleChoice};
+ghost use Rattle.yv_text_statement.specs.Selection.{ModuleChoice};
 ghost use Rattle.yv_link_scopes.specs.{Files.{Files, brief_of}, RowList.{rows_of}, Rows.{row}};
 ghost use Rattle.yv_link_identities.specs.{References.{is_at}, declared.references.IdentityRef.{IdentityRef}};
 ghost use Rattle.yv_link.specs.LinkedFiles.{AreLinked};
@@ -9,7 +9,7 @@ ghost use Rattle.yv_type_identities.specs.{Bases.{NamesBase}, InnerBases.{base_o
 use std::alloc::{AllocError, Global};
 use yv_link::{IdentityRef, Linked};
 use yv_link_scopes::{Entry, name_of};
-use yv_statement::Keyword;
+use yv_text_statement::Keyword;
 
 /// The base that a statement gives the type or the identity in whose block it is.
 pub(crate) fn base_of<'a, 'b>(linked: &Linked<'a, 'b>, entry: &Entry<'a, 'b>) -> Option<IdentityRef>

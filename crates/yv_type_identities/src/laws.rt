@@ -1,6 +1,6 @@
 //! Laws about the definitions only. These functions do nothing: the contract of each is the law.
 ghost use Rattle.std.specs.Prelude.{◌≡◌, ◌↔◌, ℕ, List, Some, None, slice_get};
-ghost use Rattle.yv_statement.specs.{Order.{IsLeast}, Selection.{ModuleChoice}};
+ghost use Rattle.yv_text_statement.specs.{Order.{IsLeast}, Selection.{ModuleChoice}};
 ghost use Rattle.yv_link_scopes.specs.{Files.{Files, Briefs}, Rows.{Row}};
 ghost use Rattle.yv_link_features.specs.{Refusals.{BadFeatures}, On.{Holds}};
 ghost use Rattle.yv_link_identities.specs.{References.{IsDerived, ref_of}, declared.references.IdentityRef.{IdentityRef}};

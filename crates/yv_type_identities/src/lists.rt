@@ -1,6 +1,6 @@
 //! The identities of a type, of those that might be.
 ghost use Rattle.std.specs.{Prelude.{◌≡◌, ◌↔◌, ℕ, List, true, Some, nat_eq, nat_lt, slice_get, IsTrue, IfOk}, List.{list_any}};
-ghost use Rattle.yv_statement.specs.Selection.{ModuleChoice};
+ghost use Rattle.yv_text_statement.specs.Selection.{ModuleChoice};
 ghost use Rattle.yv_link_scopes.specs.Files.{Files};
 ghost use Rattle.yv_link.specs.LinkedFiles.{AreLinked, truth_in};
 ghost use Rattle.yv_values.specs.Identities.{RiseById, id_of, is_identity};

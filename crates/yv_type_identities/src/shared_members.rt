@@ -1,6 +1,6 @@
 //! The identities that may be values as one list, which types share.
 ghost use Rattle.std.specs.{Prelude.{◌≡◌, ◌↔◌, ◌&&◌, ℕ, List, Some, map, slice_get, IsTrue, IfOk, IfSome}, Option.{option_and_then}};
-ghost use Rattle.yv_statement.specs.Selection.{ModuleChoice};
+ghost use Rattle.yv_text_statement.specs.Selection.{ModuleChoice};
 ghost use Rattle.yv_link_scopes.specs.Files.{Files};
 ghost use Rattle.yv_link.specs.{LinkedFiles.{AreLinked, truth_in}, declared.linked_files.Linked.{Linked}};
 ghost use Rattle.yv_values.specs.Identities.{RiseById, numbered_of};

@@ -1,7 +1,7 @@
 pub mod One
 pub mod Read
 pub mod Wider
-pub mod Naming
-pub mod Stepping
-pub mod Walking
+pub mod BuiltInNames
+pub mod TypeStatementStep
+pub mod TableWalk
 pub mod Children

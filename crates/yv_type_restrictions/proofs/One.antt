@@ -2,7 +2,7 @@
 -- is left.
 use Rattle.std.proofs.Common.{◌≡◌, ℕ, inl, inr, List, [], ◌∷◌, ◌++◌, map, codes, Option, Some, None, refl, sym, ◌∙◌, ap}
 use Rattle.std.specs.Prelude.{option_to_list}
-use Rattle.yv_statement.specs.Tree.{Tree, trees}
+use Rattle.yv_text_statement.specs.Tree.{Tree, trees}
 use Rattle.yv_base_numbers.specs.Intervals.{Interval}
 use Rattle.yv_base_numbers.specs.Restrictions.{Restricts}
 use Rattle.yv_pattern.proofs.One.{translates_one}

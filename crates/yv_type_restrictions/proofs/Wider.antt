@@ -6,8 +6,8 @@ use Rattle.std.specs.List.{list_all, list_any}
 use Rattle.std.specs.Str.{chars}
 use Rattle.std.proofs.lemmas.Bool.{and_parts, and_from, or_cases, leb-true, le-leb}
 use Rattle.std.proofs.lemmas.List.Folds.{list_all-append}
-use Rattle.yv_statement.specs.Legal.{all_legal}
-use Rattle.yv_statement.specs.Tree.{Tree}
+use Rattle.yv_text_statement.specs.Legal.{all_legal}
+use Rattle.yv_text_statement.specs.Tree.{Tree}
 use Rattle.yv_base_numbers.specs.Intervals.{Interval, has, are_among}
 use Rattle.yv_base_numbers.specs.RestrictedIntervals.{lies_in, lie_within}
 use Rattle.yv_base_numbers.specs.Numbers.{based_integer_of, scaled_of}

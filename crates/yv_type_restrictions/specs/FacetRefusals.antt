@@ -1,9 +1,9 @@
 -- What is wrong with the restrictions of a `type` statement.
 use Rattle.std.specs.Prelude.{◌≡◌, ℕ, ◌⊎◌, List, length, true, codes, slice_get, Option, Some, None}
-use Rattle.yv_statement.specs.Order.{Stands, Among, refusal_at}
-use Rattle.yv_statement.specs.Tree.{Tree, trees, name_of}
-use Rattle.yv_statement.specs.declared.refusal.Refusal.{Refusal}
-use Rattle.yv_statement.specs.declared.refusal.Code.TheVariants as code
+use Rattle.yv_text_statement.specs.Order.{Stands, Among, refusal_at}
+use Rattle.yv_text_statement.specs.Tree.{Tree, trees, name_of}
+use Rattle.yv_text_statement.specs.declared.refusal.Refusal.{Refusal}
+use Rattle.yv_text_statement.specs.declared.refusal.Code.TheVariants as code
 use Rattle.yv_base_numbers.specs.Intervals.{Interval}
 use Rattle.yv_pattern.specs.Spells.{Translates}
 use Rattle.yv_values.specs.Types.{Plain, wholes, decimals, strings, octets}

@@ -3,7 +3,7 @@
 use Rattle.std.specs.Prelude.{◌≡◌, ℕ, ◌⊎◌, List, [], ◌∷◌, ◌++◌, Bool, true, codes, Option, Some, None, is_some, option_to_list}
 use Rattle.std.specs.List.{find}
 use Rattle.std.specs.Str.{bytes_eq}
-use Rattle.yv_statement.specs.Tree.{Tree, trees, name_of}
+use Rattle.yv_text_statement.specs.Tree.{Tree, trees, name_of}
 use Rattle.yv_base_numbers.specs.Intervals.{Interval}
 use Rattle.yv_base_numbers.specs.Restrictions.{Restricts}
 use Rattle.yv_pattern.specs.Spells.{Translates}

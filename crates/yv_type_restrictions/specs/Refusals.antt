@@ -1,9 +1,9 @@
 -- What is wrong with the ranges, lengths and patterns of types (RFC 7950, sections 9.2.4, 9.3.4,
 -- 9.4.4, 9.4.5 and 9.8.1).
 use Rattle.std.specs.Prelude.{ℕ, length}
-use Rattle.yv_statement.specs.Order.{Among}
-use Rattle.yv_statement.specs.Tree.{Tree}
-use Rattle.yv_statement.specs.declared.refusal.Refusal.{Refusal}
+use Rattle.yv_text_statement.specs.Order.{Among}
+use Rattle.yv_text_statement.specs.Tree.{Tree}
+use Rattle.yv_text_statement.specs.declared.refusal.Refusal.{Refusal}
 use Rattle.yv_link_scopes.specs.Files.{Files}
 use Rattle.yv_link_scopes.specs.Rows.{Row}
 use Rattle.yv_link_scopes.specs.RowList.{rows_of}

@@ -6,7 +6,7 @@ ghost use Rattle.yv_base_numbers.specs.Numbers.{integer_of};
 use crate::restriction::child;
 use yv_base_numbers::{Integer, integer_of};
 use yv_link_scopes::name_of;
-use yv_statement::{Keyword, Statement};
+use yv_text_statement::{Keyword, Statement};
 
 // The number that a text writes, where decimal64 may have so many digits.
 fn few_digits(text: &[u8]) -> Option<u32>

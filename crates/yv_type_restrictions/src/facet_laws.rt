@@ -1,6 +1,6 @@
 //! Laws about the definitions only.
 ghost use Rattle.std.specs.Prelude.{◌≡◌, ℕ, List, Some};
-ghost use Rattle.yv_statement.specs.Tree.{Tree};
+ghost use Rattle.yv_text_statement.specs.Tree.{Tree};
 ghost use Rattle.yv_values.specs.{Scopes.{Place, text_value}, Types.{Plain}, Values.{Val}};
 ghost use Rattle.yv_type_restrictions.specs.Facets.{Narrows};
 

@@ -1,13 +1,13 @@
 //! What a type statement leaves of the type that it names.
 ghost use Rattle.std.specs.Prelude.{◌≡◌, ◌≢◌, Err, IfOk};
-ghost use Rattle.yv_statement.specs.{Order.{IsLeast}, Tree.{trees}, declared.refusal.Stop.TheVariants.{Fault, PatternBuild}};
+ghost use Rattle.yv_text_statement.specs.{Order.{IsLeast}, Tree.{trees}, declared.refusal.Stop.TheVariants.{Fault, PatternBuild}};
 ghost use Rattle.yv_values.specs.Types.{plain_of};
 ghost use Rattle.yv_type_restrictions.specs.{Facets.{Narrows}, FacetRefusals.{BadFacets, HasPattern}};
 
 use crate::restricted_kinds::{NarrowedType, binary, decimal, text, whole};
 use std::alloc::Global;
 use yv_pattern::Patterns;
-use yv_statement::{Refusal, Statement, Stop};
+use yv_text_statement::{Refusal, Statement, Stop};
 use yv_values::PlainType;
 
 /// What a type statement's `range`, `length` and `pattern` leave of the type that it names, and the

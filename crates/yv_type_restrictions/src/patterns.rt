@@ -1,13 +1,13 @@
 //! The tests that the patterns of a type statement are.
 ghost use Rattle.std.specs.{Prelude.{◌≡◌, ◌++◌, map, option_to_list, IfOk, IfErr, OnOk}, Option.{option_map}};
-ghost use Rattle.yv_statement.specs.Order.{IsLeast};
+ghost use Rattle.yv_text_statement.specs.Order.{IsLeast};
 ghost use Rattle.yv_values.specs.Types.{test_of};
 ghost use Rattle.yv_type_restrictions.specs.{Facets.{AreTests, IsTest}, FacetRefusals.{BadPattern, BadPatterns, HasPattern, IsPattern}, InnerStops.{StopsWhere}};
 
 use crate::restriction::{child, text_of};
 use std::alloc::{AllocError, Global};
 use yv_pattern::Patterns;
-use yv_statement::{Code, Keyword, Refusal, Statement, Stop, lesser, refusal_if};
+use yv_text_statement::{Code, Keyword, Refusal, Statement, Stop, lesser, refusal_if};
 use yv_values::PatternTest;
 
 // The test that a statement is, and its refusal where it is a pattern outside the dialect.

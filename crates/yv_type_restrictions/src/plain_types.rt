@@ -1,6 +1,6 @@
 //! The plain types of types, and what readers ask of them.
 ghost use Rattle.std.specs.{Prelude.{◌≡◌, ◌≢◌, ◌↔◌, ℕ, Some, Err, IfOk, IfErr, length}, Option.{option_map, option_copied}};
-ghost use Rattle.yv_statement.specs.{Order.{IsLeast}, declared.refusal.Stop.TheVariants.{Fault, PatternBuild}};
+ghost use Rattle.yv_text_statement.specs.{Order.{IsLeast}, declared.refusal.Stop.TheVariants.{Fault, PatternBuild}};
 ghost use Rattle.yv_link_scopes.specs.{Files.{Files}, Views.{lent_in}};
 ghost use Rattle.yv_type_chains.specs.Bases.{AreBases};
 ghost use Rattle.yv_values.specs.Types.{Plain, plain_of};
@@ -11,7 +11,7 @@ use std::alloc::Global;
 use yv_base_tables::Table;
 use yv_link_scopes::Rows;
 use yv_pattern::Patterns;
-use yv_statement::{Refusal, Stop, lesser};
+use yv_text_statement::{Refusal, Stop, lesser};
 use yv_type_chains::Bases;
 use yv_values::PlainType;
 

@@ -1,6 +1,6 @@
 //! What is left of each kind of type.
 ghost use Rattle.std.specs.Prelude.{◌≡◌, IfOk, IfErr};
-ghost use Rattle.yv_statement.specs.{Order.{IsLeast}, Tree.{trees}};
+ghost use Rattle.yv_text_statement.specs.{Order.{IsLeast}, Tree.{trees}};
 ghost use Rattle.yv_values.specs.Types.{plain_of, wholes, decimals, strings, octets};
 ghost use Rattle.yv_type_restrictions.specs.{Facets.{Narrows}, FacetRefusals.{BadFacets, HasPattern}, InnerStops.{StopsWhere}};
 
@@ -9,7 +9,7 @@ use crate::restriction::{child, restrict_intervals};
 use std::alloc::{AllocError, Global};
 use yv_base_numbers::Intervals;
 use yv_pattern::Patterns;
-use yv_statement::{Keyword, Refusal, Statement, Stop, lesser};
+use yv_text_statement::{Keyword, Refusal, Statement, Stop, lesser};
 use yv_values::{DecimalType, PlainType, TextType, WholeType};
 
 /// What a type statement leaves of a type, and the least that is wrong with its restrictions.

@@ -1,11 +1,11 @@
 //! Restrictions by `range` and by `length`.
 ghost use Rattle.std.specs.{Prelude.{◌≡◌, IfOk, IfSome}, List.{find}, Option.{option_copied}};
-ghost use Rattle.yv_statement.specs.{Keywords.{keyword_of, same, written}, Order.{IsLeast}, Tree.{name_of as text_of, trees}};
+ghost use Rattle.yv_text_statement.specs.{Keywords.{keyword_of, same, spelling}, Order.{IsLeast}, Tree.{name_of as text_of, trees}};
 ghost use Rattle.yv_type_restrictions.specs.{Facets.{child, Leaves}, FacetRefusals.{BadRestriction}};
 
 use std::alloc::{AllocError, Global};
 use yv_base_numbers::{Intervals, restrict};
-use yv_statement::{Code, Keyword, Refusal, Statement, refusal_if};
+use yv_text_statement::{Code, Keyword, Refusal, Statement, refusal_if};
 
 /// The statement's argument, or no text where it has none.
 pub fn text_of<'a>(statement: &'a Statement<'_>) -> &'a str
@@ -24,7 +24,7 @@ fn first<'a, 'b>(keyword: Keyword, statement: &'a Statement<'b>) -> Option<&'a S
 
 /// The first substatement with a keyword.
 pub fn child<'a, 'b>(keyword: Keyword, statement: &'a Statement<'b>) -> Option<&'a Statement<'b>>
-    ensures { IfSome (written keyword) (λ word. option_copied result ≡ child word statement.now) }
+    ensures { IfSome (spelling keyword) (λ word. option_copied result ≡ child word statement.now) }
 {
     first(keyword, statement)
 }

@@ -1,6 +1,6 @@
 //! One type.
 ghost use Rattle.std.specs.{Prelude.{◌≡◌, None, IfOk, IfErr, codes}, Option.{option_map, option_copied}};
-ghost use Rattle.yv_statement.specs.Tree.{trees};
+ghost use Rattle.yv_text_statement.specs.Tree.{trees};
 ghost use Rattle.yv_link_scopes.specs.Views.{lent_in};
 ghost use Rattle.yv_type_chains.specs.Bases.{AreBases};
 ghost use Rattle.yv_values.specs.Types.{plain_of};
@@ -15,7 +15,7 @@ use std::alloc::{AllocError, Global};
 use yv_base_tables::Table;
 use yv_link_scopes::{Rows, name_of};
 use yv_pattern::Patterns;
-use yv_statement::{Keyword, Refusal, Statement, Stop};
+use yv_text_statement::{Keyword, Refusal, Statement, Stop};
 use yv_type_chains::Bases;
 use yv_values::PlainType;
 

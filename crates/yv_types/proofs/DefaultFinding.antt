@@ -13,10 +13,10 @@ use Rattle.yv_link_scopes.specs.declared.kind.NameKind.TheVariants.{Typedef}
 use Rattle.yv_link_definitions.specs.Refers.{RefersTo, is_type}
 use Rattle.yv_type_chains.specs.InnerTables.{at}
 use Rattle.yv_type_chains.specs.Types.{IsTypeAt, type_of}
-use Rattle.yv_type_chains.proofs.Following.{names_type, refers_type}
-use Rattle.yv_type_chains.proofs.Walking.{walk_more}
-use Rattle.yv_statement.specs.TextInFile.{TextInFile, written_of}
-use Rattle.yv_statement.specs.declared.written_text.WrittenText.{WrittenText}
+use Rattle.yv_type_chains.proofs.FollowedTypes.{names_type, refers_type}
+use Rattle.yv_type_chains.proofs.TableWalk.{walk_more}
+use Rattle.yv_text_statement.specs.TextInFile.{TextInFile, written_of}
+use Rattle.yv_text_statement.specs.declared.written_text.WrittenText.{WrittenText}
 use Rattle.yv_types.specs.Defaults.{HasDefault, Means, default_at, no_typedef, nearest, further, no_type}
 use Rattle.yv_types.specs.InnerDefaultTables.{AreFound, AreSaid, IsFollowed, text_at, text_from}
 

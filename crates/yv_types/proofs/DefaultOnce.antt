@@ -8,7 +8,7 @@ use Rattle.yv_link_scopes.specs.Scopes.{MeansIn}
 use Rattle.yv_link_scopes.specs.declared.kind.NameKind.TheVariants.{Typedef}
 use Rattle.yv_type_chains.proofs.Once.{MeansOne}
 use Rattle.yv_type_chains.specs.Types.{type_of}
-use Rattle.yv_statement.specs.TextInFile.{TextInFile}
+use Rattle.yv_text_statement.specs.TextInFile.{TextInFile}
 use Rattle.yv_types.specs.Defaults.{HasDefault, Means, default_at, no_typedef, nearest, further, no_type}
 
 none_some : {A : Type 0} (x : A) → None ≡ Some x → ⊥

@@ -1,19 +1,19 @@
-pub mod Saying
+pub mod TypedefDefaultTexts
 pub mod DefaultFinding
 pub mod DefaultOnce
-pub mod Scoping
+pub mod PrefixScopes
 pub mod Binding
-pub mod Keeping
+pub mod KeptDefaults
 pub mod LeafrefOnce
 pub mod LeafrefFinding
 pub mod LeafrefWalking
-mod Joining
+mod UnionMembers
 mod Numbering
-mod Placing
-mod Shared
+mod TypeStatementPlace
+mod SharedTypeNumbers
 mod Single
-mod Stepping
-mod Telling
-mod Told
-mod Walking
-mod Unrestricted
+mod TypeStatementStep
+mod TypeNames
+mod PlacedPlainTypes
+mod TableWalk
+mod UnrestrictedTypes

@@ -3,7 +3,7 @@ use Rattle.std.proofs.Common.{◌≡◌, ◌↔◌, ℕ, true, IsTrue, List, [],
 use Rattle.std.specs.Bool.{one_answer}
 use Rattle.std.specs.List.{list_any, slice_get}
 use Rattle.std.proofs.lemmas.Option.{same_Some}
-use Rattle.yv_statement.specs.Selection.{ModuleChoice}
+use Rattle.yv_text_statement.specs.Selection.{ModuleChoice}
 use Rattle.yv_link_scopes.specs.Files.{Files, brief_of}
 use Rattle.yv_link_scopes.specs.Rows.{Row}
 use Rattle.yv_link_scopes.specs.RowList.{rows_of}
@@ -12,12 +12,12 @@ use Rattle.yv_values.specs.Identities.{Id, RiseById, is_identity}
 use Rattle.yv_values.specs.NameOrder.{Rises, is_named}
 use Rattle.yv_values.specs.Types.{Plain, identities}
 use Rattle.yv_type_restrictions.specs.Types.{HasPlainType}
-use Rattle.yv_type_restrictions.proofs.Stepping.{HaveRows}
+use Rattle.yv_type_restrictions.proofs.TypeStatementStep.{HaveRows}
 use Rattle.yv_type_enums.specs.Types.{HasNames, NamesView, Truth}
 use Rattle.yv_type_identities.specs.Values.{HasValue}
 use Rattle.yv_types.specs.Spaces.{Space, Spaces, plain_type, names_type, identityref, leafref, union, through_typedef, none, more, of_kind}
-use Rattle.yv_types.proofs.Stepping.{apart, identityref_built, leafref_built, union_built}
-use Rattle.yv_types.proofs.Telling.{named_no_kind, plain_no_kind, plain_unnamed, told_once, two_kinds}
+use Rattle.yv_types.proofs.TypeStatementStep.{apart, identityref_built, leafref_built, union_built}
+use Rattle.yv_types.proofs.TypeNames.{named_no_kind, plain_no_kind, plain_unnamed, told_once, two_kinds}
 
 -- two lists of texts that rise are one where they have the same texts, and two of identities
 abbrev pub TextsAreOne : Type 0

@@ -2,14 +2,14 @@
 use Rattle.std.specs.Prelude.{◌≡◌, ℕ, Bool, map, Option, Some, None, codes, slice_get}
 use Rattle.std.specs.List.{find}
 use Rattle.std.specs.Option.{option_and_then, option_map}
-use Rattle.yv_statement.specs.Tree.{Tree, trees, name_of}
+use Rattle.yv_text_statement.specs.Tree.{Tree, trees, name_of}
 use Rattle.yv_link_scopes.specs.Files.{Files, brief_of, has_word}
 use Rattle.yv_link_scopes.specs.Rows.{Row}
 use Rattle.yv_link_scopes.specs.RowList.{rows_of, statements_of}
 use Rattle.yv_link_scopes.specs.declared.kind.NameKind.TheVariants.{Typedef}
 use Rattle.yv_link_definitions.specs.Refers.{Refers}
 use Rattle.yv_type_chains.specs.Types.{type_of}
-use Rattle.yv_statement.specs.TextInFile.{TextInFile}
+use Rattle.yv_text_statement.specs.TextInFile.{TextInFile}
 
 -- a statement is a `default`
 abbrev pub is_default : Tree → Bool

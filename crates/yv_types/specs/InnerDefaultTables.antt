@@ -1,7 +1,7 @@
 -- Inner definitions, which only private clauses and the tables cite: what typedefs say, by number.
 use Rattle.std.specs.Prelude.{◌≡◌, ℕ, List, Option, None, if◌then◌else◌, map, slice_get}
 use Rattle.std.specs.Option.{option_and_then, option_map}
-use Rattle.yv_statement.specs.Tree.{Tree}
+use Rattle.yv_text_statement.specs.Tree.{Tree}
 use Rattle.yv_link_scopes.specs.Files.{Files, brief_of}
 use Rattle.yv_link_scopes.specs.Rows.{Row}
 use Rattle.yv_link_scopes.specs.RowList.{rows_of, statements_of}
@@ -9,8 +9,8 @@ use Rattle.yv_link_scopes.specs.declared.kind.NameKind.TheVariants.{Typedef}
 use Rattle.yv_link_definitions.specs.Duplicates.{is_of}
 use Rattle.yv_type_chains.specs.InnerTables.{at}
 use Rattle.yv_type_chains.specs.Types.{Follows}
-use Rattle.yv_statement.specs.TextInFile.{TextInFile, written_of}
-use Rattle.yv_statement.specs.declared.written_text.WrittenText.{WrittenText}
+use Rattle.yv_text_statement.specs.TextInFile.{TextInFile, written_of}
+use Rattle.yv_text_statement.specs.declared.written_text.WrittenText.{WrittenText}
 use Rattle.yv_types.specs.Defaults.{HasDefault, Means, default_at, default_in}
 
 -- what a typedef says; nothing where the statement is none

@@ -4,13 +4,13 @@ use Rattle.std.specs.Option.{option_and_then, option_map}
 use Rattle.std.specs.Rc.{rc_slice_items}
 use Rattle.yv_base_tables.specs.Table.{item_of}
 use Rattle.yv_base_tables.specs.declared.table.Table.{Table}
-use Rattle.yv_statement.specs.Selection.{ModuleChoice}
+use Rattle.yv_text_statement.specs.Selection.{ModuleChoice}
 use Rattle.yv_link_scopes.specs.Files.{Files, brief_of}
 use Rattle.yv_link_scopes.specs.RowList.{rows_of}
 use Rattle.yv_values.specs.Types.{Plain, plain_of}
 use Rattle.yv_values.specs.NameOrder.{Rises, is_named}
 use Rattle.yv_type_chains.specs.Types.{Follows, IsTypeAt}
-use Rattle.yv_statement.specs.Tree.{Tree, trees}
+use Rattle.yv_text_statement.specs.Tree.{Tree, trees}
 use Rattle.yv_type_restrictions.specs.Types.{HasPlainType, IsTypeAt as IsType}
 use Rattle.yv_type_enums.specs.Types.{HasNames, NamesView, Truth}
 use Rattle.yv_types.specs.Spaces.{Space, of_kind}

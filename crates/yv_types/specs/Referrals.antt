@@ -4,12 +4,12 @@ use Rattle.std.specs.Prelude.{◌≡◌, ℕ, Bool, true, List, map, Option, Som
 use Rattle.std.specs.List.{find}
 use Rattle.std.specs.Option.{option_and_then, option_map, unwrap_or}
 use Rattle.std.specs.Str.{bytes_eq}
-use Rattle.yv_statement.specs.Tree.{Tree, trees, name_of}
+use Rattle.yv_text_statement.specs.Tree.{Tree, trees, name_of}
 use Rattle.yv_link_scopes.specs.Files.{Files, brief_of, has_word}
 use Rattle.yv_link_scopes.specs.Rows.{Row}
 use Rattle.yv_link_scopes.specs.RowList.{rows_of, statements_of}
 use Rattle.yv_type_chains.specs.Types.{Follows, is_leafref}
-use Rattle.yv_statement.specs.TextInFile.{TextInFile}
+use Rattle.yv_text_statement.specs.TextInFile.{TextInFile}
 use Rattle.yv_types.specs.declared.path.PathText.{PathText}
 use Rattle.yv_types.specs.declared.leafref_path.TypeLeafref.{TypeLeafref}
 use Rattle.yv_types.specs.Defaults.{written_in}

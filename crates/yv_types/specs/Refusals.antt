@@ -1,6 +1,6 @@
 -- What is wrong with the types of files (RFC 7950, sections 7.3, 7.4 and 9).
 use Rattle.std.specs.Prelude.{◌⊎◌}
-use Rattle.yv_statement.specs.declared.refusal.Refusal.{Refusal}
+use Rattle.yv_text_statement.specs.declared.refusal.Refusal.{Refusal}
 use Rattle.yv_link_scopes.specs.Files.{Files}
 use Rattle.yv_type_chains.specs.Refusals.{BadKinds}
 use Rattle.yv_type_restrictions.specs.Refusals.{BadFaceted}

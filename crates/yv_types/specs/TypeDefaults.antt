@@ -4,8 +4,8 @@ use Rattle.std.specs.Option.{option_and_then, option_map}
 use Rattle.yv_link_scopes.specs.Files.{Files}
 use Rattle.yv_base_tables.specs.Sparse.{at}
 use Rattle.yv_base_tables.specs.declared.sparse.Sparse.{Sparse}
-use Rattle.yv_statement.specs.TextInFile.{TextInFile, written_of}
-use Rattle.yv_statement.specs.declared.written_text.WrittenText.{WrittenText}
+use Rattle.yv_text_statement.specs.TextInFile.{TextInFile, written_of}
+use Rattle.yv_text_statement.specs.declared.written_text.WrittenText.{WrittenText}
 use Rattle.yv_types.specs.Defaults.{HasDefault}
 use Rattle.yv_types.specs.declared.defaults.TypedefDefaults.{TypedefDefaults}
 

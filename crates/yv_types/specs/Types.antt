@@ -1,7 +1,7 @@
 -- What is known of types that were read.
 use Rattle.std.specs.Prelude.{◌≡◌, ℕ, List, Option, Some, None, codes}
 use Rattle.std.specs.Option.{option_and_then, option_map}
-use Rattle.yv_statement.specs.Selection.{ModuleChoice}
+use Rattle.yv_text_statement.specs.Selection.{ModuleChoice}
 use Rattle.yv_link_scopes.specs.Files.{Files}
 use Rattle.yv_link_scopes.specs.RowList.{rows_of}
 use Rattle.yv_link_definitions.specs.References.{number_at}
@@ -9,7 +9,7 @@ use Rattle.yv_type_chains.specs.Bases.{AreBases}
 use Rattle.yv_type_restrictions.specs.PlainTypes.{AreFaceted}
 use Rattle.yv_type_enums.specs.Types.{Truth}
 use Rattle.yv_type_enums.specs.Lists.{AreLists}
-use Rattle.yv_statement.specs.TextInFile.{TextInFile}
+use Rattle.yv_text_statement.specs.TextInFile.{TextInFile}
 use Rattle.yv_types.specs.Defaults.{HasDefault}
 use Rattle.yv_types.specs.TypeDefaults.{AreDefaults, found_in, typedef_in}
 use Rattle.yv_types.specs.LeafrefTypes.{AreLeafrefTypes}

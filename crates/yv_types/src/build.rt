@@ -1,6 +1,6 @@
 //! Reading the types of files.
 ghost use Rattle.std.specs.Prelude.{◌≡◌, ◌⊎◌, Err, None, Some, IfOk, OnOk};
-ghost use Rattle.yv_statement.specs.{Order.{IsLeast}, declared.refusal.Refusal.{Refusal}, declared.refusal.Stop.TheVariants.{Fault, PatternBuild}, Selection.{ModuleChoice}};
+ghost use Rattle.yv_text_statement.specs.{Order.{IsLeast}, declared.refusal.Refusal.{Refusal}, declared.refusal.Stop.TheVariants.{Fault, PatternBuild}, Selection.{ModuleChoice}};
 ghost use Rattle.yv_link_scopes.specs.Files.{Files};
 ghost use Rattle.yv_link_definitions.specs.{Meanings.{AreNames}, Refusals.{BadNames}};
 ghost use Rattle.yv_type_restrictions.specs.Types.{HasTypePattern};
@@ -14,7 +14,7 @@ use crate::type_table::Types;
 use std::alloc::Global;
 use yv_link::Linked;
 use yv_link_definitions::{Names, names, places_of_types};
-use yv_statement::Stop;
+use yv_text_statement::Stop;
 
 /// The plain types and the defaults of the types of linked files, and what they say as leafrefs,
 /// the names being theirs, or the least refusal of these (RFC 7950, section 9). `PatternBuild` says

@@ -1,7 +1,7 @@
 //! Laws about the definitions only.
 ghost use Rattle.std.specs.Prelude.{◌≡◌, ℕ, List, Option, Some, map, slice_get};
 ghost use Rattle.yv_link_scopes.specs.{Files.{Brief, Files, brief_of}, RowList.{rows_of}, Scopes.{module_of as file_of}};
-ghost use Rattle.yv_statement.specs.TextInFile.{TextInFile};
+ghost use Rattle.yv_text_statement.specs.TextInFile.{TextInFile};
 ghost use Rattle.yv_values.specs.Scopes.{module_of};
 ghost use Rattle.yv_types.specs.{Defaults.{HasDefault}, Scopes.{bindings_in}};
 

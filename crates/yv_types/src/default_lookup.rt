@@ -7,7 +7,7 @@ ghost use Rattle.yv_types.specs.{Defaults.{HasDefault}, InnerDefaultTables.{AreF
 
 use crate::default_table::{get, text};
 use yv_link_definitions::Names;
-use yv_statement::WrittenText;
+use yv_text_statement::WrittenText;
 use yv_type_chains::Bases;
 
 /// The typedef whose default the numbered type has, the table having that of the type that it

@@ -1,11 +1,11 @@
 //! For each number another number or a text, or none.
 ghost use Rattle.std.specs.{Prelude.{◌≡◌, ◌≢◌, ◌<◌, ℕ, None, length, IfOk}, Option.{option_map, option_copied}};
 ghost use Rattle.yv_type_chains.specs.InnerTables.{at};
-ghost use Rattle.yv_statement.specs.TextInFile.{written_of};
+ghost use Rattle.yv_text_statement.specs.TextInFile.{written_of};
 ghost use Rattle.yv_types.specs.InnerDefaultTables.{text_at};
 
 use std::alloc::{AllocError, Global};
-use yv_statement::WrittenText;
+use yv_text_statement::WrittenText;
 
 /// So many places, none with a number.
 pub(crate) fn no_numbers(alloc: Global, count: usize) -> Result<Vec<Option<usize>>, AllocError>

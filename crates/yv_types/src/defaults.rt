@@ -3,7 +3,7 @@ ghost use Rattle.std.specs.{Prelude.{◌≡◌, ℕ, IfOk}, Option.{option_map, 
 ghost use Rattle.yv_link_scopes.specs.{Files.{Files}, Views.{lent_in}};
 ghost use Rattle.yv_link_definitions.specs.Meanings.{AreNames};
 ghost use Rattle.yv_type_chains.specs.Bases.{AreBases};
-ghost use Rattle.yv_statement.specs.TextInFile.{written_of};
+ghost use Rattle.yv_text_statement.specs.TextInFile.{written_of};
 
 use crate::default_lookup::found_at;
 use crate::default_table::{no_numbers, put};
@@ -12,7 +12,7 @@ use std::alloc::{AllocError, Global};
 use yv_base_tables::Sparse;
 use yv_link_definitions::Names;
 use yv_link_scopes::Rows;
-use yv_statement::WrittenText;
+use yv_text_statement::WrittenText;
 use yv_type_chains::Bases;
 
 /// The defaults that the types of files have by their typedefs. The text of each typedef's default

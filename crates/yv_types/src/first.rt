@@ -1,6 +1,6 @@
 //! The first of all that is wrong with types.
 ghost use Rattle.std.specs.Prelude.{◌≡◌, ◌≢◌, Err, IfOk};
-ghost use Rattle.yv_statement.specs.{Order.{IsLeast}, declared.refusal.Refusal.{Refusal}, declared.refusal.Stop.TheVariants.{Fault, PatternBuild}, Selection.{ModuleChoice}};
+ghost use Rattle.yv_text_statement.specs.{Order.{IsLeast}, declared.refusal.Refusal.{Refusal}, declared.refusal.Stop.TheVariants.{Fault, PatternBuild}, Selection.{ModuleChoice}};
 ghost use Rattle.yv_link_scopes.specs.Files.{Files};
 ghost use Rattle.yv_link_definitions.specs.Meanings.{AreNames};
 ghost use Rattle.yv_type_restrictions.specs.Types.{HasTypePattern};
@@ -11,7 +11,7 @@ use crate::layers::Layers;
 use std::alloc::Global;
 use yv_link::Linked;
 use yv_link_definitions::Names;
-use yv_statement::{Refusal, Stop};
+use yv_text_statement::{Refusal, Stop};
 
 /// The least that is wrong with the types of linked files, the names being theirs (RFC 7950,
 /// section 9): a substatement that a type doesn't accept or lacks, a leafref in a union, a type

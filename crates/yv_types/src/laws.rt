@@ -1,6 +1,6 @@
 //! Laws about the definitions only. These functions do nothing: the contract of each is the law.
 ghost use Rattle.std.specs.Prelude.{◌≡◌, ℕ, List, codes};
-ghost use Rattle.yv_statement.specs.Selection.{ModuleChoice};
+ghost use Rattle.yv_text_statement.specs.Selection.{ModuleChoice};
 ghost use Rattle.yv_link_scopes.specs.{Files.{Files}, RowList.{rows_of}};
 ghost use Rattle.yv_link_definitions.specs.References.{number_at};
 ghost use Rattle.yv_type_enums.specs.Types.{Truth};

@@ -1,6 +1,6 @@
 //! The types of files in layers.
 ghost use Rattle.std.specs.Prelude.{◌≡◌, ◌≢◌, Err, IfOk};
-ghost use Rattle.yv_statement.specs.{Order.{IsLeast}, declared.refusal.Refusal.{Refusal}, declared.refusal.Stop.TheVariants.{Fault, PatternBuild}, Selection.{ModuleChoice}};
+ghost use Rattle.yv_text_statement.specs.{Order.{IsLeast}, declared.refusal.Refusal.{Refusal}, declared.refusal.Stop.TheVariants.{Fault, PatternBuild}, Selection.{ModuleChoice}};
 ghost use Rattle.yv_link_scopes.specs.Files.{Files};
 ghost use Rattle.yv_link_definitions.specs.Meanings.{AreNames};
 ghost use Rattle.yv_type_restrictions.specs.Types.{HasTypePattern};
@@ -9,7 +9,7 @@ ghost use Rattle.yv_link.specs.LinkedFiles.{AreLinked, truth_in};
 use std::alloc::Global;
 use yv_link::Linked;
 use yv_link_definitions::Names;
-use yv_statement::{Refusal, Stop, lesser};
+use yv_text_statement::{Refusal, Stop, lesser};
 use yv_type_chains::Bases;
 use yv_type_enums::Lists;
 use yv_type_restrictions::PlainTypes;

@@ -8,7 +8,7 @@ use crate::leafref_path::TypeLeafref;
 use crate::leafref_table::get;
 use crate::require_instance::required_at;
 use yv_link_scopes::{Entry, Rows, name_of};
-use yv_statement::Keyword;
+use yv_text_statement::Keyword;
 use yv_type_chains::Bases;
 
 // Whether a statement is `type leafref`.

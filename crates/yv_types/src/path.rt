@@ -4,7 +4,7 @@ ghost use Rattle.yv_link_scopes.specs.{Files.{has_word}, Views.{lent_in}};
 ghost use Rattle.yv_types.specs.Referrals.{first_in, path_at, written_of};
 
 use yv_link_scopes::{Rows, name_of};
-use yv_statement::{Keyword, Statement};
+use yv_text_statement::{Keyword, Statement};
 
 /// The text of a path, and the file in which it is written, whose prefixes it uses.
 #[derive(Clone, Copy)]

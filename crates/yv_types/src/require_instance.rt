@@ -4,7 +4,7 @@ ghost use Rattle.yv_link_scopes.specs.{Files.{has_word}, Views.{lent_in}};
 ghost use Rattle.yv_types.specs.Referrals.{first_in, required_at, required_in};
 
 use yv_link_scopes::{Rows, name_of};
-use yv_statement::{Keyword, Statement};
+use yv_text_statement::{Keyword, Statement};
 
 // Whether a statement says that an instance is required, or that none is.
 fn is_require_instance(statement: &Statement<'_>) -> bool

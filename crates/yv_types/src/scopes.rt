@@ -8,7 +8,7 @@ ghost use Rattle.yv_types.specs.{Scopes.{AreScopes, name_or_none, place_in}, Inn
 use crate::rows::entry_at;
 use std::alloc::{AllocError, Global};
 use yv_link_scopes::{Entry, File, Rows, name_of};
-use yv_statement::Keyword;
+use yv_text_statement::Keyword;
 use yv_values::Scope;
 
 // Whether a statement is a prefix.

@@ -1,6 +1,6 @@
 //! The plain types of one type.
 ghost use Rattle.std.specs.{Prelude.{◌≡◌, ℕ, List, [], Some, true, map, slice_get, slice_index_or, IfOk, IfSome}, Option.{option_map}};
-ghost use Rattle.yv_statement.specs.Selection.{ModuleChoice};
+ghost use Rattle.yv_text_statement.specs.Selection.{ModuleChoice};
 ghost use Rattle.yv_link_scopes.specs.{Files.{Files, brief_of}, Rows.{row}, RowList.{rows_of}};
 ghost use Rattle.yv_type_chains.specs.Types.{RestsOn, is_kind, types_in};
 ghost use Rattle.yv_type_enums.specs.TypeNames.{told_of};
@@ -16,7 +16,7 @@ use std::rc::RcSlice;
 use yv_base_tables::{Families, Table};
 use yv_link::Linked;
 use yv_link_scopes::{Entry, name_of};
-use yv_statement::Keyword;
+use yv_text_statement::Keyword;
 use yv_type_enums::{NumberKind, TypeNames};
 use yv_type_identities::IdentityLists;
 use yv_values::PlainType;

@@ -1,12 +1,12 @@
 //! The plain types of types, and what readers ask of them.
 ghost use Rattle.std.specs.{Prelude.{◌≡◌, ℕ, List, None, Some, codes, map, IfOk, IfSome}, Option.{option_copied, option_map}, Rc.{rc_slice_items}};
-ghost use Rattle.yv_statement.specs.Selection.{ModuleChoice};
+ghost use Rattle.yv_text_statement.specs.Selection.{ModuleChoice};
 ghost use Rattle.yv_link_scopes.specs.{Files.{Files}, RowList.{rows_of}};
 ghost use Rattle.yv_link_definitions.specs.References.{number_at};
 ghost use Rattle.yv_type_enums.specs.Types.{Truth};
 ghost use Rattle.yv_values.specs.Types.{Plain, plain_of};
 ghost use Rattle.yv_types.specs.{Spaces.{Space}, InnerTables.{AreNumbered}};
-ghost use Rattle.yv_statement.specs.TextInFile.{written_of};
+ghost use Rattle.yv_text_statement.specs.TextInFile.{written_of};
 
 use crate::defaults::TypedefDefaults;
 use crate::leafref_path::TypeLeafref;
@@ -16,7 +16,7 @@ use std::alloc::AllocError;
 use std::rc::RcSlice;
 use yv_base_tables::Table;
 use yv_link_definitions::PlaceList;
-use yv_statement::{Statement, WrittenText};
+use yv_text_statement::{Statement, WrittenText};
 use yv_values::PlainType;
 
 /// The plain types and the defaults of the types of files in which nothing is wrong with types, and

@@ -1,16 +1,16 @@
 //! What typedefs say of their default.
 ghost use Rattle.std.specs.{Prelude.{◌≡◌, IfOk}, List.{find}, Option.{option_map}};
-ghost use Rattle.yv_statement.specs.Tree.{trees};
+ghost use Rattle.yv_text_statement.specs.Tree.{trees};
 ghost use Rattle.yv_link_scopes.specs.{Rows.{row}, Views.{lent_in}, declared.kind.NameKind.TheVariants.{Typedef}};
 ghost use Rattle.yv_link_definitions.specs.Duplicates.{is_of};
-ghost use Rattle.yv_statement.specs.TextInFile.{written_of};
+ghost use Rattle.yv_text_statement.specs.TextInFile.{written_of};
 ghost use Rattle.yv_types.specs.{Defaults.{default_in, is_default}, InnerDefaultTables.{AreSaid, said_at, default_of_typedef}};
 
 use crate::rows::entry_at;
 use std::alloc::{AllocError, Global};
 use std::rc::RcStr;
 use yv_link_scopes::{Entry, Rows, name_of};
-use yv_statement::{Keyword, Statement, WrittenText};
+use yv_text_statement::{Keyword, Statement, WrittenText};
 
 // Whether a statement is a default.
 fn is_default(statement: &Statement<'_>) -> bool

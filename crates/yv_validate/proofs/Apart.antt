@@ -1,7 +1,7 @@
 -- No two members of one object have one name, by the trees.
 use Rattle.std.proofs.Common.{◌≡◌, ◌≢◌, ℕ, zero, suc, ◌+◌, List, [], ◌∷◌, ◌++◌, length, map, Bool, true, false, cond, Some, refl, sym, ap, subst, ◌∙◌, arith}
 use Rattle.std.specs.List.{AllByRecursion, slice_get}
-use Rattle.yv_node_definition.specs.Kinds.{is_data, is_passed}
+use Rattle.yv_node_content.specs.Kinds.{is_data, is_passed}
 use Rattle.yv_nodes.specs.Tree.{Label, Forest, no_trees, tree, node, labels}
 use Rattle.yv_nodes.specs.Places.{Place, places_below}
 use Rattle.yv_schema_tables.specs.Groups.{join}

@@ -5,24 +5,24 @@ use Rattle.std.proofs.lemmas.Bool.{true≢false}
 use Rattle.std.proofs.lemmas.Bool.Decides.{nat_tests}
 use Rattle.std.proofs.lemmas.List.Elements.{recursion_from_All}
 use Rattle.serde_json.specs.Data.{Data, array, Items, no_items, item, Members}
-use Rattle.yv_node_definition.specs.Kinds.{is_data}
-use Rattle.yv_node_definition.specs.declared.kind.NodeKind.{NodeKind}
-use Rattle.yv_node_definition.specs.declared.kind.NodeKind.TheVariants as kind
-use Rattle.yv_statement.specs.declared.document_kind.Kind.{Kind}
+use Rattle.yv_node_content.specs.Kinds.{is_data}
+use Rattle.yv_node_content.specs.declared.kind.NodeKind.{NodeKind}
+use Rattle.yv_node_content.specs.declared.kind.NodeKind.TheVariants as kind
+use Rattle.yv_text_statement.specs.declared.document_kind.Kind.{Kind}
 use Rattle.yv_nodes.specs.declared.node.NodeId.{NodeId}
 use Rattle.yv_nodes.specs.Numbers.{numbers_from}
 use Rattle.yv_nodes.specs.Rows.{AreTrees, Rows, below, children_of, forest, rank, tree_of}
 use Rattle.yv_nodes.specs.Tree.{count, Forest, Label, Tree, tree}
 use Rattle.yv_schema_tables.specs.Sound.{IsChild, IsSound}
 use Rattle.yv_walk.specs.Existence.{count_standing, is_there}
-use Rattle.yv_leafref_values.specs.declared.scope.RuleScope.{RuleScope}
-use Rattle.yv_leafref_values.specs.InUse.{is_asked}
-use Rattle.yv_leafref_values.specs.Meetings.{at, count_entered, entries_met, entry_met, found_of, kind_met, Meeting, meetings, at_node, Node, Spot}
+use Rattle.yv_data_leafrefs.specs.declared.scope.RuleScope.{RuleScope}
+use Rattle.yv_data_leafrefs.specs.InUse.{is_asked}
+use Rattle.yv_data_leafrefs.specs.Meetings.{at, count_entered, entries_met, entry_met, found_of, kind_met, Meeting, meetings, at_node, Node, Spot}
 use Rattle.yv_validate.specs.Faults.{choice_faults, faults_at, flaw_if, kind_faults, node_faults, state_faults}
-use Rattle.yv_faults.specs.Flaw.{Flaw}
-use Rattle.yv_faults.specs.declared.fault.FaultKind.TheVariants.{State}
+use Rattle.yv_data_faults.specs.Flaw.{Flaw}
+use Rattle.yv_data_faults.specs.declared.fault.FaultKind.TheVariants.{State}
 use Rattle.yv_validate.specs.InnerWalk.{one_from, ones_met, scope_at}
-use Rattle.yv_quiet_nodes.proofs.Children.{rank_is, split_at, split_of, Splits, trees_behind}
+use Rattle.yv_data_quiet.proofs.Children.{rank_is, split_at, split_of, Splits, trees_behind}
 
 -- nodes by their numbers are met as their trees
 ones_from : (k : Kind) (s : Rows) (scope_of : ℕ → Tree → RuleScope) (spot : Spot) (next : ℕ) (ms : Members) (at : ℕ) (cs : List NodeId) → IsSound s → AllByRecursion (λ (c : NodeId). c.0 < length s.nodes) cs

@@ -11,9 +11,9 @@ use Rattle.std.proofs.lemmas.List.Sums.{sum_by-append, sum_by-cons}
 use Rattle.std.proofs.lemmas.Slice.Eq.{bytes_eq-Decides}
 use Rattle.serde_json.specs.Data.{Data, null, boolean, number, string, array, object, Items, no_items, item, Members, no_members, member}
 use Rattle.serde_json.specs.Find.{get_member}
-use Rattle.yv_node_definition.specs.declared.kind.NodeKind.{NodeKind}
-use Rattle.yv_node_definition.specs.declared.kind.NodeKind.TheVariants as kind
-use Rattle.yv_node_definition.specs.Kinds.{is_data, is_list, is_operation_or_notification, is_passed}
+use Rattle.yv_node_content.specs.declared.kind.NodeKind.{NodeKind}
+use Rattle.yv_node_content.specs.declared.kind.NodeKind.TheVariants as kind
+use Rattle.yv_node_content.specs.Kinds.{is_data, is_list, is_operation_or_notification, is_passed}
 use Rattle.yv_values.specs.Reads.{read_kind, types_tried}
 use Rattle.yv_values.specs.Types.{Plain}
 use Rattle.yv_values.specs.Values.{Val}
@@ -29,14 +29,14 @@ use Rattle.yv_schema_tables.specs.Sound.{IsSound}
 use Rattle.yv_walk.specs.Context.{members_len}
 use Rattle.yv_validate.proofs.Apart.{AreApart, AreApartBelow, AreDistinct, apart, members}
 use Rattle.yv_validate.specs.Size.{size, items_size, members_size}
-use Rattle.yv_quiet_nodes.specs.NamedLeafs.{key_leafs, unique_leafs}
-use Rattle.yv_statement.specs.declared.document_kind.Kind.{Kind}
-use Rattle.yv_leafref_values.specs.declared.scope.RuleScope.{RuleScope}
-use Rattle.yv_leafref_values.specs.declared.scope.RuleScope.TheVariants.{Always}
-use Rattle.yv_leafref_values.specs.InUse.{case_scope, scope_in, value_of}
+use Rattle.yv_data_quiet.specs.NamedLeafs.{key_leafs, unique_leafs}
+use Rattle.yv_text_statement.specs.declared.document_kind.Kind.{Kind}
+use Rattle.yv_data_leafrefs.specs.declared.scope.RuleScope.{RuleScope}
+use Rattle.yv_data_leafrefs.specs.declared.scope.RuleScope.TheVariants.{Always}
+use Rattle.yv_data_leafrefs.specs.InUse.{case_scope, scope_in, value_of}
 use Rattle.yv_validate.specs.Faults.{item_tuple, tuple_at}
-use Rattle.yv_leafref_values.specs.Meetings.{Below, EntryEnd, Meeting, stand, at_value, at_end, at_node, Node, Spot, count_entered, entries_met, entry_met, in_container, in_entry, in_no_object, is_left, items_met, kind_met, meetings, node_met, object_met, top}
-use Rattle.yv_leafref_values.specs.References.{lookups_at, value_lookups}
+use Rattle.yv_data_leafrefs.specs.Meetings.{Below, EntryEnd, Meeting, stand, at_value, at_end, at_node, Node, Spot, count_entered, entries_met, entry_met, in_container, in_entry, in_no_object, is_left, items_met, kind_met, meetings, node_met, object_met, top}
+use Rattle.yv_data_leafrefs.specs.References.{lookups_at, value_lookups}
 use Rattle.yv_validate.specs.Work.{tuple_work, uniques_work, work, work_at}
 
 -- ---- what a member pays for, beside its own look-up

@@ -7,11 +7,11 @@ use Rattle.yv_values.specs.Pairs.{Pair}
 use Rattle.yv_values.specs.Values.{Val}
 use Rattle.yv_validate.specs.Faults.{unique_faults, unique_if}
 use Rattle.yv_validate.specs.InnerMemory.{Remembers, RemembersEach}
-use Rattle.yv_leafref_values.specs.Place.{Place}
+use Rattle.yv_data_leafrefs.specs.Place.{Place}
 use Rattle.yv_validate.specs.Repeats.{repeat_of}
 use Rattle.yv_validate.specs.Work.{tuple_work, uniques_work}
-use Rattle.yv_validate.proofs.Remembered.{nothing_yet}
-use Rattle.yv_quiet_nodes.proofs.Leafs.{first_left}
+use Rattle.yv_validate.proofs.IndexContents.{nothing_yet}
+use Rattle.yv_data_quiet.proofs.Leafs.{first_left}
 
 pub record RemembersSome (is : List (List Pair)) (f : List (Option NodeId) → Data → Option (List Val)) (us : List (List (Option NodeId))) (before : List Data) (d : Data) (n : ℕ) : Type 0 where
   pub same : length is ≡ length us

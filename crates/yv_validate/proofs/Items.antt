@@ -5,27 +5,27 @@ use Rattle.std.proofs.lemmas.List.Sums.{sum_by-cons}
 use Rattle.serde_json.specs.Data.{Data, item, Items}
 use Rattle.serde_json.specs.View.{view, items_view}
 use Rattle.serde_json.specs.declared.value.Value.{Value}
-use Rattle.yv_statement.specs.declared.document_kind.Kind.{Kind}
+use Rattle.yv_text_statement.specs.declared.document_kind.Kind.{Kind}
 use Rattle.yv_nodes.specs.declared.node.NodeId.{NodeId}
 use Rattle.yv_nodes.specs.Link.{is_target, link_in}
 use Rattle.yv_nodes.specs.Rows.{below, rank, row_at, Rows}
 use Rattle.yv_nodes.specs.Tree.{Label}
 use Rattle.yv_values.specs.Count.{count_up}
 use Rattle.yv_values.specs.Values.{Val}
-use Rattle.yv_leafref_values.specs.Findings.{Findings, Finds, first_of, kept_if, FindingsView, met_in, value_notes}
-use Rattle.yv_leafref_values.specs.InUse.{value_of}
-use Rattle.yv_leafref_values.specs.Meetings.{at, EntryEnd, at_end, count_entered, entry_met, Meeting, object_met, Spot, at_value, WrittenValue}
-use Rattle.yv_leafref_values.specs.Place.{Place, step_name}
-use Rattle.yv_leafref_values.specs.References.{number_of}
-use Rattle.yv_faults.specs.declared.fault.FaultKind.TheVariants.{Duplicate, Value as Unread}
+use Rattle.yv_data_leafrefs.specs.Findings.{Findings, Finds, first_of, kept_if, FindingsView, met_in, value_notes}
+use Rattle.yv_data_leafrefs.specs.InUse.{value_of}
+use Rattle.yv_data_leafrefs.specs.Meetings.{at, EntryEnd, at_end, count_entered, entry_met, Meeting, object_met, Spot, at_value, WrittenValue}
+use Rattle.yv_data_leafrefs.specs.Place.{Place, step_name}
+use Rattle.yv_data_leafrefs.specs.References.{number_of}
+use Rattle.yv_data_faults.specs.declared.fault.FaultKind.TheVariants.{Duplicate, Value as Unread}
 use Rattle.yv_validate.specs.Faults.{end_faults, faults_at, flaw, Leafs, leafs_of, repeated_item, repeat_faults, unique_faults, value_faults}
-use Rattle.yv_faults.specs.Flaw.{Flaw}
+use Rattle.yv_data_faults.specs.Flaw.{Flaw}
 use Rattle.yv_validate.specs.InnerNotes.{list_tuple}
 use Rattle.yv_validate.specs.InnerWalk.{entries_at, Grows, inside_at, items_at, ProgressView, value_found, written_at}
 use Rattle.yv_validate.specs.Repeats.{repeat_of}
 use Rattle.yv_validate.specs.Values.{entry_tuple}
 use Rattle.yv_validate.specs.Work.{end_work, item_work, value_work, work_at}
-use Rattle.yv_validate.proofs.Grown.{Behind, grows_both, Quiet}
+use Rattle.yv_validate.proofs.WalkGrowth.{Behind, grows_both, Quiet}
 use Rattle.yv_validate.proofs.Steps.{told_both}
 
 first_left : (xs : List Value) (i : ℕ) (x : Value) → i < length xs → drop i xs ≡ get_or xs i x ∷ drop (i + 1) xs

@@ -3,9 +3,9 @@ use Rattle.std.proofs.Common.{◌≡◌, ℕ, ◌+◌, ◌<◌, ◌≤◌, ◌&&
 use Rattle.std.specs.List.{slice_index_or}
 use Rattle.serde_json.specs.Data.{Members}
 use Rattle.serde_json.specs.Find.{get_member}
-use Rattle.yv_node_definition.specs.Kinds.{is_passed}
-use Rattle.yv_node_definition.specs.declared.kind.NodeKind.{NodeKind}
-use Rattle.yv_node_definition.specs.declared.kind.NodeKind.TheVariants as kind
+use Rattle.yv_node_content.specs.Kinds.{is_passed}
+use Rattle.yv_node_content.specs.declared.kind.NodeKind.{NodeKind}
+use Rattle.yv_node_content.specs.declared.kind.NodeKind.TheVariants as kind
 use Rattle.yv_nodes.specs.declared.node.NodeId.{NodeId}
 use Rattle.yv_nodes.specs.Rows.{Rows, below, children_of, rank, row_at, tree_of}
 use Rattle.yv_schema_tables.specs.Sound.{IsSound, is_object}
@@ -13,11 +13,11 @@ use Rattle.yv_walk.specs.Context.{IsContext, parent_of}
 use Rattle.yv_walk.specs.Existence.{kind_standing, passes, existence_of, stands_in, tree_standing}
 use Rattle.yv_walk.specs.declared.context.Context.{Context}
 use Rattle.yv_walk.specs.declared.existence.Existence.{Existence}
-use Rattle.yv_leafref_values.specs.InUse.{is_number}
+use Rattle.yv_data_leafrefs.specs.InUse.{is_number}
 use Rattle.yv_validate.specs.InnerWalk.{Meets, MeetsBelow}
-use Rattle.yv_leafref_values.specs.declared.scope.RuleScope.{RuleScope}
-use Rattle.yv_leafref_values.specs.declared.scope.RuleScope.TheVariants.{InCase, InDefault}
-use Rattle.yv_quiet_nodes.proofs.Children.{not_same, rank_is}
+use Rattle.yv_data_leafrefs.specs.declared.scope.RuleScope.{RuleScope}
+use Rattle.yv_data_leafrefs.specs.declared.scope.RuleScope.TheVariants.{InCase, InDefault}
+use Rattle.yv_data_quiet.proofs.Children.{not_same, rank_is}
 
 -- a child
 pub meets_child : (s : Rows) (x : Context) (p : NodeId) (cs : List NodeId) (i : ℕ) (d : NodeId) → MeetsBelow s x p → cs ≡ children_of s p → i < length cs → Meets s x (get_or cs i d)

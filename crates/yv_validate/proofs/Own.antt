@@ -4,28 +4,28 @@ use Rattle.std.proofs.lemmas.Bool.Decides.{nat_tests}
 use Rattle.std.proofs.lemmas.Grind.{flat_map-append}
 use Rattle.serde_json.specs.Data.{Data, null, boolean, number, string, array, object, Items, no_items, item, Members, no_members}
 use Rattle.serde_json.specs.Find.{get_member}
-use Rattle.yv_node_definition.specs.Kinds.{is_leaf, is_operation_or_notification}
-use Rattle.yv_node_definition.specs.declared.kind.NodeKind.{NodeKind}
-use Rattle.yv_node_definition.specs.declared.kind.NodeKind.TheVariants as kind
-use Rattle.yv_statement.specs.declared.document_kind.Kind.{Kind}
+use Rattle.yv_node_content.specs.Kinds.{is_leaf, is_operation_or_notification}
+use Rattle.yv_node_content.specs.declared.kind.NodeKind.{NodeKind}
+use Rattle.yv_node_content.specs.declared.kind.NodeKind.TheVariants as kind
+use Rattle.yv_text_statement.specs.declared.document_kind.Kind.{Kind}
 use Rattle.yv_values.specs.Reads.{or_else}
 use Rattle.yv_values.specs.Values.{Val}
 use Rattle.yv_nodes.specs.Defaults.{defaults_of}
 use Rattle.yv_nodes.specs.Rows.{below as below_in, rank, Rows, row_at, tree_of}
 use Rattle.yv_nodes.specs.Tree.{count, Label, node, Tree, Forest, no_trees, tree}
 use Rattle.yv_nodes.specs.declared.node.NodeId.{NodeId}
-use Rattle.yv_leafref_values.specs.declared.scope.RuleScope.{RuleScope}
-use Rattle.yv_leafref_values.specs.declared.scope.RuleScope.TheVariants.{Always}
-use Rattle.yv_leafref_values.specs.InUse.{case_scope, in_use, scope_in, some_value, uses_defaults, value_of}
-use Rattle.yv_leafref_values.specs.Meetings.{Below, count_entered, entries_met, entry_met, found_of, in_container, in_entry, in_no_object, is_left, items_met, kind_met, leaf_met, Meeting, meetings, at_node, Node, node_met, object_met, Spot, at_value}
-use Rattle.yv_leafref_values.specs.Values.{ValueAt, values_of_node, values_at, values_in}
-use Rattle.yv_quiet_nodes.specs.NamedLeafs.{is_named}
+use Rattle.yv_data_leafrefs.specs.declared.scope.RuleScope.{RuleScope}
+use Rattle.yv_data_leafrefs.specs.declared.scope.RuleScope.TheVariants.{Always}
+use Rattle.yv_data_leafrefs.specs.InUse.{case_scope, in_use, scope_in, some_value, uses_defaults, value_of}
+use Rattle.yv_data_leafrefs.specs.Meetings.{Below, count_entered, entries_met, entry_met, found_of, in_container, in_entry, in_no_object, is_left, items_met, kind_met, leaf_met, Meeting, meetings, at_node, Node, node_met, object_met, Spot, at_value}
+use Rattle.yv_data_leafrefs.specs.Values.{ValueAt, values_of_node, values_at, values_in}
+use Rattle.yv_data_quiet.specs.NamedLeafs.{is_named}
 use Rattle.yv_validate.specs.InnerNotes.{default_value, Gains, GainsBy, last_of, noted_at, own_value}
 use Rattle.yv_validate.specs.InnerWalk.{data_met, inside_at, node_at, one_met, ones_met, scope_at, with_node}
 use Rattle.yv_validate.specs.Values.{is_own, value_if, value_in}
 use Rattle.yv_validate.specs.declared.notes.Notes.{Notes}
-use Rattle.yv_validate.proofs.Grown.{in_use_written}
-use Rattle.yv_validate.proofs.Noted.{gains_as, gains_nothing, gains_on}
+use Rattle.yv_validate.proofs.WalkGrowth.{in_use_written}
+use Rattle.yv_validate.proofs.NoteGrowth.{gains_as, gains_nothing, gains_on}
 
 -- the value of a leaf in an entry, of what is met
 abbrev pub own_of : (entry n : ℕ) → List Meeting → Option Val

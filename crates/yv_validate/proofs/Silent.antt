@@ -8,10 +8,10 @@ use Rattle.std.proofs.lemmas.Grind.{flat_map-append}
 use Rattle.std.proofs.lemmas.List.Sums.{sum_by-append, sum_by-cons}
 use Rattle.serde_json.specs.Data.{Data, null, boolean, number, string, array, object, Items, no_items, item, Members, no_members}
 use Rattle.serde_json.specs.Find.{get_member}
-use Rattle.yv_node_definition.specs.Kinds.{is_data, is_operation_or_notification, is_passed}
-use Rattle.yv_node_definition.specs.declared.kind.NodeKind.{NodeKind}
-use Rattle.yv_node_definition.specs.declared.kind.NodeKind.TheVariants as kind
-use Rattle.yv_statement.specs.declared.document_kind.Kind.{Kind}
+use Rattle.yv_node_content.specs.Kinds.{is_data, is_operation_or_notification, is_passed}
+use Rattle.yv_node_content.specs.declared.kind.NodeKind.{NodeKind}
+use Rattle.yv_node_content.specs.declared.kind.NodeKind.TheVariants as kind
+use Rattle.yv_text_statement.specs.declared.document_kind.Kind.{Kind}
 use Rattle.yv_values.specs.Count.{count_up}
 use Rattle.yv_values.specs.Reads.{or_else}
 use Rattle.yv_values.specs.Values.{Val}
@@ -26,27 +26,27 @@ use Rattle.yv_schema_tables.specs.Sound.{IsSound}
 use Rattle.yv_walk.specs.Existence.{any, both, count_standing, has_items, is_there, kind_standing, row_standing, existence_of, tree_standing}
 use Rattle.yv_walk.specs.declared.existence.Existence.{Existence}
 use Rattle.yv_walk.specs.declared.existence.Existence.TheVariants.{Nothing, Only, Several}
-use Rattle.yv_leafref_values.specs.declared.scope.RuleScope.{RuleScope}
-use Rattle.yv_leafref_values.specs.declared.scope.RuleScope.TheVariants.{Always}
-use Rattle.yv_leafref_values.specs.Findings.{Findings, Finds, first_of, kept_at, met_in, notes_at, positions_at, used_at, used_if}
-use Rattle.yv_leafref_values.specs.InUse.{case_scope, enforces, enforces_beside, in_use, is_asked, is_empty_at, scope_in, uses_defaults}
-use Rattle.yv_leafref_values.specs.Values.{values_of_node}
-use Rattle.yv_leafref_values.specs.Meetings.{at, Below, container_met, count_entered, found_of, in_no_object, is_left, kind_met, Meeting, meetings, at_node, Node, node_met, Spot}
-use Rattle.yv_faults.specs.declared.fault.FaultKind.TheVariants.{Mandatory, Max, Min, MissingKey, State}
+use Rattle.yv_data_leafrefs.specs.declared.scope.RuleScope.{RuleScope}
+use Rattle.yv_data_leafrefs.specs.declared.scope.RuleScope.TheVariants.{Always}
+use Rattle.yv_data_leafrefs.specs.Findings.{Findings, Finds, first_of, kept_at, met_in, notes_at, positions_at, used_at, used_if}
+use Rattle.yv_data_leafrefs.specs.InUse.{case_scope, enforces, enforces_beside, in_use, is_asked, is_empty_at, scope_in, uses_defaults}
+use Rattle.yv_data_leafrefs.specs.Values.{values_of_node}
+use Rattle.yv_data_leafrefs.specs.Meetings.{at, Below, container_met, count_entered, found_of, in_no_object, is_left, kind_met, Meeting, meetings, at_node, Node, node_met, Spot}
+use Rattle.yv_data_faults.specs.declared.fault.FaultKind.TheVariants.{Mandatory, Max, Min, MissingKey, State}
 use Rattle.yv_validate.specs.Faults.{choice_faults, count_faults, faults_at, flaw, flaw_if, kind_faults, leaf_faults, missing_fault, node_faults, state_faults}
-use Rattle.yv_faults.specs.Flaw.{Flaw}
+use Rattle.yv_data_faults.specs.Flaw.{Flaw}
 use Rattle.yv_validate.specs.InnerNotes.{Gains, GainsBy}
-use Rattle.yv_quiet_nodes.specs.NamedLeafs.{is_named, is_read}
-use Rattle.yv_quiet_nodes.specs.Quiet.{are_quiet, is_mute, is_quiet, is_unread, IsEmptied, IsPassed, tree_met}
+use Rattle.yv_data_quiet.specs.NamedLeafs.{is_named, is_read}
+use Rattle.yv_data_quiet.specs.Quiet.{are_quiet, is_mute, is_quiet, is_unread, IsEmptied, IsPassed, tree_met}
 use Rattle.yv_validate.specs.InnerWalk.{below_from, children_met, Grows, one_from, one_met, ProgressView}
 use Rattle.yv_validate.specs.Values.{value_in}
 use Rattle.yv_validate.specs.Work.{work_at}
 use Rattle.yv_validate.specs.declared.notes.Notes.{Notes}
 use Rattle.yv_validate.proofs.Beneath.{quiet_state}
-use Rattle.yv_quiet_nodes.proofs.Children.{rank_is}
-use Rattle.yv_validate.proofs.Grown.{Quiet}
-use Rattle.yv_quiet_nodes.proofs.Asked.{named_apart, or_neither}
-use Rattle.yv_validate.proofs.Noted.{gains_unnamed}
+use Rattle.yv_data_quiet.proofs.Children.{rank_is}
+use Rattle.yv_validate.proofs.WalkGrowth.{Quiet}
+use Rattle.yv_data_quiet.proofs.ListLeafs.{named_apart, or_neither}
+use Rattle.yv_validate.proofs.NoteGrowth.{gains_unnamed}
 use Rattle.yv_validate.proofs.Own.{met_append, own_node, own_of, valued_apart}
 
 -- ---- truth values and standings

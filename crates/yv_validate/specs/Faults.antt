@@ -4,9 +4,9 @@ use Rattle.std.specs.Prelude.{ℕ, zero, suc, ◌+◌, min, nat_lt, ◌&&◌, Li
 use Rattle.std.specs.List.{flat_map}
 use Rattle.serde_json.specs.Data.{Data, array, object}
 use Rattle.serde_json.specs.Events.{items_len}
-use Rattle.yv_node_definition.specs.declared.kind.NodeKind.{NodeKind}
-use Rattle.yv_node_definition.specs.declared.kind.NodeKind.TheVariants as kind
-use Rattle.yv_statement.specs.declared.document_kind.Kind.{Kind}
+use Rattle.yv_node_content.specs.declared.kind.NodeKind.{NodeKind}
+use Rattle.yv_node_content.specs.declared.kind.NodeKind.TheVariants as kind
+use Rattle.yv_text_statement.specs.declared.document_kind.Kind.{Kind}
 use Rattle.yv_values.specs.Values.{Val}
 use Rattle.yv_nodes.specs.declared.node.NodeId.{NodeId}
 use Rattle.yv_nodes.specs.Rows.{Rows}
@@ -14,16 +14,16 @@ use Rattle.yv_nodes.specs.Tree.{Label}
 use Rattle.yv_schema_tables.specs.DataChildren.{opened_trees}
 use Rattle.yv_walk.specs.Context.{unknown_names}
 use Rattle.yv_walk.specs.Existence.{count_standing, is_there}
-use Rattle.yv_leafref_values.specs.InUse.{enforces, enforces_beside, is_asked, value_of}
-use Rattle.yv_leafref_values.specs.Meetings.{all_met, at, EntryEnd, found_of, Meeting, stand, at_value, at_end, at_node, Node, Stand, WrittenValue}
-use Rattle.yv_leafref_values.specs.Place.{Place, under}
-use Rattle.yv_leafref_values.specs.References.{all_references, number_of}
-use Rattle.yv_faults.specs.declared.fault.FaultKind.{FaultKind}
-use Rattle.yv_faults.specs.declared.fault.FaultKind.TheVariants.{Unknown, Shape, Value, MissingKey, Duplicate, Unique, Mandatory, Min, Max, Choice, Reference, State}
-use Rattle.yv_faults.specs.Flaw.{Flaw}
+use Rattle.yv_data_leafrefs.specs.InUse.{enforces, enforces_beside, is_asked, value_of}
+use Rattle.yv_data_leafrefs.specs.Meetings.{all_met, at, EntryEnd, found_of, Meeting, stand, at_value, at_end, at_node, Node, Stand, WrittenValue}
+use Rattle.yv_data_leafrefs.specs.Place.{Place, under}
+use Rattle.yv_data_leafrefs.specs.References.{all_references, number_of}
+use Rattle.yv_data_faults.specs.declared.fault.FaultKind.{FaultKind}
+use Rattle.yv_data_faults.specs.declared.fault.FaultKind.TheVariants.{Unknown, Shape, Value, MissingKey, Duplicate, Unique, Mandatory, Min, Max, Choice, Reference, State}
+use Rattle.yv_data_faults.specs.Flaw.{Flaw}
 use Rattle.yv_validate.specs.Repeats.{repeat_of}
 use Rattle.yv_validate.specs.Values.{entry_tuple}
-use Rattle.yv_quiet_nodes.specs.NamedLeafs.{key_leafs, unique_leafs}
+use Rattle.yv_data_quiet.specs.NamedLeafs.{key_leafs, unique_leafs}
 
 -- a fault at a path, without a number
 abbrev pub flaw : FaultKind → List Place → Flaw

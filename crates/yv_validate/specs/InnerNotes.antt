@@ -10,10 +10,10 @@ use Rattle.yv_values.specs.Values.{Val}
 use Rattle.yv_nodes.specs.Defaults.{defaults_of}
 use Rattle.yv_nodes.specs.Rows.{Rows, below, rank, row_at}
 use Rattle.yv_nodes.specs.Tree.{Label}
-use Rattle.yv_leafref_values.specs.Meetings.{Meeting, Spot}
-use Rattle.yv_leafref_values.specs.Values.{values_in}
-use Rattle.yv_statement.specs.declared.document_kind.Kind.{Kind}
-use Rattle.yv_quiet_nodes.specs.NamedLeafs.{is_named, keys_at, uniques_at}
+use Rattle.yv_data_leafrefs.specs.Meetings.{Meeting, Spot}
+use Rattle.yv_data_leafrefs.specs.Values.{values_in}
+use Rattle.yv_text_statement.specs.declared.document_kind.Kind.{Kind}
+use Rattle.yv_data_quiet.specs.NamedLeafs.{is_named, keys_at, uniques_at}
 use Rattle.yv_validate.specs.Values.{entry_tuple, tuple_of, value_in}
 use Rattle.yv_validate.specs.declared.notes.Notes.{Notes}
 

@@ -4,9 +4,9 @@ use Rattle.std.specs.Borrow.{Bor}
 use Rattle.serde_json.specs.Data.{Data, Items, Members, object}
 use Rattle.serde_json.specs.View.{view}
 use Rattle.serde_json.specs.declared.value.Value.{Value}
-use Rattle.yv_node_definition.specs.Kinds.{is_data}
-use Rattle.yv_node_definition.specs.declared.kind.NodeKind.{NodeKind}
-use Rattle.yv_node_definition.specs.declared.kind.NodeKind.TheVariants.{Choice}
+use Rattle.yv_node_content.specs.Kinds.{is_data}
+use Rattle.yv_node_content.specs.declared.kind.NodeKind.{NodeKind}
+use Rattle.yv_node_content.specs.declared.kind.NodeKind.TheVariants.{Choice}
 use Rattle.yv_values.specs.Pairs.{Pair}
 use Rattle.yv_values.specs.Values.{Val}
 use Rattle.yv_nodes.specs.declared.node.NodeId.{NodeId}
@@ -18,15 +18,15 @@ use Rattle.yv_schema_tables.specs.Sound.{is_object}
 use Rattle.yv_walk.specs.Context.{members_of}
 use Rattle.yv_walk.specs.Existence.{any, existence_of}
 use Rattle.yv_walk.specs.declared.context.Context.{Context}
-use Rattle.yv_leafref_values.specs.Findings.{FindingsView}
-use Rattle.yv_leafref_values.specs.InUse.{is_asked, uses_defaults, value_of}
-use Rattle.yv_leafref_values.specs.Meetings.{at_value, Meeting, Node, Spot}
-use Rattle.yv_leafref_values.specs.Place.{under}
-use Rattle.yv_leafref_values.specs.declared.scope.RuleScope.{RuleScope}
-use Rattle.yv_faults.specs.Flaw.{Flaw}
-use Rattle.yv_faults.specs.Trails.{Flaws, IsWithin, places}
-use Rattle.yv_faults.specs.declared.fault.FaultKind.TheVariants.{Unknown}
-use Rattle.yv_faults.specs.declared.trail.Trail.{Trail}
+use Rattle.yv_data_leafrefs.specs.Findings.{FindingsView}
+use Rattle.yv_data_leafrefs.specs.InUse.{is_asked, uses_defaults, value_of}
+use Rattle.yv_data_leafrefs.specs.Meetings.{at_value, Meeting, Node, Spot}
+use Rattle.yv_data_leafrefs.specs.Place.{under}
+use Rattle.yv_data_leafrefs.specs.declared.scope.RuleScope.{RuleScope}
+use Rattle.yv_data_faults.specs.Flaw.{Flaw}
+use Rattle.yv_data_faults.specs.Trails.{Flaws, IsWithin, places}
+use Rattle.yv_data_faults.specs.declared.fault.FaultKind.TheVariants.{Unknown}
+use Rattle.yv_data_faults.specs.declared.trail.Trail.{Trail}
 use Rattle.yv_validate.specs.Faults.{faults, flaw, item_tuple}
 use Rattle.yv_validate.specs.InnerMemory.{Remembers}
 use Rattle.yv_validate.specs.InnerNotes.{default_value, GainsBy}

@@ -3,7 +3,7 @@
 use Rattle.std.specs.Prelude.{◌≡◌, ◌<◌, ℕ, ◌+◌, List, [], ◌∷◌, ◌++◌, length, map, true, Option, if◌then◌else◌}
 use Rattle.std.specs.List.{flat_map, slice_index_or, sum_by}
 use Rattle.serde_json.specs.Data.{Data, Items, Members, no_members}
-use Rattle.yv_statement.specs.declared.document_kind.Kind.{Kind}
+use Rattle.yv_text_statement.specs.declared.document_kind.Kind.{Kind}
 use Rattle.yv_values.specs.Count.{count_up}
 use Rattle.yv_values.specs.Values.{Val}
 use Rattle.yv_nodes.specs.declared.node.NodeId.{NodeId}
@@ -15,19 +15,19 @@ use Rattle.yv_schema_tables.specs.DataChildren.{opened_trees}
 use Rattle.yv_walk.specs.Context.{IsContext, parent_of, unknown_names}
 use Rattle.yv_walk.specs.Existence.{stands_in}
 use Rattle.yv_walk.specs.declared.context.Context.{Context}
-use Rattle.yv_leafref_values.specs.declared.scope.RuleScope.{RuleScope}
-use Rattle.yv_leafref_values.specs.Findings.{Findings, Finds, kept_if, FindingsView, met_in, only_used, used_if, value_notes}
-use Rattle.yv_leafref_values.specs.InUse.{case_scope, scope_in, uses_defaults}
-use Rattle.yv_leafref_values.specs.Meetings.{array_met, Below, container_met, count_entered, entries_met, is_left, items_met, kind_met, leaf_met, Meeting, meetings, at_node, Node, node_met, object_met, Spot, WrittenValue}
-use Rattle.yv_leafref_values.specs.Place.{Place, under}
+use Rattle.yv_data_leafrefs.specs.declared.scope.RuleScope.{RuleScope}
+use Rattle.yv_data_leafrefs.specs.Findings.{Findings, Finds, kept_if, FindingsView, met_in, only_used, used_if, value_notes}
+use Rattle.yv_data_leafrefs.specs.InUse.{case_scope, scope_in, uses_defaults}
+use Rattle.yv_data_leafrefs.specs.Meetings.{array_met, Below, container_met, count_entered, entries_met, is_left, items_met, kind_met, leaf_met, Meeting, meetings, at_node, Node, node_met, object_met, Spot, WrittenValue}
+use Rattle.yv_data_leafrefs.specs.Place.{Place, under}
 use Rattle.serde_json.specs.Find.{get_member}
 use Rattle.yv_validate.specs.Faults.{faults_at, flaw}
-use Rattle.yv_faults.specs.Flaw.{Flaw}
-use Rattle.yv_faults.specs.Trails.{places}
+use Rattle.yv_data_faults.specs.Flaw.{Flaw}
+use Rattle.yv_data_faults.specs.Trails.{places}
 use Rattle.yv_validate.specs.Work.{work_at}
-use Rattle.yv_faults.specs.declared.fault.FaultKind.TheVariants.{Unknown}
+use Rattle.yv_data_faults.specs.declared.fault.FaultKind.TheVariants.{Unknown}
 use Rattle.yv_validate.specs.declared.progress.Progress.{Progress}
-use Rattle.yv_faults.specs.declared.trail.Trail.{Trail}
+use Rattle.yv_data_faults.specs.declared.trail.Trail.{Trail}
 
 -- the node may be in the object
 pub record Meets (s : Rows) (c : Context) (n : NodeId) : Type 0 where

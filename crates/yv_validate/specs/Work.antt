@@ -5,7 +5,7 @@
 use Rattle.std.specs.Prelude.{ℕ, ◌+◌, List, [], ◌∷◌, Option, Some, None}
 use Rattle.std.specs.List.{sum_by}
 use Rattle.serde_json.specs.Data.{Data, object}
-use Rattle.yv_statement.specs.declared.document_kind.Kind.{Kind}
+use Rattle.yv_text_statement.specs.declared.document_kind.Kind.{Kind}
 use Rattle.yv_values.specs.Reads.{types_tried}
 use Rattle.yv_values.specs.Values.{Val}
 use Rattle.yv_nodes.specs.declared.node.NodeId.{NodeId}
@@ -14,8 +14,8 @@ use Rattle.yv_nodes.specs.Link.{link_in}
 use Rattle.yv_nodes.specs.Rows.{Rows}
 use Rattle.yv_nodes.specs.Tree.{Label}
 use Rattle.yv_walk.specs.Context.{members_len}
-use Rattle.yv_leafref_values.specs.Meetings.{all_met, Meeting, stand, at_value, at_end, at_node}
-use Rattle.yv_leafref_values.specs.References.{lookups_at}
+use Rattle.yv_data_leafrefs.specs.Meetings.{all_met, Meeting, stand, at_value, at_end, at_node}
+use Rattle.yv_data_leafrefs.specs.References.{lookups_at}
 use Rattle.yv_validate.specs.Faults.{item_tuple, Leafs, leafs_of, tuple_at}
 
 -- the steps for the members of an object

@@ -1,7 +1,7 @@
 //! The law that bounds the steps of a validation.
 ghost use Rattle.std.specs.Prelude.{◌≤◌, ◌+◌, ◌*◌};
 ghost use Rattle.serde_json.specs.Data.{Data};
-ghost use Rattle.yv_statement.specs.declared.document_kind.Kind.{Kind};
+ghost use Rattle.yv_text_statement.specs.declared.document_kind.Kind.{Kind};
 ghost use Rattle.yv_nodes.specs.Rows.{Rows, whole};
 ghost use Rattle.yv_schema_tables.specs.{Measures.{measures_of}, Sound.{IsSound}};
 ghost use Rattle.yv_validate.specs.{Size.{size}, Work.{work}};

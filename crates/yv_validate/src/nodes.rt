@@ -1,12 +1,12 @@
 //! Nodes below which the walk doesn't go.
 ghost use Rattle.std.specs.Prelude.{◌≡◌, ◌==◌, ◌&&◌, ◌∷◌, [], ◌++◌, ◌+◌, ◌<◌, Option, nat_lt, length, map, false, true, Some, None, IfOk, OnOk, option_map, unwrap_or, if◌then◌else◌};
 ghost use Rattle.serde_json.specs.{Events.{items_len}, View.{view, items_view}};
-ghost use Rattle.yv_node_definition.specs.declared.kind.NodeKind.TheVariants.{Leaf, LeafList};
+ghost use Rattle.yv_node_content.specs.declared.kind.NodeKind.TheVariants.{Leaf, LeafList};
 ghost use Rattle.yv_values.specs.Count.{count_up};
 ghost use Rattle.yv_nodes.specs.{Defaults.{width}, Rows.{row_at}};
-ghost use Rattle.yv_leafref_values.specs.{Findings.{Finds}, InUse.{is_asked, is_empty_at, uses_defaults}};
+ghost use Rattle.yv_data_leafrefs.specs.{Findings.{Finds}, InUse.{is_asked, is_empty_at, uses_defaults}};
 ghost use Rattle.yv_validate.specs.{Faults.{anydata_faults, anyxml_faults, array_faults, choice_faults, count_faults, flaw_if, leaf_faults, misshapen as misshapen_faults}, InnerNotes.{Gains}, InnerWalk.{items_at, leaf_at, leaf_list_at}, InnerPromises.{all_defaults_found, ClosesData, data_of, default_found, default_in_use, GainsData, GrowsAt, GrowsWithAt, IsAskedOn, IsNodeOn, met_at_item, own_node, RemembersItems, Reports, value_at, value_found_at, work_at_value}};
-ghost use Rattle.yv_faults.specs.Trails.{places, IsWithin};
+ghost use Rattle.yv_data_faults.specs.Trails.{places, IsWithin};
 
 use crate::memory::{alone, stood_before};
 use crate::notes::Notes;
@@ -14,9 +14,9 @@ use crate::progress::{Progress, meet};
 use crate::walk::{Visit, Walk};
 use serde_json::Value;
 use std::alloc::AllocError;
-use yv_faults::{FaultKind, Faults, Trail};
-use yv_leafref_values::{Findings, RuleScope, laws};
-use yv_node_definition::NodeKind;
+use yv_data_faults::{FaultKind, Faults, Trail};
+use yv_data_leafrefs::{Findings, RuleScope, laws};
+use yv_node_content::NodeKind;
 use yv_nodes::NodeId;
 use yv_values::{Index, Meter, Value as Read, check_with};
 use yv_walk::is_there;

@@ -91,7 +91,7 @@ impl Notes {
     }
 }
 
-#[tactic(auto, using(crate::proofs::Noted::last_is))]
+#[tactic(auto, using(crate::proofs::NoteGrowth::last_is))]
 fn default_of(alloc: Global, schema: &Schema, id: NodeId) -> Result<Option<Value>, AllocError>
     ensures { IfOk result (λ v. v ≡ default_value (row_at schema.now id).label) }
 {

@@ -1,14 +1,14 @@
 //! Objects, and what is met in them.
 ghost use Rattle.std.specs.Prelude.{◌≡◌, ◌==◌, ◌<◌, ◌≤◌, ◌+◌, ◌*◌, ℕ, List, [], ◌∷◌, length, IfOk, IfSome, OnOk, None, Some, if◌then◌else◌};
 ghost use Rattle.serde_json.specs.{Data.{depth as nesting, object as an_object}, View.{view, items_view, members_view}};
-ghost use Rattle.yv_node_definition.specs.Kinds.{is_data};
+ghost use Rattle.yv_node_content.specs.Kinds.{is_data};
 ghost use Rattle.yv_values.specs.Count.{count_up};
 ghost use Rattle.yv_nodes.specs.Rows.{rank, below, children_of, whole};
 ghost use Rattle.yv_schema_tables.specs.Measures.{measures_of};
 ghost use Rattle.yv_walk.specs.{Context.{members_len, members_of}, Existence.{any, existence_of}};
-ghost use Rattle.yv_leafref_values.specs.{Findings.{first_of}, InUse.{is_asked, is_number}};
+ghost use Rattle.yv_data_leafrefs.specs.{Findings.{first_of}, InUse.{is_asked, is_number}};
 ghost use Rattle.yv_validate.specs.{Faults.{array_faults, faults as all_faults, flaw}, InnerNotes.{GainsBy, HasTuples}, InnerWalk.{children_met, Meets, MeetsBelow}, Size.{size}, Work.{work}, InnerPromises.{ClosesAt, ClosesData, data_of, fallback_in, faults_in, GainsData, GrowsAt, GrowsBy, GrowsWithAt, IsDataOn, IsObjectOn, IsParentOn, IsStateOn, MayChoose, MayMeet, MayMeetBelow, met_at_data, met_at_node, met_below, met_in_cases, met_in_container, met_in_entries, met_in_list, met_in_object, most_work, next_at, node_in, own_node, Reports, unknowns_in, work_in}};
-ghost use Rattle.yv_quiet_nodes.specs.{Quiet.{IsEmptied, IsPassed}, Runs.{AreRuns, IsPast}};
+ghost use Rattle.yv_data_quiet.specs.{Quiet.{IsEmptied, IsPassed}, Runs.{AreRuns, IsPast}};
 
 use crate::laws::work_bound;
 use crate::memory::stood_before;
@@ -20,15 +20,15 @@ use crate::tell::tell_references;
 use crate::walk::{Visit, Walk};
 use serde_json::{Map, Value};
 use std::alloc::{AllocError, Global};
-use yv_faults::{FaultKind, Faults, Trail};
-use yv_leafref_values::{RuleScope, answer, laws as found_laws};
-use yv_node_definition::NodeKind;
+use yv_data_faults::{FaultKind, Faults, Trail};
+use yv_data_leafrefs::{RuleScope, answer, laws as found_laws};
+use yv_node_content::NodeKind;
 use yv_nodes::NodeId;
-use yv_quiet_nodes::{
+use yv_data_quiet::{
     Run, RunTable, inner_steps, known_nodes, known_steps, pass_quiet, pass_quiet_children,
 };
 use yv_schema_tables::Schema;
-use yv_statement::Kind;
+use yv_text_statement::Kind;
 use yv_values::{Index, Meter};
 use yv_walk::{Context, Existence, is_there, laws};
 

@@ -1,12 +1,12 @@
 //! What grows in a walk.
 ghost use Rattle.std.specs.Prelude.{◌≡◌, [], IfOk, OnOk};
-ghost use Rattle.yv_leafref_values.specs.Findings.{Finds, none_found};
+ghost use Rattle.yv_data_leafrefs.specs.Findings.{Finds, none_found};
 ghost use Rattle.yv_validate.specs.InnerWalk.{value_found};
 
 use crate::walk::Visit;
 use std::alloc::{AllocError, Global};
-use yv_faults::Faults;
-use yv_leafref_values::Findings;
+use yv_data_faults::Faults;
+use yv_data_leafrefs::Findings;
 use yv_schema_tables::Schema;
 use yv_values::{Matchers, Meter, Value};
 

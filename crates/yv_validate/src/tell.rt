@@ -1,13 +1,13 @@
 //! Faults as they are reported, with the way to their place.
 ghost use Rattle.std.specs.Prelude.{◌≡◌, ◌&&◌, ◌∷◌, [], ◌++◌, map, OnOk};
-ghost use Rattle.yv_faults.specs.Trails.{places, IsWithin};
-ghost use Rattle.yv_leafref_values.specs.InUse.{enforces};
+ghost use Rattle.yv_data_faults.specs.Trails.{places, IsWithin};
+ghost use Rattle.yv_data_leafrefs.specs.InUse.{enforces};
 ghost use Rattle.yv_validate.specs.{Faults.{flaw, flaw_if, reference_faults, repeat_faults}, InnerPromises.{Reports, unknown_at}};
 
 use crate::walk::Walk;
 use std::alloc::AllocError;
-use yv_faults::{Fault, FaultKind, Faults, Path, Trail};
-use yv_leafref_values::{RuleScope, ValuePath};
+use yv_data_faults::{Fault, FaultKind, Faults, Path, Trail};
+use yv_data_leafrefs::{RuleScope, ValuePath};
 use yv_nodes::Node;
 
 /// Reports the references that reach nothing, which are at these paths.

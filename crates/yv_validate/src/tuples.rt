@@ -3,15 +3,15 @@ ghost use Rattle.std.specs.Prelude.{◌≡◌, ◌∷◌, [], ◌++◌, ◌+◌,
 ghost use Rattle.serde_json.specs.{Data.{Data}, View.{view}};
 ghost use Rattle.yv_values.specs.Count.{count_up};
 ghost use Rattle.yv_validate.specs.{InnerMemory.{RemembersEach}, InnerNotes.{HasTuples, list_tuple, tuple_in}, Faults.{unique_faults, unique_if}, Work.{uniques_work}, InnerPromises.{Reports}};
-ghost use Rattle.yv_quiet_nodes.specs.NamedLeafs.{uniques_at};
-ghost use Rattle.yv_faults.specs.Trails.{places, IsWithin};
+ghost use Rattle.yv_data_quiet.specs.NamedLeafs.{uniques_at};
+ghost use Rattle.yv_data_faults.specs.Trails.{places, IsWithin};
 
 use crate::memory::stood_before;
 use crate::notes::Notes;
 use crate::walk::Walk;
 use serde_json::Value;
 use std::alloc::AllocError;
-use yv_faults::{FaultKind, Faults, Trail};
+use yv_data_faults::{FaultKind, Faults, Trail};
 use yv_nodes::NodeId;
 use yv_values::{Index, Meter, Tuple};
 

@@ -1,13 +1,13 @@
 //! A walk over a document and its schema.
-ghost use Rattle.yv_quiet_nodes.specs.{Quiet.{AreKnown}, Runs.{HasRuns}};
+ghost use Rattle.yv_data_quiet.specs.{Quiet.{AreKnown}, Runs.{HasRuns}};
 
 use std::alloc::Global;
-use yv_faults::Trail;
-use yv_leafref_values::RuleScope;
+use yv_data_faults::Trail;
+use yv_data_leafrefs::RuleScope;
 use yv_nodes::NodeId;
-use yv_quiet_nodes::RunTable;
+use yv_data_quiet::RunTable;
 use yv_schema_tables::Schema;
-use yv_statement::Kind;
+use yv_text_statement::Kind;
 
 /// A validation: where its memory comes from, the schema, what kind of document is asked for, and
 /// what is known of the nodes of the schema and of children one after the other.

@@ -6,7 +6,7 @@ use Rattle.std.specs.Str.{bytes_eq}
 use Rattle.std.proofs.lemmas.Slice.Eq.{bytes_eq-Decides}
 use Rattle.yv_values.specs.Texts.{is_named, are_distinct, words, bits_in, is_trimmed, choose}
 use Rattle.yv_values.specs.Values.{bits}
-use Rattle.yv_values.proofs.Chosen.{and_left, and_right}
+use Rattle.yv_values.proofs.BitSets.{and_left, and_right}
 
 abbrev without : List ℕ → List (List ℕ) → List (List ℕ)
 without w ns = filter (λ n. not (bytes_eq n w)) ns

@@ -9,8 +9,8 @@ use Rattle.std.proofs.lemmas.Cmp.{nat_list_cmp_total}
 use Rattle.std.proofs.lemmas.Slice.Eq.{bytes_eq-Decides}
 use Rattle.yv_values.specs.Identities.{Id, RiseById, id_cmp, is_identity}
 use Rattle.yv_values.specs.NameOrder.{Rises, is_named}
-use Rattle.yv_values.proofs.Found.{compared, ids_total, same_id}
-use Rattle.yv_values.proofs.Rising.{Among, among_any, any_among, rising_one}
+use Rattle.yv_values.proofs.IdentitySearch.{compared, ids_total, same_id}
+use Rattle.yv_values.proofs.RisingLists.{Among, among_any, any_among, rising_one}
 
 text_moves : (xs ys : List (List ℕ)) → ((s : List ℕ) → is_named xs s ≡ is_named ys s) → (k : List ℕ) → Among xs k → Among ys k
 text_moves xs ys same k a = any_among (λ n. bytes_eq n k) k (λ x h. (bytes_eq-Decides x k).0 h) ys (sym (same k) ∙ among_any (λ n. bytes_eq n k) k ((bytes_eq-Decides k k).1 refl) xs a)

@@ -12,8 +12,8 @@ use Rattle.std.proofs.lemmas.Option.{get_or_from_slice_get, slice_get_within}
 use Rattle.yv_values.specs.declared.numbered_members.NumberedMember.{NumberedMember}
 use Rattle.yv_values.specs.Identities.{HasTwins, Id, NumberedId, id_cmp, is_identity, numbered_of}
 use Rattle.yv_values.specs.InnerMembers.{HasStop, entry_id}
-use Rattle.yv_values.proofs.Found.{compared, ids_total}
-use Rattle.yv_values.proofs.Numbered.{is_itself}
+use Rattle.yv_values.proofs.IdentitySearch.{compared, ids_total}
+use Rattle.yv_values.proofs.NumberedIdentities.{is_itself}
 
 -- what comes first by two orders comes first or is the same by the first one
 pub first_isnt_less : (o r : Ordering) → is_lt (ordering_then o r) ≡ false → is_lt o ≡ false

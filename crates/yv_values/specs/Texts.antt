@@ -3,7 +3,7 @@ use Rattle.std.specs.Prelude.{◌≡◌, ℕ, ◌+◌, ◌-◌, nat_lt, List, []
 use Rattle.std.specs.List.{list_all, filter, slice_split}
 use Rattle.std.specs.Str.{chars}
 use Rattle.base64.specs.declared.decode.DecodeError.{DecodeError}
-use Rattle.yv_statement.specs.Legal.{all_legal}
+use Rattle.yv_text_statement.specs.Legal.{all_legal}
 use Rattle.yv_pattern.specs.Meaning.{verdict}
 use Rattle.yv_base_numbers.specs.Intervals.{Interval, are_among}
 pub use Rattle.yv_values.specs.Identities.{is_identity, identity_in}

@@ -8,7 +8,7 @@ use std::alloc::{AllocError, Global};
 use std::rc::RcStr;
 use yv_base_numbers::Integer;
 use yv_pattern::Matchers;
-use yv_statement::is_legal_text;
+use yv_text_statement::is_legal_text;
 
 /// The text, where it is a value of the type, by these matchers of its patterns.
 pub fn text_in<'t>(

@@ -1,7 +1,7 @@
 -- A node stands in those choices and cases that are at or above its parent.
 use Rattle.std.proofs.Common.{◌≡◌, ℕ, ◌==◌, ◌||◌, ◌&&◌, ◌<◌, ◌≤◌, ◌+◌, length, List, Bool, true, false, cond, ◌⊎◌, inl, inr, refl, sym, ap, ◌∙◌, eqb-true, eq-eqb, arith, subst}
 use Rattle.std.proofs.lemmas.Bool.{false≢true}
-use Rattle.yv_node_definition.specs.Kinds.{is_passed}
+use Rattle.yv_node_content.specs.Kinds.{is_passed}
 use Rattle.yv_nodes.specs.declared.node.NodeId.{NodeId}
 use Rattle.yv_nodes.specs.Tree.{count, Forest, no_trees, node, tree}
 use Rattle.yv_nodes.specs.Numbers.{numbers_from}
@@ -10,7 +10,7 @@ use Rattle.yv_schema_tables.specs.Sound.{IsSound}
 use Rattle.yv_walk.specs.Existence.{passes, holds}
 use Rattle.yv_walk.proofs.Bools.{and_of, and_true, or_left, or_right, or_true, same_bool}
 use Rattle.yv_walk.proofs.Joins.{one_number}
-use Rattle.yv_walk.proofs.Sitting.{IsAbove, IsIn, IsPlaced, Sits, above_of, every, kids_numbers, kids_sit, numbered, others_sit, passes_first, place_of, row_same}
+use Rattle.yv_walk.proofs.TreesInSchema.{IsAbove, IsIn, IsPlaced, Sits, above_of, every, kids_numbers, kids_sit, numbered, others_sit, passes_first, place_of, row_same}
 
 -- what is held has one of the numbers
 pub held_within : (at : ℕ) (ts : Forest) (x : NodeId) → holds at ts x ≡ true → (at ≤ x.0) × (x.0 < at + count ts)

@@ -1,9 +1,9 @@
 -- Small facts on truth values, and on nodes by their numbers.
 use Rattle.std.proofs.Common.{◌≡◌, ◌||◌, ◌&&◌, Bool, true, false, cond, ◌⊎◌, inl, inr, refl, sym}
 use Rattle.std.proofs.lemmas.Bool.{false≢true}
-use Rattle.yv_node_definition.specs.declared.kind.NodeKind.{NodeKind}
-use Rattle.yv_node_definition.specs.declared.kind.NodeKind.TheVariants as kind
-use Rattle.yv_node_definition.specs.Kinds.{is_data, is_passed}
+use Rattle.yv_node_content.specs.declared.kind.NodeKind.{NodeKind}
+use Rattle.yv_node_content.specs.declared.kind.NodeKind.TheVariants as kind
+use Rattle.yv_node_content.specs.Kinds.{is_data, is_passed}
 
 pub or_true : (a b : Bool) → (a || b) ≡ true → (a ≡ true) ⊎ (b ≡ true)
 or_true true b e = inl refl

@@ -1,16 +1,16 @@
 mod Bools
 mod Joins
-mod Filled
-mod Numbered
-mod Sitting
+mod NonEmptyArrays
+mod TreeRows
+mod TreesInSchema
 mod Above
 mod Steps
 mod Single
 pub mod Keys
-mod Naming
-mod Kept
-mod Looked
+mod MemberNodes
+mod MemberValues
+mod UnknownMembers
 mod Stands
-mod Counting
-mod Ascending
+mod ExistingChildren
+mod AscendingNodes
 mod Places

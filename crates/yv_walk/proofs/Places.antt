@@ -6,9 +6,9 @@ use Rattle.std.proofs.lemmas.Bool.Decides.{nat_tests}
 use Rattle.std.proofs.Math.ListN.{drop_of_length-le}
 use Rattle.serde_json.specs.Data.{Data, Members}
 use Rattle.serde_json.specs.Find.{get_member}
-use Rattle.yv_node_definition.specs.Kinds.{is_data, is_passed}
-use Rattle.yv_node_definition.specs.declared.kind.NodeKind.{NodeKind}
-use Rattle.yv_node_definition.specs.declared.kind.NodeKind.TheVariants as kind
+use Rattle.yv_node_content.specs.Kinds.{is_data, is_passed}
+use Rattle.yv_node_content.specs.declared.kind.NodeKind.{NodeKind}
+use Rattle.yv_node_content.specs.declared.kind.NodeKind.TheVariants as kind
 use Rattle.yv_nodes.specs.Numbers.{numbers_from}
 use Rattle.yv_nodes.specs.Rows.{AreTrees, Rows, below, children_of, is_root, rank, row_at, tree_of}
 use Rattle.yv_nodes.specs.Tree.{count, Forest, Label, no_trees, node, tree}
@@ -20,9 +20,9 @@ use Rattle.yv_walk.specs.Existence.{any, child_exists, ChildrenStand, is_there, 
 use Rattle.yv_walk.specs.declared.context.Context.{Context}
 use Rattle.yv_walk.specs.declared.existence.Existence.{Existence}
 use Rattle.yv_walk.specs.declared.existence.Existence.TheVariants.{Nothing, Only}
-use Rattle.yv_walk.proofs.Counting.{count_drop, count_of}
+use Rattle.yv_walk.proofs.ExistingChildren.{count_drop, count_of}
 use Rattle.yv_walk.proofs.Above.{rank_within}
-use Rattle.yv_walk.proofs.Sitting.{above_of}
+use Rattle.yv_walk.proofs.TreesInSchema.{above_of}
 use Rattle.yv_walk.proofs.Stands.{inner_stands}
 
 -- ---- their numbers

@@ -10,9 +10,9 @@ use Rattle.std.proofs.lemmas.Map.Text.{is_eq-slice_cmp}
 use Rattle.std.proofs.lemmas.Slice.Eq.{bytes_eq-Decides}
 use Rattle.serde_json.specs.Data.{Data, Members, member, no_members}
 use Rattle.serde_json.specs.Find.{get_member}
-use Rattle.yv_node_definition.specs.declared.kind.NodeKind.{NodeKind}
-use Rattle.yv_node_definition.specs.declared.kind.NodeKind.TheVariants as kind
-use Rattle.yv_node_definition.specs.Kinds.{is_data, is_passed}
+use Rattle.yv_node_content.specs.declared.kind.NodeKind.{NodeKind}
+use Rattle.yv_node_content.specs.declared.kind.NodeKind.TheVariants as kind
+use Rattle.yv_node_content.specs.Kinds.{is_data, is_passed}
 use Rattle.yv_nodes.specs.declared.node.NodeId.{NodeId}
 use Rattle.yv_nodes.specs.Tree.{count, Forest, Label, no_trees, node, tree}
 use Rattle.yv_walk.specs.declared.existence.Existence.{Existence}

@@ -8,8 +8,8 @@ use Rattle.yv_schema_tables.specs.Sound.{IsSound, is_object}
 use Rattle.yv_walk.specs.Existence.{holds, passes, stands_in}
 use Rattle.yv_walk.proofs.Above.{beneath, own_held}
 use Rattle.yv_walk.proofs.Bools.{and_of}
-use Rattle.yv_walk.proofs.Naming.{IsHeld, is_held}
-use Rattle.yv_walk.proofs.Sitting.{IsAbove, IsIn, Sits, above_of, others_sit, picked_sit}
+use Rattle.yv_walk.proofs.MemberNodes.{IsHeld, is_held}
+use Rattle.yv_walk.proofs.TreesInSchema.{IsAbove, IsIn, Sits, above_of, others_sit, picked_sit}
 
 in_at : (cs : List NodeId) (i : ℕ) (d : NodeId) → i < length cs → IsIn (get_or cs i d) cs
 in_at [] i d lt = absurd (omega (arith, lt))

@@ -3,7 +3,7 @@ use Rattle.std.specs.Prelude.{◌≡◌, ℕ, ◌+◌, List, [], ◌∷◌, ◌+
 use Rattle.serde_json.specs.Data.{Members, no_members, member}
 use Rattle.serde_json.specs.Find.{get_member}
 use Rattle.serde_json.specs.View.{members_view}
-use Rattle.yv_node_definition.specs.Kinds.{is_data}
+use Rattle.yv_node_content.specs.Kinds.{is_data}
 use Rattle.yv_nodes.specs.declared.node.NodeId.{NodeId}
 use Rattle.yv_nodes.specs.Rows.{Rows, row_at}
 use Rattle.yv_nodes.specs.Tree.{Forest}

@@ -4,9 +4,9 @@ use Rattle.std.specs.Prelude.{◌≡◌, ℕ, ◌+◌, ◌<◌, ◌==◌, ◌&&�
 use Rattle.std.specs.List.{slice_index_or}
 use Rattle.serde_json.specs.Data.{Data, array, no_items, Members}
 use Rattle.serde_json.specs.Find.{get_member}
-use Rattle.yv_node_definition.specs.declared.kind.NodeKind.{NodeKind}
-use Rattle.yv_node_definition.specs.declared.kind.NodeKind.TheVariants as kind
-use Rattle.yv_node_definition.specs.Kinds.{is_data, is_passed}
+use Rattle.yv_node_content.specs.declared.kind.NodeKind.{NodeKind}
+use Rattle.yv_node_content.specs.declared.kind.NodeKind.TheVariants as kind
+use Rattle.yv_node_content.specs.Kinds.{is_data, is_passed}
 use Rattle.yv_nodes.specs.declared.node.NodeId.{NodeId}
 use Rattle.yv_nodes.specs.Tree.{count, Forest, Tree, no_trees, node, tree}
 use Rattle.yv_nodes.specs.Rows.{Rows, below, children_of, is_root, rank, row_at, tree_of}

@@ -1,7 +1,7 @@
 //! One object of a document, its members looked up once.
 ghost use Rattle.std.specs.{Prelude.{◌≡◌, ◌<◌, ◌≤◌, ◌+◌, ◌∷◌, [], ◌++◌, ◌&&◌, ℕ, false, length, map, true, IfOk, IfSome, OnErr, OnOk}, List.{slice_index_or}, Option.{option_map, unwrap_or}};
 ghost use Rattle.serde_json.specs.{Data.{no_members}, Find.{get_member}, View.{view, members_view}};
-ghost use Rattle.yv_node_definition.specs.Kinds.{is_data};
+ghost use Rattle.yv_node_content.specs.Kinds.{is_data};
 ghost use Rattle.yv_values.specs.Count.{count_up};
 ghost use Rattle.yv_nodes.specs.{declared.node.NodeId.{NodeId}, Rows.{Rows, below, children_of, rank, row_at, tree_of}};
 ghost use Rattle.yv_schema_tables.specs.Sound.{object_trees};
@@ -13,7 +13,7 @@ use crate::marks::Marks;
 use crate::written_values::WrittenValues;
 use serde_json::{Map, Value};
 use std::alloc::{AllocError, Global};
-use yv_node_definition::NodeKind;
+use yv_node_content::NodeKind;
 use yv_nodes::NodeId;
 use yv_schema_tables::Schema;
 use yv_values::Meter;

@@ -4,7 +4,7 @@ ghost use Rattle.serde_json.specs.{Data.{array}, View.{view, items_view}};
 ghost use Rattle.yv_walk.specs.Existence.{has_items, is_there as exists};
 
 use serde_json::Value;
-use yv_node_definition::NodeKind;
+use yv_node_content::NodeKind;
 
 /// Whether a node of this kind that is written so exists (RFC 7950, sections 7.5 to 7.11): a list
 /// or leaf-list that is written as an empty array has no entry, and operations, choices and cases

@@ -3,7 +3,7 @@
 ghost use Rattle.std.specs.{Prelude.{◌≡◌, ◌<◌, ◌≤◌, ◌&&◌, ℕ, List, None, drop, length, true}, List.{slice_index_or}};
 ghost use Rattle.serde_json.specs.{Data.{Data, Members, member, no_members}, Find.{get_member}};
 ghost use Rattle.yv_nodes.specs.{Numbers.{numbers_from}, Rows.{Rows, below, children_of, forest, rank}, Tree.{Forest}, declared.node.NodeId.{NodeId}};
-ghost use Rattle.yv_node_definition.specs.declared.kind.NodeKind.{NodeKind};
+ghost use Rattle.yv_node_content.specs.declared.kind.NodeKind.{NodeKind};
 ghost use Rattle.yv_schema_tables.specs.Sound.{IsSound, is_object};
 ghost use Rattle.yv_walk.specs.{Marks.{with_node}, MemberNodes.{AreNamed, AreUnnamed}, Existence.{both, holds, is_there, passes, existence_of, stands_in}, declared.existence.Existence.TheVariants.{Nothing}, declared.existence.Existence.{Existence}};
 

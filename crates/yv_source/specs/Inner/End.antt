@@ -1,9 +1,9 @@
 -- Where the reader ends, and what it then answers; cited by private clauses only.
 use Rattle.std.specs.Prelude.{◌≡◌, ℕ, List, [], ◌∷◌, Option, Some, None, Result, Ok, Err}
-use Rattle.yv_statement.specs.Tree.{Tree}
-use Rattle.yv_statement.specs.declared.refusal.Code.TheVariants as code
-use Rattle.yv_statement.specs.declared.refusal.Stop.{Stop}
-use Rattle.yv_statement.specs.declared.refusal.Stop.TheVariants.{Fault, PatternBuild, NoMemory}
+use Rattle.yv_text_statement.specs.Tree.{Tree}
+use Rattle.yv_text_statement.specs.declared.refusal.Code.TheVariants as code
+use Rattle.yv_text_statement.specs.declared.refusal.Stop.{Stop}
+use Rattle.yv_text_statement.specs.declared.refusal.Stop.TheVariants.{Fault, PatternBuild, NoMemory}
 use Rattle.yv_source.specs.Escapes.{IsNewer}
 use Rattle.yv_source.specs.Answer.{refusal_in, IsSpelled, IsRefused}
 use Rattle.yv_source.specs.declared.machine.Phase.{Phase}

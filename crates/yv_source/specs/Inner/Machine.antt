@@ -1,8 +1,8 @@
 -- The machine that the reader follows, one token at a time; cited by private clauses only. What
 -- tokens spell is Grammar's.
 use Rattle.std.specs.Prelude.{ℕ, Bool, ◌==◌, ◌&&◌, ◌||◌, cond, List, [], ◌∷◌, length, nat_lt}
-use Rattle.yv_statement.specs.Tree.{Tree}
-use Rattle.yv_statement.specs.Builder.{bare, push_child, with_argument, with_more}
+use Rattle.yv_text_statement.specs.Tree.{Tree}
+use Rattle.yv_text_statement.specs.Builder.{bare, push_child, with_argument, with_more}
 use Rattle.yv_source.specs.Characters.{colon}
 use Rattle.yv_source.specs.Place.{line_of}
 use Rattle.yv_source.specs.Pieces.{Piece, Word, Single, Double, Semicolon, Open, Close, Plus, until, begins, Token}

@@ -1,7 +1,7 @@
 -- Bad backslash pairs, as the code looks for them; cited by private clauses only.
 use Rattle.std.specs.Prelude.{ℕ, ◌+◌, ◌-◌, Bool, true, false, ◌==◌, ◌&&◌, cond, bytes_eq, List, [], ◌∷◌, take, drop, Option, Some, None}
 use Rattle.std.specs.List.{list_any}
-use Rattle.yv_statement.specs.Tree.{Tree}
+use Rattle.yv_text_statement.specs.Tree.{Tree}
 use Rattle.yv_source.specs.Characters.{backslash}
 use Rattle.yv_source.specs.Pieces.{Piece, Double}
 use Rattle.yv_source.specs.Escapes.{is_escape, yang_version, newer}

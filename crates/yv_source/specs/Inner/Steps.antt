@@ -1,6 +1,6 @@
 -- What the machine's code answers; cited by private clauses only.
 use Rattle.std.specs.Prelude.{◌≡◌, List, Result, Ok, Err}
-use Rattle.yv_statement.specs.Tree.{Tree}
+use Rattle.yv_text_statement.specs.Tree.{Tree}
 use Rattle.yv_source.specs.Pieces as pieces
 use Rattle.yv_source.specs.Inner.Machine.{Step, Next, Wrong, Deep}
 use Rattle.yv_source.specs.declared.machine.Phase.{Phase}

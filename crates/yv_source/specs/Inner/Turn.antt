@@ -1,6 +1,6 @@
 -- One turn of the reader, by what the scanner found; cited by private clauses only.
 use Rattle.std.specs.Prelude.{ℕ, ◌+◌, List, take, drop, Option, Some, None}
-use Rattle.yv_statement.specs.Tree.{Tree}
+use Rattle.yv_text_statement.specs.Tree.{Tree}
 use Rattle.yv_source.specs.Pieces.{Piece, Word, Single, Double, Semicolon, Open, Close, Plus, Before, Apart, UnquotedWord, QuotedText, past_gap}
 use Rattle.yv_source.specs.Inner.Machine.{Step, Next, step_at}
 use Rattle.yv_source.specs.Outcome.{most_deep}

@@ -1,5 +1,5 @@
 use Rattle.std.proofs.Common.{arith}
-use Rattle.yv_base_graph.proofs.Found.{found_first_at, found_none, found_ranking}
+use Rattle.yv_base_graph.proofs.SearchResult.{found_first_at, found_none, found_ranking}
 use Rattle.yv_base_graph.proofs.cycles.first_on_cycle.Goals as goal
 
 pub returns-then-least-graph-clause-first : goal.returns-then-least-graph-clause-first

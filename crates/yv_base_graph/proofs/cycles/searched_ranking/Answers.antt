@@ -1,5 +1,5 @@
 use Rattle.std.proofs.Common.{arith}
-use Rattle.yv_base_graph.proofs.Found.{found_first_at, found_ranks_at, found_order_at, found_places_at}
+use Rattle.yv_base_graph.proofs.SearchResult.{found_first_at, found_ranks_at, found_order_at, found_places_at}
 use Rattle.yv_base_graph.proofs.cycles.searched_ranking.Goals as goal
 
 pub returns-then-least-graph-clause-cycle : goal.returns-then-least-graph-clause-cycle

@@ -1,5 +1,5 @@
 use Rattle.std.proofs.Common.{arith, refl}
-use Rattle.yv_base_graph.proofs.Reaching.{reached_init, reached_next, reaching_end}
+use Rattle.yv_base_graph.proofs.Reachability.{reached_init, reached_next, reaching_end}
 use Rattle.yv_base_graph.proofs.reach.reachable_from.Goals as goal
 
 pub loop-next-init : goal.loop-next-init

@@ -1,5 +1,5 @@
 use Rattle.std.proofs.Common.{length, ◌-◌}
-use Rattle.yv_base_graph.proofs.Reaching.{Reaching}
+use Rattle.yv_base_graph.proofs.Reachability.{Reaching}
 use Rattle.yv_base_graph.proofs.reach.reachable_from.Given as goal
 
 abbrev pub invariant-loop-next : goal.invariant-loop-next

@@ -1,5 +1,5 @@
 use Rattle.std.proofs.Common.{sym, ◌∙◌}
-use Rattle.yv_base_numbers.proofs.Grown.{first_too_big, second_too_big, all_three}
+use Rattle.yv_base_numbers.proofs.DigitGrowth.{first_too_big, second_too_big, all_three}
 use Rattle.yv_base_numbers.proofs.decimal.value_with_zeros.Goals as goal
 
 pub returns-in_err-number : goal.returns-in_err-number

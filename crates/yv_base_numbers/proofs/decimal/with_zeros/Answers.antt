@@ -1,6 +1,6 @@
 use Rattle.std.proofs.Common.{◌<◌, ◌^◌, ◌+◌, ◌-◌, ◌*◌, ℕ, sym, ap, ◌∙◌, arith}
 use Rattle.yv_base_numbers.specs.Numbers.{within_64_bits}
-use Rattle.yv_base_numbers.proofs.Grown.{zeros_too_big, zeros_step, zeros_end, fits, unlimited}
+use Rattle.yv_base_numbers.proofs.DigitGrowth.{zeros_too_big, zeros_step, zeros_end, fits, unlimited}
 use Rattle.yv_base_numbers.proofs.decimal.with_zeros.Goals as goal
 
 pub returns-in_err-number : goal.returns-in_err-number

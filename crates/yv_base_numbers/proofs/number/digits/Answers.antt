@@ -1,6 +1,6 @@
 use Rattle.std.proofs.Common.{◌<◌, ◌+◌, ◌*◌, length, drop, get_or, List, ℕ, sym, ap, ◌∙◌, arith}
 use Rattle.yv_base_numbers.specs.Numbers.{value_after, digit_of, within_64_bits}
-use Rattle.yv_base_numbers.proofs.Grown.{too_big, digit_step, all_dropped, fits, is_limited}
+use Rattle.yv_base_numbers.proofs.DigitGrowth.{too_big, digit_step, all_dropped, fits, is_limited}
 use Rattle.yv_base_numbers.proofs.number.digits.Goals as goal
 
 pub returns-in_err-number : goal.returns-in_err-number

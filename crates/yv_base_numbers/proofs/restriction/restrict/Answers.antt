@@ -4,7 +4,7 @@ use Rattle.yv_base_numbers.specs.declared.intervals.Span.{Span}
 use Rattle.yv_base_numbers.specs.InnerParts.{all_of}
 use Rattle.yv_base_numbers.specs.RestrictedIntervals.{Interval, interval}
 use Rattle.yv_base_numbers.specs.Restrictions.{part_of}
-use Rattle.yv_base_numbers.proofs.Spoken.{some_restricted, none_restricted, none_from}
+use Rattle.yv_base_numbers.proofs.RestrictionParts.{some_restricted, none_restricted, none_from}
 use Rattle.yv_base_numbers.proofs.restriction.restrict.Goals as goal
 
 pub returns-in-Some-clause-restricts : goal.returns-in-Some-clause-restricts

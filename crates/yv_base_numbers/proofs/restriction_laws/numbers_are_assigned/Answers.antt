@@ -1,4 +1,4 @@
-use Rattle.yv_base_numbers.proofs.Assigned.{numbers_right, numbers_same, numbers_there}
+use Rattle.yv_base_numbers.proofs.AssignedNumbers.{numbers_right, numbers_same, numbers_there}
 use Rattle.yv_base_numbers.proofs.restriction_laws.numbers_are_assigned.Goals as goal
 
 pub returns-clause-right : goal.returns-clause-right

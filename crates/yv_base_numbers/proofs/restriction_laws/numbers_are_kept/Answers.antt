@@ -1,4 +1,4 @@
-use Rattle.yv_base_numbers.proofs.Assigned.{kept_right, kept_same, kept_there}
+use Rattle.yv_base_numbers.proofs.AssignedNumbers.{kept_right, kept_same, kept_there}
 use Rattle.yv_base_numbers.proofs.restriction_laws.numbers_are_kept.Goals as goal
 
 pub returns-clause-right : goal.returns-clause-right

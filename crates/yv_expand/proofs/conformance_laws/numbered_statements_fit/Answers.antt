@@ -1,4 +1,4 @@
-use Rattle.yv_expand.proofs.Fitting.{statement_fits}
+use Rattle.yv_expand.proofs.StatementFit.{statement_fits}
 use Rattle.yv_expand.proofs.conformance_laws.numbered_statements_fit.Goals as goal
 
 pub returns : goal.returns

@@ -1,4 +1,4 @@
-use Rattle.yv_expand.proofs.Sparing.{file_spared}
+use Rattle.yv_expand.proofs.FileConformance.{file_spared}
 use Rattle.yv_expand.proofs.conformance_laws.what_is_not_refused_fits.Goals as goal
 
 pub returns : goal.returns

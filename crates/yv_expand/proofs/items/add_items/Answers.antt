@@ -3,7 +3,7 @@ use Rattle.yv_link_scopes.specs.Views.{files_in, rows_in}
 use Rattle.yv_expand.specs.Tree.{count}
 use Rattle.yv_expand.specs.InnerItems.{items_below, origins}
 use Rattle.yv_expand.proofs.Listing.{longer}
-use Rattle.yv_expand.proofs.Stacking.{below_start, below_step, below_top, give_many, length_origins, on_err_of, stack_room, whole_room, whole_start, whole_step}
+use Rattle.yv_expand.proofs.ItemStack.{below_start, below_step, below_top, give_many, length_origins, on_err_of, stack_room, whole_room, whole_start, whole_step}
 use Rattle.yv_expand.proofs.items.add_items.Goals as goal
 
 pub loop-item-init : goal.loop-item-init

@@ -2,7 +2,7 @@ use Rattle.std.proofs.Common.{◌≡◌, ◌≤◌, ◌-◌, ◌++◌, length, v
 use Rattle.yv_link_scopes.specs.Views.{files_in, rows_in}
 use Rattle.yv_expand.specs.Tree.{Tree, item_list}
 use Rattle.yv_expand.specs.InnerItems.{Give, origins}
-use Rattle.yv_expand.proofs.Stacking.{ParentsBelow, Whole}
+use Rattle.yv_expand.proofs.ItemStack.{ParentsBelow, Whole}
 use Rattle.yv_expand.proofs.items.add_items.Given as goal
 
 abbrev pub invariant-loop-item : goal.invariant-loop-item

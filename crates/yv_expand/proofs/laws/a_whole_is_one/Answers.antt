@@ -1,4 +1,4 @@
-use Rattle.yv_expand.proofs.Ordered.{whole_one}
+use Rattle.yv_expand.proofs.ExpansionUniqueness.{whole_one}
 use Rattle.yv_expand.proofs.laws.a_whole_is_one.Goals as goal
 
 pub returns : goal.returns

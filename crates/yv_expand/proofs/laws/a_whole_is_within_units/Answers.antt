@@ -1,4 +1,4 @@
-use Rattle.yv_expand.proofs.Ordered.{whole_within}
+use Rattle.yv_expand.proofs.ExpansionUniqueness.{whole_within}
 use Rattle.yv_expand.proofs.laws.a_whole_is_within_units.Goals as goal
 
 pub returns : goal.returns

@@ -1,11 +1,11 @@
 use Rattle.std.proofs.Common.{◌≡◌, ◌<◌, sym, ◌∙◌, ap, arith, cond, length, Some, None, refl}
-use Rattle.yv_statement.specs.Order.{refusal_at}
-use Rattle.yv_statement.specs.Tree.{Head}
-use Rattle.yv_statement.specs.declared.refusal.Code.TheVariants as code
+use Rattle.yv_text_statement.specs.Order.{refusal_at}
+use Rattle.yv_text_statement.specs.Tree.{Head}
+use Rattle.yv_text_statement.specs.declared.refusal.Code.TheVariants as code
 use Rattle.yv_link_scopes.specs.Files.{Briefs, Files, brief, brief_of}
 use Rattle.yv_link_scopes.specs.Views.{lent_in, files_in, rows_in}
 use Rattle.yv_expand.proofs.UnitWords.{row_read, rows_count}
-use Rattle.yv_expand.proofs.Limiting.{brief_at, file_weighs, limiting_all, limiting_fits, limiting_more, limiting_none}
+use Rattle.yv_expand.proofs.FileLimits.{brief_at, file_weighs, limiting_all, limiting_fits, limiting_more, limiting_none}
 use Rattle.yv_expand.proofs.limit.first_past.Goals as goal
 
 pub loop-number-init : goal.loop-number-init

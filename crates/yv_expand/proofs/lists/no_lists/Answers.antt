@@ -1,6 +1,6 @@
 use Rattle.std.proofs.Common.{arith, ap, length, ◌∙◌}
 use Rattle.yv_expand.proofs.Listing.{longer}
-use Rattle.yv_expand.proofs.Placing.{empty_none, empty_more}
+use Rattle.yv_expand.proofs.StatementPlaces.{empty_none, empty_more}
 use Rattle.yv_expand.proofs.lists.no_lists.Goals as goal
 
 pub loop-init : goal.loop-init

@@ -4,7 +4,7 @@ use Rattle.yv_link_scopes.specs.Rows.{Row, row}
 use Rattle.yv_link_scopes.specs.Views.{lent_in, rows_in}
 use Rattle.yv_expand.specs.InnerItems.{block_place, is_wanted}
 use Rattle.yv_expand.proofs.Words.{row_read, rows_count}
-use Rattle.yv_expand.proofs.Placing.{place_is, placing_all, placing_none, placing_other, placing_place}
+use Rattle.yv_expand.proofs.StatementPlaces.{place_is, placing_all, placing_none, placing_other, placing_place}
 use Rattle.yv_expand.proofs.lists.of_blocks.Goals as goal
 use Rattle.yv_expand.proofs.lists.of_blocks.Goals.{in-Some+in_ok-push, in_default}
 

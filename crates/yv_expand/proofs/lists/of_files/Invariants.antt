@@ -1,7 +1,7 @@
 use Rattle.std.proofs.Common.{length}
 use Rattle.yv_link_scopes.specs.Views.{files_in, rows_in}
 use Rattle.yv_expand.specs.InnerItems.{is_wanted, top_place}
-use Rattle.yv_expand.proofs.Placing.{Placing}
+use Rattle.yv_expand.proofs.StatementPlaces.{Placing}
 use Rattle.yv_expand.proofs.lists.of_files.Given as goal
 
 abbrev pub invariant-loop-number : goal.invariant-loop-number

@@ -2,7 +2,7 @@ use Rattle.std.proofs.Common.{ap, arith, List}
 use Rattle.yv_link_scopes.specs.Rows.{Row, row}
 use Rattle.yv_link_scopes.specs.Views.{files_in, rows_in}
 use Rattle.yv_expand.proofs.UnitWords.{row_read, rows_count}
-use Rattle.yv_expand.proofs.Stepping.{stepping_all, stepping_graph, stepping_none, stepping_other, stepping_some}
+use Rattle.yv_expand.proofs.StepTable.{stepping_all, stepping_graph, stepping_none, stepping_other, stepping_some}
 use Rattle.yv_expand.proofs.steps.steps.Goals as goal
 use Rattle.yv_expand.proofs.steps.steps.Goals.{in-Some+in_ok-push, in_default}
 

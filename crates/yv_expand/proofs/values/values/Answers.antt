@@ -7,7 +7,7 @@ use Rattle.yv_link_scopes.specs.Views.{rows_in}
 use Rattle.yv_expand.specs.Units.{units_of, saturate}
 use Rattle.yv_expand.specs.InnerLists.{sum_at}
 use Rattle.yv_expand.proofs.UnitWords.{row_read, rows_count}
-use Rattle.yv_expand.proofs.Settling.{first_more, first_all}
+use Rattle.yv_expand.proofs.SettledValues.{first_more, first_all}
 use Rattle.yv_expand.proofs.values.values.Goals as goal
 
 pub loop-number-preserved : goal.loop-number-preserved

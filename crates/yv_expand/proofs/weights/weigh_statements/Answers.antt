@@ -5,7 +5,7 @@ use Rattle.yv_link_scopes.specs.Views.{lent_in, files_in, rows_in}
 use Rattle.yv_base_graph.specs.Graph.{HasNoCycle, IsOrder}
 use Rattle.yv_expand.specs.InnerLists.{Lists}
 use Rattle.yv_expand.specs.InnerSteps.{AreSteps}
-use Rattle.yv_expand.proofs.Cycling.{no_cycle}
+use Rattle.yv_expand.proofs.StepCycles.{no_cycle}
 use Rattle.yv_expand.proofs.weights.weigh_statements.Goals as goal
 
 pub returns : goal.returns

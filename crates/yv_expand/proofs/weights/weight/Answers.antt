@@ -1,6 +1,6 @@
 use Rattle.std.proofs.Common.{refl, sym}
 use Rattle.yv_link_scopes.specs.Rows.{row}
-use Rattle.yv_expand.proofs.Weighing.{told_none, told_some}
+use Rattle.yv_expand.proofs.StatementWeights.{told_none, told_some}
 use Rattle.yv_expand.proofs.weights.weight.Goals as goal
 
 pub returns-in-Some : goal.returns-in-Some

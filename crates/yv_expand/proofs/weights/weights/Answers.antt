@@ -4,7 +4,7 @@ use Rattle.yv_link_scopes.specs.Rows.{Row, row}
 use Rattle.yv_link_scopes.specs.Views.{rows_in}
 use Rattle.yv_expand.proofs.UnitWords.{row_read}
 use Rattle.yv_expand.proofs.UnitListing.{longer}
-use Rattle.yv_expand.proofs.Weighing.{told_more}
+use Rattle.yv_expand.proofs.StatementWeights.{told_more}
 use Rattle.yv_expand.proofs.weights.weights.Goals as goal
 
 pub loop-number-preserved : goal.loop-number-preserved

@@ -2,7 +2,7 @@ use Rattle.std.proofs.Common.{◌≡◌, length}
 use Rattle.yv_link_scopes.specs.Files.{Briefs}
 use Rattle.yv_link_scopes.specs.Views.{rows_in}
 use Rattle.yv_expand.specs.InnerSteps.{AreSettled}
-use Rattle.yv_expand.proofs.Weighing.{AreTold}
+use Rattle.yv_expand.proofs.StatementWeights.{AreTold}
 use Rattle.yv_expand.proofs.weights.weights.Given as goal
 
 abbrev pub invariant-loop-number : goal.invariant-loop-number

@@ -1,5 +1,5 @@
 use Rattle.std.proofs.Common.{subst}
-use Rattle.yv_statement.specs.Order.{IsLeast}
+use Rattle.yv_text_statement.specs.Order.{IsLeast}
 use Rattle.yv_link_scopes.specs.Views.{lent_in}
 use Rattle.yv_expand.specs.Limit.{TooMany}
 use Rattle.yv_expand.proofs.whole.expand.Goals as goal

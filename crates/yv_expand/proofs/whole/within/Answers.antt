@@ -9,9 +9,9 @@ use Rattle.yv_expand.specs.StatementBlocks.{given_at, given_before, is_augment, 
 use Rattle.yv_expand.specs.Tree.{all_of, count, item_list}
 use Rattle.yv_expand.specs.Expands.{blocks_of}
 use Rattle.yv_expand.specs.InnerItems.{ArePlaced, Lists, Give, origins, top_place}
-use Rattle.yv_expand.proofs.Expanding.{added_are, files_give, firsts_are, whole_is}
-use Rattle.yv_expand.proofs.Filing.{order_lists}
-use Rattle.yv_expand.proofs.Ordered.{given_fits}
+use Rattle.yv_expand.proofs.WholeExpansion.{added_are, files_give, firsts_are, whole_is}
+use Rattle.yv_expand.proofs.FiledItems.{order_lists}
+use Rattle.yv_expand.proofs.ExpansionUniqueness.{given_fits}
 use Rattle.yv_expand.proofs.whole.within.Goals as goal
 
 pub add_items-requires-clause-fits : goal.add_items-requires-clause-fits

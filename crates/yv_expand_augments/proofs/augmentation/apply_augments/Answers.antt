@@ -4,7 +4,7 @@ use Rattle.std.specs.Ordering.{nat_cmp}
 use Rattle.std.specs.declared.vec.Vec.{Vec}
 use Rattle.std.specs.declared.alloc.Global.{Global}
 use Rattle.std.proofs.lemmas.List.{length-map}
-use Rattle.yv_statement.specs.Order.{IsLeast}
+use Rattle.yv_text_statement.specs.Order.{IsLeast}
 use Rattle.yv_expand_rounds.specs.declared.label.Label.{Label}
 use Rattle.yv_expand_rounds.specs.Turns.{State}
 use Rattle.yv_expand_rounds.specs.Placements.{HaveEntered, StandOnce}
@@ -21,9 +21,9 @@ use Rattle.yv_expand_uses.specs.Ends.{end_at}
 use Rattle.yv_expand_augments.specs.MissingTargets.{MissesAt}
 use Rattle.yv_expand_augments.specs.RefineMeanings.{refine_meanings}
 use Rattle.yv_expand_augments.proofs.Meaning.{refined_same}
-use Rattle.yv_expand_augments.proofs.Missing.{missing_same}
+use Rattle.yv_expand_augments.proofs.UsesAugmentRefusals.{missing_same}
 use Rattle.yv_expand_uses.proofs.Bounds.{laid_whole}
-use Rattle.yv_expand_augments.proofs.Entering.{placed_ends, whole_entered}
+use Rattle.yv_expand_augments.proofs.ItemEntry.{placed_ends, whole_entered}
 use Rattle.yv_expand_augments.proofs.augmentation.apply_augments.Goals as goal
 
 pub place-requires-clause-lays : goal.place-requires-clause-lays

@@ -1,13 +1,13 @@
 use Rattle.std.proofs.Common.{◌≡◌, ℕ, List, Option, None, Some, ap, arith, length, refl, sym, subst, ◌∙◌}
 use Rattle.std.specs.List.{slice_get}
 use Rattle.std.proofs.lemmas.Option.{slice_get-get_or}
-use Rattle.yv_statement.specs.Order.{Among, IsLeast}
-use Rattle.yv_statement.specs.declared.refusal.Refusal.{Refusal}
-use Rattle.yv_statement.proofs.Least.{least_more}
+use Rattle.yv_text_statement.specs.Order.{Among, IsLeast}
+use Rattle.yv_text_statement.specs.declared.refusal.Refusal.{Refusal}
+use Rattle.yv_text_statement.proofs.Least.{least_more}
 use Rattle.yv_link_scopes.specs.Views.{rows_in}
 use Rattle.yv_expand_augments.specs.InnerSchedule.{added_to}
 use Rattle.yv_expand_augments.specs.declared.schedule.AddressedAugment.{AddressedAugment}
-use Rattle.yv_expand_augments.proofs.Following.{Misses, found_told, none_told}
+use Rattle.yv_expand_augments.proofs.AugmentStretches.{Misses, found_told, none_told}
 use Rattle.yv_expand_augments.proofs.augmentation.first_missing.Goals as goal
 
 pub returns-then-is_some : goal.returns-then-is_some

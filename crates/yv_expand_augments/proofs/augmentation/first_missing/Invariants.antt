@@ -1,11 +1,11 @@
 use Rattle.std.proofs.Common.{List, None}
-use Rattle.yv_statement.specs.Order.{Among, IsLeast}
+use Rattle.yv_text_statement.specs.Order.{Among, IsLeast}
 use Rattle.yv_link_scopes.specs.Views.{rows_in}
 use Rattle.yv_expand_rounds.specs.declared.label.Label.{Label}
 use Rattle.yv_expand_rounds.specs.Turns.{State}
 use Rattle.yv_expand_rounds.specs.InnerState.{IsAugmentation}
 use Rattle.yv_expand_augments.specs.InnerSchedule.{added_to}
-use Rattle.yv_expand_augments.proofs.Following.{Misses}
+use Rattle.yv_expand_augments.proofs.AugmentStretches.{Misses}
 use Rattle.yv_expand_augments.proofs.augmentation.first_missing.Given as goal
 
 abbrev pub invariant-loop-it : goal.invariant-loop-it

@@ -1,14 +1,14 @@
 use Rattle.std.proofs.Common.{◌≡◌, ◌+◌, ℕ, Option, length, refl, sym, ◌∙◌, ap, arith, subst}
-use Rattle.yv_statement.specs.Order.{IsLeast}
+use Rattle.yv_text_statement.specs.Order.{IsLeast}
 use Rattle.yv_expand_rounds.specs.Turns.{State}
 use Rattle.yv_expand_uses.specs.InnerPlan.{whole_in}
 use Rattle.yv_expand_augments.specs.InnerSchedule.{IsEnded, IsReady, MissesBetween}
 use Rattle.yv_expand_uses.specs.Spots.{Whole}
 use Rattle.yv_expand_augments.specs.MissingTargets.{after_turns, had_turns, next_number}
 use Rattle.yv_expand_augments.specs.declared.schedule.AddressedAugment.{AddressedAugment}
-use Rattle.yv_expand_augments.proofs.Entering.{turns_ends}
-use Rattle.yv_expand_augments.proofs.Following.{between_more, giver_least, idle_told, number_idle, ready_giver, ready_idle}
-use Rattle.yv_expand_augments.proofs.Turning.{number_more, number_within}
+use Rattle.yv_expand_augments.proofs.ItemEntry.{turns_ends}
+use Rattle.yv_expand_augments.proofs.AugmentStretches.{between_more, giver_least, idle_told, number_idle, ready_giver, ready_idle}
+use Rattle.yv_expand_augments.proofs.AugmentTurns.{number_more, number_within}
 use Rattle.yv_expand_augments.proofs.augmentation.follow.Goals as goal
 
 pub returns-in-None-clause-number : goal.returns-in-None-clause-number

@@ -1,7 +1,7 @@
 use Rattle.std.proofs.Common.{rules, ◌≡◌, ℕ, List, [], None, length, refl, sym, ap, subst, arith}
 use Rattle.std.specs.BTreeMap.{get}
 use Rattle.std.specs.Ordering.{nat_cmp}
-use Rattle.yv_statement.specs.Order.{IsLeast}
+use Rattle.yv_text_statement.specs.Order.{IsLeast}
 use Rattle.yv_expand_rounds.specs.declared.label.Label.{Label}
 use Rattle.yv_expand_rounds.specs.Placements.{HaveEntered, none_yet, nothing}
 use Rattle.yv_expand_rounds.specs.Turns.{State}
@@ -10,7 +10,7 @@ use Rattle.yv_expand_refines.specs.Targets.{meant_from}
 use Rattle.yv_expand_uses.specs.Spots.{Whole, layout_of, whole}
 use Rattle.yv_expand_uses.specs.Ends.{end_at}
 use Rattle.yv_expand_augments.specs.MissingTargets.{MissesAt}
-use Rattle.yv_expand_augments.proofs.Missing.{missing_past}
+use Rattle.yv_expand_augments.proofs.UsesAugmentRefusals.{missing_past}
 use Rattle.yv_expand_augments.proofs.augmentation.nothing_augmented.Goals as goal
 
 pub returns : goal.returns

@@ -4,7 +4,7 @@ use Rattle.std.specs.List.{slice_get}
 use Rattle.std.specs.Ordering.{nat_cmp}
 use Rattle.std.proofs.lemmas.List.{drop_all, length-map}
 use Rattle.std.proofs.lemmas.Option.{slice_get-get_or}
-use Rattle.yv_statement.specs.Order.{IsLeast}
+use Rattle.yv_text_statement.specs.Order.{IsLeast}
 use Rattle.yv_expand_rounds.specs.declared.label.Label.{Label}
 use Rattle.yv_expand_rounds.specs.Turns.{State}
 use Rattle.yv_expand_rounds.specs.Placements.{nothing}
@@ -16,10 +16,10 @@ use Rattle.yv_expand_uses.specs.InnerLayout.{Fits, laid_in}
 use Rattle.yv_expand_uses.specs.InnerPlan.{whole_in}
 use Rattle.yv_expand_augments.specs.MissingTargets.{MissesAt, MissesOf}
 use Rattle.yv_expand_uses.specs.declared.spot.Spot.{Spot}
-use Rattle.yv_expand_augments.proofs.Entering.{placed_ends, placed_more}
+use Rattle.yv_expand_augments.proofs.ItemEntry.{placed_ends, placed_more}
 use Rattle.yv_expand_augments.specs.RefineMeanings.{refined_from}
 use Rattle.yv_expand_augments.proofs.Meaning.{refined_more}
-use Rattle.yv_expand_augments.proofs.Missing.{missing_before, missing_here, missing_more, missing_past}
+use Rattle.yv_expand_augments.proofs.UsesAugmentRefusals.{missing_before, missing_here, missing_more, missing_past}
 use Rattle.yv_expand_augments.proofs.augmentation.place.Goals as goal
 
 pub loop-left-init : goal.loop-left-init

@@ -1,12 +1,12 @@
 use Rattle.std.proofs.Common.{◌≡◌, ◌∙◌, ℕ, List, Option, None, sym, ap, subst}
 use Rattle.std.specs.List.{slice_get}
-use Rattle.yv_statement.specs.Order.{IsLeast}
-use Rattle.yv_statement.specs.declared.refusal.Code.TheVariants as code
+use Rattle.yv_text_statement.specs.Order.{IsLeast}
+use Rattle.yv_text_statement.specs.declared.refusal.Code.TheVariants as code
 use Rattle.yv_link_scopes.specs.Views.{rows_in}
 use Rattle.yv_expand_augments.specs.Refusals.{RefusesIf}
 use Rattle.yv_expand_augments.specs.InnerRefusals.{is_absent, refusal_of_row}
 use Rattle.yv_expand_augments.specs.InnerSchedule.{added_to}
-use Rattle.yv_expand_augments.proofs.Refusing.{absent, least_at}
+use Rattle.yv_expand_augments.proofs.StatementRefusals.{absent, least_at}
 use Rattle.yv_expand_augments.proofs.augmentation.refusal_of_target.Goals as goal
 
 pub returns : goal.returns

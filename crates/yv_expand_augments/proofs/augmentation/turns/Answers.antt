@@ -3,9 +3,9 @@ use Rattle.std.specs.List.{slice_get}
 use Rattle.std.proofs.lemmas.List.{drop_all}
 use Rattle.std.proofs.lemmas.Bool.{and_parts}
 use Rattle.std.proofs.lemmas.Option.{slice_get-get_or}
-use Rattle.yv_statement.specs.Order.{Among, IsLeast}
-use Rattle.yv_statement.specs.declared.refusal.Refusal.{Refusal}
-use Rattle.yv_statement.proofs.Least.{least_same, least_start}
+use Rattle.yv_text_statement.specs.Order.{Among, IsLeast}
+use Rattle.yv_text_statement.specs.declared.refusal.Refusal.{Refusal}
+use Rattle.yv_text_statement.proofs.Least.{least_same, least_start}
 use Rattle.yv_expand_rounds.specs.Turns.{State}
 use Rattle.yv_expand_rounds.specs.InnerState.{IsAugmentation}
 use Rattle.yv_expand_uses.specs.AugmentOrder.{augments_giving}
@@ -17,8 +17,8 @@ use Rattle.yv_expand_uses.specs.Spots.{Whole, copies_of}
 use Rattle.yv_expand_augments.specs.MissingTargets.{MissesInTurn, MissesOf}
 use Rattle.yv_expand_uses.specs.AugmentOrder.{augments_in}
 use Rattle.yv_expand_augments.specs.declared.schedule.Stretch.{Stretch}
-use Rattle.yv_expand_augments.proofs.Following.{among_more, next_stretch, no_turns, none_refused, ready_first, stretch_ascends}
-use Rattle.yv_expand_augments.proofs.Turning.{after_all, number_most}
+use Rattle.yv_expand_augments.proofs.AugmentStretches.{among_more, next_stretch, no_turns, none_refused, ready_first, stretch_ascends}
+use Rattle.yv_expand_augments.proofs.AugmentTurns.{after_all, number_most}
 use Rattle.yv_expand_augments.proofs.augmentation.turns.Goals as goal
 
 pub returns-then-not-has_augments-clause-state : goal.returns-then-not-has_augments-clause-state

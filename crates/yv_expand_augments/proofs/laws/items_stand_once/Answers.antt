@@ -1,4 +1,4 @@
-use Rattle.yv_expand_augments.proofs.Given.{once_of}
+use Rattle.yv_expand_augments.proofs.ModuleAugments.{once_of}
 use Rattle.yv_expand_augments.proofs.laws.items_stand_once.Goals as goal
 
 pub returns : goal.returns

@@ -1,4 +1,4 @@
-use Rattle.yv_expand_augments.proofs.Given.{given_below}
+use Rattle.yv_expand_augments.proofs.ModuleAugments.{given_below}
 use Rattle.yv_expand_augments.proofs.laws.what_is_given_stands_below_its_target.Goals as goal
 
 pub returns : goal.returns

@@ -1,9 +1,9 @@
 use Rattle.std.proofs.Common.{◌≡◌, ℕ, length, subst, arith}
 use Rattle.std.proofs.lemmas.Option.{slice_get-get_or}
-use Rattle.yv_statement.specs.Order.{Among, IsLeast}
+use Rattle.yv_text_statement.specs.Order.{Among, IsLeast}
 use Rattle.yv_link_scopes.specs.Views.{rows_in}
 use Rattle.yv_expand_augments.specs.Placement.{IsMisplaced}
-use Rattle.yv_expand_augments.proofs.Misplacing.{misplaced_more}
+use Rattle.yv_expand_augments.proofs.MisplacementRefusals.{misplaced_more}
 use Rattle.yv_expand_augments.proofs.placement.first_misplaced.Goals as goal
 
 pub loop-row-preserved : goal.loop-row-preserved

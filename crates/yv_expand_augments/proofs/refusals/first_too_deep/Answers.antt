@@ -1,9 +1,9 @@
 use Rattle.std.proofs.Common.{◌≡◌, ℕ, length, subst, arith}
 use Rattle.std.proofs.lemmas.Option.{slice_get-get_or}
-use Rattle.yv_statement.specs.Order.{Among, IsLeast}
+use Rattle.yv_text_statement.specs.Order.{Among, IsLeast}
 use Rattle.yv_link_scopes.specs.Views.{rows_in}
 use Rattle.yv_expand_augments.specs.Refusals.{IsTooDeep}
-use Rattle.yv_expand_augments.proofs.Refusing.{deep_more}
+use Rattle.yv_expand_augments.proofs.StatementRefusals.{deep_more}
 use Rattle.yv_expand_augments.proofs.refusals.first_too_deep.Goals as goal
 
 pub loop-row-preserved : goal.loop-row-preserved

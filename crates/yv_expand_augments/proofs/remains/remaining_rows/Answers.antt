@@ -1,7 +1,7 @@
 use Rattle.std.proofs.Common.{◌∙◌}
 use Rattle.std.proofs.lemmas.Result.{IfOk-weaker}
 use Rattle.yv_expand_augments.specs.Remains.{is_left}
-use Rattle.yv_expand_augments.proofs.Leaving.{left_listed}
+use Rattle.yv_expand_augments.proofs.TreeRemains.{left_listed}
 use Rattle.yv_expand_augments.proofs.remains.remaining_rows.Goals as goal
 
 pub returns : goal.returns

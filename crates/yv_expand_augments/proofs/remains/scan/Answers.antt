@@ -1,6 +1,6 @@
 use Rattle.std.proofs.lemmas.Option.{slice_get-get_or}
 use Rattle.yv_expand_augments.specs.Remains.{is_left}
-use Rattle.yv_expand_augments.proofs.Leaving.{scan_all, scan_step}
+use Rattle.yv_expand_augments.proofs.TreeRemains.{scan_all, scan_step}
 use Rattle.yv_expand_augments.proofs.remains.scan.Goals as goal
 
 pub loop-row-preserved : goal.loop-row-preserved

@@ -8,8 +8,8 @@ use Rattle.yv_expand_augments.specs.InnerSchedule.{AreStretches, IsSchedule, str
 use Rattle.yv_expand_uses.specs.Spots.{Whole}
 use Rattle.yv_expand_uses.specs.AugmentOrder.{augments_in}
 use Rattle.yv_expand_augments.specs.declared.schedule.Schedule.{Schedule}
-use Rattle.yv_expand_uses.proofs.Aiming.{known_more}
-use Rattle.yv_expand_augments.proofs.Scheduling.{kept_for}
+use Rattle.yv_expand_uses.proofs.RefineAims.{known_more}
+use Rattle.yv_expand_augments.proofs.AugmentSchedule.{kept_for}
 use Rattle.yv_expand_augments.proofs.schedule.prepare.Goals as goal
 
 pub returns-then-is_ready-clause-ready : goal.returns-then-is_ready-clause-ready

@@ -1,6 +1,6 @@
 use Rattle.std.proofs.Common.{◌∙◌}
 use Rattle.std.proofs.lemmas.Option.{slice_get-get_or}
-use Rattle.yv_expand_changes.proofs.Following.{marks_next}
+use Rattle.yv_expand_changes.proofs.RefineSequences.{marks_next}
 use Rattle.yv_expand_changes.proofs.if_features.item_marks.Goals as goal
 
 pub loop-number-preserved : goal.loop-number-preserved

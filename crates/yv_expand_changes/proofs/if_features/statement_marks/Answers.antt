@@ -3,7 +3,7 @@ use Rattle.std.specs.List.{slice_get}
 use Rattle.yv_link_scopes.specs.Rows.{row}
 use Rattle.yv_link_scopes.specs.Views.{lent_in, rows_in, trees_in}
 use Rattle.yv_link.specs.LinkedFiles.{truth_in}
-use Rattle.yv_expand_changes.proofs.Reading.{marks_all, marks_more, row_read, rows_count}
+use Rattle.yv_expand_changes.proofs.StatementReadings.{marks_all, marks_more, row_read, rows_count}
 use Rattle.yv_expand_changes.proofs.if_features.statement_marks.Goals as goal
 
 pub loop-number-preserved : goal.loop-number-preserved

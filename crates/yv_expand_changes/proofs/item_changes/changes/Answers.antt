@@ -8,7 +8,7 @@ use Rattle.yv_expand_refines.specs.declared.targets.RefineTarget.{RefineTarget}
 use Rattle.yv_expand_refines.specs.declared.targets.RefinedUses.{RefinedUses}
 use Rattle.yv_expand_changes.specs.Changes.{all_changes}
 use Rattle.yv_expand_changes.specs.InnerRuns.{AreKnown}
-use Rattle.yv_expand_changes.proofs.Keeping.{meant_next, nothing_changes}
+use Rattle.yv_expand_changes.proofs.UsesRuns.{meant_next, nothing_changes}
 use Rattle.yv_expand_changes.proofs.item_changes.changes.Goals as goal
 
 pub loop-uses-init : goal.loop-uses-init

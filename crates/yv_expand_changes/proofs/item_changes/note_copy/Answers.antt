@@ -6,7 +6,7 @@ use Rattle.yv_expand_refines.specs.Targets.{targets_at, targets_of, meaning_of}
 use Rattle.yv_expand_refines.specs.declared.targets.RefineTarget.{RefineTarget}
 use Rattle.yv_expand_changes.specs.Changes.{all_changes}
 use Rattle.yv_expand_changes.specs.InnerRuns.{IsKnown}
-use Rattle.yv_expand_changes.proofs.Keeping.{both_ok, known_more, nothing_meant, on_ok}
+use Rattle.yv_expand_changes.proofs.UsesRuns.{both_ok, known_more, nothing_meant, on_ok}
 use Rattle.yv_expand_changes.proofs.item_changes.note_copy.Goals as goal
 
 pub returns-then-place-aims-clause-each : goal.returns-then-place-aims-clause-each

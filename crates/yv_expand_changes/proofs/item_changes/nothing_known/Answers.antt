@@ -2,7 +2,7 @@ use Rattle.std.proofs.Common.{◌∷◌, [], length, List, ap, sym, ◌∙◌, a
 use Rattle.std.specs.List.{slice_get}
 use Rattle.yv_expand_refines.specs.Targets.{targets_at}
 use Rattle.yv_expand_changes.specs.declared.known_runs.KnownRuns.{KnownRuns}
-use Rattle.yv_expand_changes.proofs.Keeping.{known_nothing, pushed}
+use Rattle.yv_expand_changes.proofs.UsesRuns.{known_nothing, pushed}
 use Rattle.yv_expand_changes.proofs.item_changes.nothing_known.Goals as goal
 
 pub loop-preserved : goal.loop-preserved

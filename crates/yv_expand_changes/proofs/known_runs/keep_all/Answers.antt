@@ -1,7 +1,7 @@
 use Rattle.std.proofs.Common.{◌++◌, ◌∷◌, [], ℕ, List, Option, length, ap, subst, sym, ◌∙◌, arith, length-append}
 use Rattle.yv_expand_changes.specs.InnerAlike.{AreRuns}
 use Rattle.yv_expand_changes.specs.InnerLists.{lists_of}
-use Rattle.yv_expand_changes.proofs.Keeping.{runs_more}
+use Rattle.yv_expand_changes.proofs.UsesRuns.{runs_more}
 use Rattle.yv_expand_changes.proofs.known_runs.keep_all.Goals as goal
 
 pub loop-run-preserved : goal.loop-run-preserved

@@ -2,7 +2,7 @@ use Rattle.std.proofs.Common.{List, subst, sym, rules}
 use Rattle.yv_link_scopes.specs.Views.{lent_in}
 use Rattle.yv_node_properties.specs.declared.properties.StatedProperties.{StatedProperties}
 use Rattle.yv_expand_changes.specs.InnerProperties.{AreSaid}
-use Rattle.yv_expand_changes.proofs.Known.{said_more}
+use Rattle.yv_expand_changes.proofs.StatementProperties.{said_more}
 use Rattle.yv_expand_changes.proofs.properties.all_said.Goals as goal
 
 pub loop-number-preserved : goal.loop-number-preserved

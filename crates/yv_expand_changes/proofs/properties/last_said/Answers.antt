@@ -1,6 +1,6 @@
 use Rattle.std.proofs.lemmas.Option.{slice_get-get_or}
 use Rattle.yv_link_scopes.specs.Views.{lent_in}
-use Rattle.yv_expand_changes.proofs.Saying.{said_next}
+use Rattle.yv_expand_changes.proofs.PropertyOverrides.{said_next}
 use Rattle.yv_expand_changes.proofs.properties.last_said.Goals as goal
 
 pub loop-number-preserved : goal.loop-number-preserved

@@ -2,8 +2,8 @@ use Rattle.std.proofs.Common.{◌≡◌, ◌∙◌, None, sym}
 use Rattle.std.specs.List.{slice_get}
 use Rattle.yv_link_scopes.specs.Views.{lent_in, trees_in}
 use Rattle.yv_node_properties.specs.Statements.{no_statement}
-use Rattle.yv_expand_changes.proofs.Saying.{none_said}
-use Rattle.yv_expand_changes.proofs.Reading.{not_there}
+use Rattle.yv_expand_changes.proofs.PropertyOverrides.{none_said}
+use Rattle.yv_expand_changes.proofs.StatementReadings.{not_there}
 use Rattle.yv_expand_changes.proofs.properties.said_at.Goals as goal
 
 pub returns-in-None : goal.returns-in-None

@@ -5,7 +5,7 @@ use Rattle.yv_expand_refines.specs.Changes.{sequence_at}
 use Rattle.yv_node_properties.specs.declared.properties.StatedProperties.{StatedProperties}
 use Rattle.yv_expand_changes.specs.InnerProperties.{AreSaid, said_by_refines}
 use Rattle.yv_expand_changes.specs.InnerSequences.{known_of}
-use Rattle.yv_expand_changes.proofs.Following.{known_all, said_of_next}
+use Rattle.yv_expand_changes.proofs.RefineSequences.{known_all, said_of_next}
 use Rattle.yv_expand_changes.proofs.properties.said_of_all.Goals as goal
 
 pub sequences_said-requires : goal.sequences_said-requires

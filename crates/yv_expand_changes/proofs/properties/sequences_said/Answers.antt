@@ -5,7 +5,7 @@ use Rattle.yv_node_properties.specs.Marks.{over}
 use Rattle.yv_node_properties.specs.declared.properties.StatedProperties.{StatedProperties}
 use Rattle.yv_expand_changes.specs.InnerProperties.{said_by_refines}
 use Rattle.yv_expand_changes.specs.InnerSequences.{known_of}
-use Rattle.yv_expand_changes.proofs.Following.{known_before, known_more, said_on}
+use Rattle.yv_expand_changes.proofs.RefineSequences.{known_before, known_more, said_on}
 use Rattle.yv_expand_changes.proofs.properties.sequences_said.Goals as goal
 
 pub loop-sequence-preserved : goal.loop-sequence-preserved

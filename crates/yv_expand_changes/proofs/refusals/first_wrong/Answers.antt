@@ -2,14 +2,14 @@ use Rattle.std.proofs.Common.{◌≡◌, ◌<◌, ℕ, List, [], Vec, Global, So
 use Rattle.std.specs.List.{slice_get}
 use Rattle.std.proofs.lemmas.List.{nil_from_length, take_all}
 use Rattle.std.proofs.lemmas.Option.{slice_get_read}
-use Rattle.yv_statement.specs.Order.{IsLeast}
+use Rattle.yv_text_statement.specs.Order.{IsLeast}
 use Rattle.yv_link_scopes.specs.Views.{lent_in}
 use Rattle.yv_expand_refines.specs.Targets.{meant_at, meant_from}
 use Rattle.yv_expand_refines.specs.declared.targets.RefineTarget.{RefineTarget}
 use Rattle.yv_expand_refines.specs.declared.targets.RefinedUses.{RefinedUses}
 use Rattle.yv_expand_changes.specs.Refusals.{BadRefines}
 use Rattle.yv_expand_changes.specs.InnerRefusals.{AreJudged}
-use Rattle.yv_expand_changes.proofs.Judging.{copies_judged, none_judged}
+use Rattle.yv_expand_changes.proofs.RefineJudgements.{copies_judged, none_judged}
 use Rattle.yv_expand_changes.proofs.refusals.first_wrong.Goals as goal
 
 pub returns-then-is_empty : goal.returns-then-is_empty

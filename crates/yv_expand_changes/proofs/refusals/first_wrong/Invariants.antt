@@ -1,5 +1,5 @@
 use Rattle.std.proofs.Common.{take}
-use Rattle.yv_statement.specs.Order.{IsLeast}
+use Rattle.yv_text_statement.specs.Order.{IsLeast}
 use Rattle.yv_link_scopes.specs.Views.{lent_in}
 use Rattle.yv_expand_refines.specs.Targets.{meant_from}
 use Rattle.yv_expand_changes.specs.Refusals.{BadRefines}

@@ -1,6 +1,6 @@
 use Rattle.std.proofs.Common.{arith}
 use Rattle.std.proofs.lemmas.Option.{slice_get-get_or}
-use Rattle.yv_expand_changes.proofs.Entering.{entered_none, entered_more, entered_all}
+use Rattle.yv_expand_changes.proofs.FinalItemSet.{entered_none, entered_more, entered_all}
 use Rattle.yv_expand_changes.proofs.refusals.items_of.Goals as goal
 
 pub loop-row-init : goal.loop-row-init

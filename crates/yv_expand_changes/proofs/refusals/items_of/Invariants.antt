@@ -1,4 +1,4 @@
-use Rattle.yv_expand_changes.proofs.Entering.{Entered}
+use Rattle.yv_expand_changes.proofs.FinalItemSet.{Entered}
 use Rattle.yv_expand_changes.proofs.refusals.items_of.Given as goal
 
 abbrev pub invariant-loop-row : goal.invariant-loop-row

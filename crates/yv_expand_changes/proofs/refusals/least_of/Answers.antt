@@ -2,7 +2,7 @@ use Rattle.std.proofs.Common.{arith}
 use Rattle.std.proofs.lemmas.Option.{slice_get-get_or}
 use Rattle.yv_link_scopes.specs.Views.{lent_in}
 use Rattle.yv_expand_refines.specs.declared.targets.RefineTarget.{RefineTarget}
-use Rattle.yv_expand_changes.proofs.Judging.{all_judged, one_judged}
+use Rattle.yv_expand_changes.proofs.RefineJudgements.{all_judged, one_judged}
 use Rattle.yv_expand_changes.proofs.refusals.least_of.Goals as goal
 
 pub loop-aim-preserved : goal.loop-aim-preserved

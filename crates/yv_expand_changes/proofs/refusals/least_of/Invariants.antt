@@ -1,5 +1,5 @@
 use Rattle.std.proofs.Common.{◌≡◌, ℕ, List, Option, map}
-use Rattle.yv_statement.specs.Order.{Among, IsLeast}
+use Rattle.yv_text_statement.specs.Order.{Among, IsLeast}
 use Rattle.yv_link_scopes.specs.Views.{lent_in}
 use Rattle.yv_expand_rounds.specs.declared.row.ItemRow.{ItemRow}
 use Rattle.yv_expand_uses.specs.declared.spot.Spot.{Spot}

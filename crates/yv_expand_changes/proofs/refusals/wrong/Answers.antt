@@ -2,14 +2,14 @@ use Rattle.std.proofs.Common.{◌≡◌, ◌<◌, ℕ, List, length, map, refl, 
 use Rattle.std.specs.BTreeSet.{contains}
 use Rattle.std.specs.Ordering.{nat_cmp}
 use Rattle.std.proofs.lemmas.Option.{slice_get_read}
-use Rattle.yv_statement.specs.Order.{IsLeast}
+use Rattle.yv_text_statement.specs.Order.{IsLeast}
 use Rattle.yv_link_scopes.specs.Views.{lent_in}
 use Rattle.yv_expand_refines.specs.Targets.{targets_at, targets_of, meaning_of}
 use Rattle.yv_expand_refines.specs.declared.targets.RefineTarget.{RefineTarget}
 use Rattle.yv_expand_changes.specs.Refusals.{BadRefines}
 use Rattle.yv_expand_changes.specs.InnerRefusals.{IsJudged}
-use Rattle.yv_expand_changes.proofs.Keeping.{nothing_meant, on_ok}
-use Rattle.yv_expand_changes.proofs.Judging.{absent_judged, if_ok, judged_more, none_judged}
+use Rattle.yv_expand_changes.proofs.UsesRuns.{nothing_meant, on_ok}
+use Rattle.yv_expand_changes.proofs.RefineJudgements.{absent_judged, if_ok, judged_more, none_judged}
 use Rattle.yv_expand_changes.proofs.refusals.wrong.Goals as goal
 use Rattle.yv_expand_changes.proofs.refusals.wrong.Goals.{then-place-aims-via-then-place-aims, then-place-aims-via-else-place-aims+then-not-contains}
 

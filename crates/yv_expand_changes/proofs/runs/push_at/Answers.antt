@@ -1,5 +1,5 @@
 use Rattle.std.proofs.Common.{refl, arith}
-use Rattle.yv_expand_changes.proofs.Noting.{one_longer}
+use Rattle.yv_expand_changes.proofs.RefineRuns.{one_longer}
 use Rattle.yv_expand_changes.proofs.runs.push_at.Goals as goal
 
 pub returns-in_ok-push : goal.returns-in_ok-push

@@ -2,7 +2,7 @@ use Rattle.std.proofs.Common.{ℕ, Vec, Global, ap, ◌∙◌}
 use Rattle.std.proofs.lemmas.Option.{slice_get-get_or}
 use Rattle.yv_link_scopes.specs.Views.{lent_in}
 use Rattle.yv_expand_changes.specs.InnerLists.{lists_of}
-use Rattle.yv_expand_changes.proofs.Noting.{nothing_from, reads_more, reads_same}
+use Rattle.yv_expand_changes.proofs.RefineRuns.{nothing_from, reads_more, reads_same}
 use Rattle.yv_expand_changes.proofs.runs.read_runs.Goals as goal
 use Rattle.yv_expand_changes.proofs.runs.read_runs.Goals.{in-Some+in_ok-push_at, in_default}
 

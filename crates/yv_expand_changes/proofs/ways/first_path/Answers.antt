@@ -1,7 +1,7 @@
 use Rattle.std.proofs.Common.{◌≡◌, ◌∙◌, ℕ, Option, Some, None, true, ap, arith, subst, sym}
 use Rattle.std.specs.BTreeMap.{BTreeMap}
 use Rattle.yv_expand_changes.specs.InnerFirstPaths.{AreFirsts, are_rising}
-use Rattle.yv_expand_changes.proofs.Leading.{first_of_rising}
+use Rattle.yv_expand_changes.proofs.FirstPaths.{first_of_rising}
 use Rattle.yv_expand_changes.proofs.ways.first_path.Goals as goal
 
 pub returns-in-None : goal.returns-in-None

@@ -1,7 +1,7 @@
 use Rattle.std.proofs.Common.{ℕ, List, Option}
 use Rattle.std.proofs.lemmas.Option.{slice_get-get_or}
 use Rattle.yv_expand_changes.specs.InnerAlike.{way_of_target}
-use Rattle.yv_expand_changes.proofs.Leading.{map_next}
+use Rattle.yv_expand_changes.proofs.FirstPaths.{map_next}
 use Rattle.yv_expand_changes.proofs.ways.ways_by.Goals as goal
 
 pub loop-path-preserved : goal.loop-path-preserved

@@ -1,4 +1,4 @@
-use Rattle.yv_expand_definition.proofs.Expanding.{files_expand}
+use Rattle.yv_expand_definition.proofs.FileExpansion.{files_expand}
 use Rattle.yv_expand_definition.proofs.laws.files_expand_to_a_tree.Goals as goal
 
 pub returns : goal.returns

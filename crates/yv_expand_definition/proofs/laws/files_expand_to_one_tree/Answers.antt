@@ -1,5 +1,5 @@
 use Rattle.yv_expand_definition.proofs.Meaning.{refers_to_one}
-use Rattle.yv_expand_definition.proofs.Rounding.{expand_one}
+use Rattle.yv_expand_definition.proofs.ExpansionUniqueness.{expand_one}
 use Rattle.yv_expand_definition.proofs.laws.files_expand_to_one_tree.Goals as goal
 
 pub returns : goal.returns

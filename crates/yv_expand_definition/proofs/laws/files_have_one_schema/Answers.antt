@@ -2,9 +2,9 @@ use Rattle.std.proofs.Common.{◌≡◌, ◌∙◌, ap, sym, ℕ}
 use Rattle.yv_expand_tree.specs.FileOrder.{marks_of, order_of}
 use Rattle.yv_expand_definition.specs.Gives.{Product}
 use Rattle.yv_expand_definition.specs.Remains.{remains}
-use Rattle.yv_expand_definition.proofs.Leaving.{left_same, same_answer}
+use Rattle.yv_expand_definition.proofs.LeftNodeUniqueness.{left_same, same_answer}
 use Rattle.yv_expand_definition.proofs.Meaning.{refers_to_one}
-use Rattle.yv_expand_definition.proofs.Rounding.{expand_one}
+use Rattle.yv_expand_definition.proofs.ExpansionUniqueness.{expand_one}
 use Rattle.yv_expand_definition.proofs.laws.files_have_one_schema.Goals as goal
 
 pub returns : goal.returns

@@ -1,4 +1,4 @@
-use Rattle.yv_expand_definition.proofs.Giving.{gives_one}
+use Rattle.yv_expand_definition.proofs.GivenNodeUniqueness.{gives_one}
 use Rattle.yv_expand_definition.proofs.Meaning.{refers_to_one}
 use Rattle.yv_expand_definition.proofs.laws.statements_give_one_tree.Goals as goal
 

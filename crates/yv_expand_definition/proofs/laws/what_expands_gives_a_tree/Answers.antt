@@ -1,4 +1,4 @@
-use Rattle.yv_expand_definition.proofs.Existing.{expansion_gives}
+use Rattle.yv_expand_definition.proofs.TreeExistence.{expansion_gives}
 use Rattle.yv_expand_definition.proofs.laws.what_expands_gives_a_tree.Goals as goal
 
 pub returns : goal.returns

@@ -1,4 +1,4 @@
-use Rattle.yv_expand_laws.proofs.Kept.{block_stands}
+use Rattle.yv_expand_laws.proofs.BlockContents.{block_stands}
 use Rattle.yv_expand_laws.proofs.laws.a_block_keeps_its_items.Goals as goal
 
 pub returns : goal.returns

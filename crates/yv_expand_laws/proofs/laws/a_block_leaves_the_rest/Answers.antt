@@ -1,4 +1,4 @@
-use Rattle.yv_expand_laws.proofs.Keeping.{block_keeps}
+use Rattle.yv_expand_laws.proofs.BlockFrame.{block_keeps}
 use Rattle.yv_expand_laws.proofs.laws.a_block_leaves_the_rest.Goals as goal
 
 pub returns : goal.returns

@@ -1,4 +1,4 @@
-use Rattle.yv_expand_laws.proofs.Changing.{refine_changes, refine_misses}
+use Rattle.yv_expand_laws.proofs.RefineChanges.{refine_changes, refine_misses}
 use Rattle.yv_expand_laws.proofs.laws.a_refine_means_the_node_of_its_path.Goals as goal
 
 pub returns-clause-changes : goal.returns-clause-changes

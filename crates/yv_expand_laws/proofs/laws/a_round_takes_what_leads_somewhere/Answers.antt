@@ -1,4 +1,4 @@
-use Rattle.yv_expand_laws.proofs.Waiting.{round_misses, round_takes, round_waits}
+use Rattle.yv_expand_laws.proofs.WaitingAugments.{round_misses, round_takes, round_waits}
 use Rattle.yv_expand_laws.proofs.laws.a_round_takes_what_leads_somewhere.Goals as goal
 
 pub returns-clause-waits : goal.returns-clause-waits

@@ -1,4 +1,4 @@
-use Rattle.yv_expand_laws.proofs.Expanding.{expansion_lies}
+use Rattle.yv_expand_laws.proofs.ExpansionBlocks.{expansion_lies}
 use Rattle.yv_expand_laws.proofs.laws.an_expansion_lies_in_blocks.Goals as goal
 
 pub returns : goal.returns

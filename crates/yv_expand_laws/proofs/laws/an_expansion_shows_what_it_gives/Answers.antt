@@ -1,4 +1,4 @@
-use Rattle.yv_expand_laws.proofs.Starting.{start_shows}
+use Rattle.yv_expand_laws.proofs.ExpansionStart.{start_shows}
 use Rattle.yv_expand_laws.proofs.laws.an_expansion_shows_what_it_gives.Goals as goal
 
 pub returns : goal.returns

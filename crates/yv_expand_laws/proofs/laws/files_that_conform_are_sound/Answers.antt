@@ -1,4 +1,4 @@
-use Rattle.yv_expand_laws.proofs.Conforming.{conform}
+use Rattle.yv_expand_laws.proofs.FileConformance.{conform}
 use Rattle.yv_expand_laws.proofs.SoundFiles.{sound}
 use Rattle.yv_expand_laws.proofs.laws.files_that_conform_are_sound.Goals as goal
 

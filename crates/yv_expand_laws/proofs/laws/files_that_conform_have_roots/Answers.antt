@@ -1,4 +1,4 @@
-use Rattle.yv_expand_laws.proofs.Conforming.{conform, have_roots}
+use Rattle.yv_expand_laws.proofs.FileConformance.{conform, have_roots}
 use Rattle.yv_expand_laws.proofs.laws.files_that_conform_have_roots.Goals as goal
 
 pub returns : goal.returns

@@ -1,4 +1,4 @@
-use Rattle.yv_expand_laws.proofs.Grafted.{final_stands}
+use Rattle.yv_expand_laws.proofs.FinalTreeOrigins.{final_stands}
 use Rattle.yv_expand_laws.proofs.laws.items_of_the_final_tree_were_placed.Goals as goal
 
 pub returns : goal.returns

@@ -1,5 +1,5 @@
 use Rattle.yv_expand_definition.proofs.Meaning.{refers_to_one}
-use Rattle.yv_expand_laws.proofs.Given.{statements_show}
+use Rattle.yv_expand_laws.proofs.StatementNodes.{statements_show}
 use Rattle.yv_expand_laws.proofs.laws.statements_show_what_they_give.Goals as goal
 
 pub returns : goal.returns

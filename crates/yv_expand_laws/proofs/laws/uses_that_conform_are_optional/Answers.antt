@@ -1,4 +1,4 @@
-use Rattle.yv_expand_laws.proofs.Conforming.{conform, uses_are_optional}
+use Rattle.yv_expand_laws.proofs.FileConformance.{conform, uses_are_optional}
 use Rattle.yv_expand_laws.proofs.laws.uses_that_conform_are_optional.Goals as goal
 
 pub returns : goal.returns

@@ -1,5 +1,5 @@
 use Rattle.yv_expand_definition.proofs.Meaning.{refers_to_one}
-use Rattle.yv_expand_laws.proofs.Leaving.{left_is_shown}
+use Rattle.yv_expand_laws.proofs.LeftNodes.{left_is_shown}
 use Rattle.yv_expand_laws.proofs.laws.what_is_left_is_the_schema.Goals as goal
 
 pub returns : goal.returns

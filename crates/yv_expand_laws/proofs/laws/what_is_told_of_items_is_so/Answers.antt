@@ -1,5 +1,5 @@
 use Rattle.yv_expand_laws.proofs.Statements.{have_statements}
-use Rattle.yv_expand_laws.proofs.Telling.{labels_tell, paths_agree}
+use Rattle.yv_expand_laws.proofs.LabelsAndPaths.{labels_tell, paths_agree}
 use Rattle.yv_expand_laws.proofs.laws.what_is_told_of_items_is_so.Goals as goal
 
 pub returns-clause-statements : goal.returns-clause-statements

@@ -1,5 +1,5 @@
-use Rattle.yv_expand_laws.proofs.Laying.{placed_is}
-use Rattle.yv_expand_laws.proofs.Placing.{placed_is_told}
+use Rattle.yv_expand_laws.proofs.BlockSpots.{placed_is}
+use Rattle.yv_expand_laws.proofs.PlacedSpots.{placed_is_told}
 use Rattle.yv_expand_laws.proofs.laws.what_lies_in_a_block_enters_so.Goals as goal
 
 pub returns-clause-tells : goal.returns-clause-tells

@@ -1,4 +1,4 @@
-use Rattle.yv_expand_paths.proofs.Placing.{one_name}
+use Rattle.yv_expand_paths.proofs.NamePlaces.{one_name}
 use Rattle.yv_expand_paths.proofs.laws.a_number_has_one_name.Goals as goal
 
 pub returns : goal.returns

@@ -1,4 +1,4 @@
-use Rattle.yv_expand_paths.proofs.Stepping.{step_is}
+use Rattle.yv_expand_paths.proofs.StepNumbers.{step_is}
 use Rattle.yv_expand_paths.proofs.laws.a_step_has_its_nodes_number.Goals as goal
 
 pub returns : goal.returns

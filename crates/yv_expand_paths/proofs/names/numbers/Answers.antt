@@ -7,8 +7,8 @@ use Rattle.yv_link_scopes.specs.Views.{rows_in}
 use Rattle.yv_expand_paths.specs.Names.{node_name}
 use Rattle.yv_expand_paths.specs.InnerNameNumbers.{own_names}
 use Rattle.yv_expand_paths.specs.InnerNames.{table_of}
-use Rattle.yv_expand_paths.proofs.Reading.{row_read}
-use Rattle.yv_expand_paths.proofs.Keeping.{Told, told_next, numbers_next}
+use Rattle.yv_expand_paths.proofs.PathReading.{row_read}
+use Rattle.yv_expand_paths.proofs.NameTableGrowth.{Told, told_next, numbers_next}
 use Rattle.yv_expand_paths.proofs.names.numbers.Goals as goal
 
 pub loop-number-preserved : goal.loop-number-preserved

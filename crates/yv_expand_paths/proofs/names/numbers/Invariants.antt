@@ -2,7 +2,7 @@ use Rattle.std.proofs.Common.{◌≡◌, Some, map, take}
 use Rattle.yv_link_scopes.specs.Views.{rows_in}
 use Rattle.yv_expand_paths.specs.InnerNameNumbers.{own_names, place_of}
 use Rattle.yv_expand_paths.specs.InnerNames.{table_of}
-use Rattle.yv_expand_paths.proofs.Keeping.{Told}
+use Rattle.yv_expand_paths.proofs.NameTableGrowth.{Told}
 use Rattle.yv_expand_paths.proofs.names.numbers.Given as goal
 
 abbrev pub invariant-loop-number : goal.invariant-loop-number

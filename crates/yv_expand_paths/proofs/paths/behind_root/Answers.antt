@@ -1,7 +1,7 @@
 use Rattle.std.proofs.Common.{lit<}
 use Rattle.std.proofs.lemmas.Option.{MatchOption-at_none}
 use Rattle.std.proofs.lemmas.Str.Pattern.{strip_prefix_char}
-use Rattle.yv_expand_paths.proofs.Reading.{relative}
+use Rattle.yv_expand_paths.proofs.PathReading.{relative}
 use Rattle.yv_expand_paths.proofs.paths.behind_root.Goals as goal
 
 pub returns-in-None : goal.returns-in-None

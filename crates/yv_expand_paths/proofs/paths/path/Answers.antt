@@ -2,7 +2,7 @@ use Rattle.std.proofs.Common.{map, ◌∙◌, ap}
 use Rattle.std.specs.Option.{option_map}
 use Rattle.std.proofs.lemmas.Option.{slice_get-map, slice_get-get_or}
 use Rattle.yv_expand_paths.specs.InnerSteps.{step_of}
-use Rattle.yv_expand_paths.proofs.Reading.{mapped_more}
+use Rattle.yv_expand_paths.proofs.PathReading.{mapped_more}
 use Rattle.yv_expand_paths.proofs.paths.path.Goals as goal
 
 pub loop-text-preserved : goal.loop-text-preserved

@@ -1,5 +1,5 @@
 use Rattle.std.proofs.Common.{arith}
-use Rattle.yv_expand_rounds.proofs.Staying.{rounds_other, turn_other}
+use Rattle.yv_expand_rounds.proofs.ItemStability.{rounds_other, turn_other}
 use Rattle.yv_expand_rounds.proofs.laws.items_stay_below_their_nodes.Goals as goal
 
 pub returns-clause-turns : goal.returns-clause-turns

@@ -1,4 +1,4 @@
-use Rattle.yv_expand_rounds.proofs.Staying.{enters, stays}
+use Rattle.yv_expand_rounds.proofs.ItemStability.{enters, stays}
 use Rattle.yv_expand_rounds.proofs.laws.items_stay_when_others_enter.Goals as goal
 
 pub returns-clause-enters : goal.returns-clause-enters

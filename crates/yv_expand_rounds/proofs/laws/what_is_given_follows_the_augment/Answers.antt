@@ -1,4 +1,4 @@
-use Rattle.yv_expand_rounds.proofs.Staying.{rounds_follow, turn_follows}
+use Rattle.yv_expand_rounds.proofs.ItemStability.{rounds_follow, turn_follows}
 use Rattle.yv_expand_rounds.proofs.laws.what_is_given_follows_the_augment.Goals as goal
 
 pub returns-clause-turns : goal.returns-clause-turns

@@ -2,7 +2,7 @@ use Rattle.std.proofs.Common.{◌≡◌, ◌≤◌, ◌+◌, [], ◌∷◌, ◌+
 use Rattle.yv_expand_rounds.specs.Tree.{AreInOrder}
 use Rattle.yv_expand_rounds.specs.Groups.{Groups}
 use Rattle.yv_expand_rounds.specs.InnerTreeList.{groups_in, under}
-use Rattle.yv_expand_rounds.proofs.Taking.{fresh_start, fresh_top, fresh_step, completes_start, completes_step, completes_all, fewer_left, no_items_in}
+use Rattle.yv_expand_rounds.proofs.GroupRemoval.{fresh_start, fresh_top, fresh_step, completes_start, completes_step, completes_all, fewer_left, no_items_in}
 use Rattle.yv_expand_rounds.proofs.Depths.{no_deeper_start, no_deeper_step, depth_on_top}
 use Rattle.yv_expand_rounds.proofs.tree_list.list.Goals as goal
 

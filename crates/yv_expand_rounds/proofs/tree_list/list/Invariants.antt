@@ -1,7 +1,7 @@
 use Rattle.std.proofs.Common.{◌+◌, ℕ, List, length}
 use Rattle.std.specs.List.{sum_by}
 use Rattle.yv_expand_rounds.specs.InnerTreeList.{StandAtMostOnce, groups_in}
-use Rattle.yv_expand_rounds.proofs.Taking.{AreFresh, Completes}
+use Rattle.yv_expand_rounds.proofs.GroupRemoval.{AreFresh, Completes}
 use Rattle.yv_expand_rounds.proofs.Depths.{NoDeeper}
 use Rattle.yv_expand_rounds.proofs.tree_list.list.Given as goal
 

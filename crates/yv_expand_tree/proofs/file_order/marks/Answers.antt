@@ -1,8 +1,8 @@
 use Rattle.std.proofs.Common.{◌∙◌, ap, map, arith}
-use Rattle.yv_statement.specs.Selection.{selected_of, is_implemented}
+use Rattle.yv_text_statement.specs.Selection.{selected_of, is_implemented}
 use Rattle.yv_link_scopes.specs.Views.{lent_in}
 use Rattle.yv_link_scopes.specs.declared.files.File.{File}
-use Rattle.yv_expand_tree.proofs.Giving.{files_given, take_whole}
+use Rattle.yv_expand_tree.proofs.GivenFiles.{files_given, take_whole}
 use Rattle.yv_expand_tree.proofs.file_order.marks.Goals as goal
 
 pub returns : goal.returns

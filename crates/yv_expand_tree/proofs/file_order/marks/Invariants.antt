@@ -1,5 +1,5 @@
 use Rattle.std.proofs.Common.{◌≡◌, map, take}
-use Rattle.yv_statement.specs.Selection.{selected_of, is_implemented}
+use Rattle.yv_text_statement.specs.Selection.{selected_of, is_implemented}
 use Rattle.yv_link_scopes.specs.declared.files.File.{File}
 use Rattle.yv_expand_tree.proofs.file_order.marks.Given as goal
 

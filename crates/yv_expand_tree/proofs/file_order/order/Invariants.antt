@@ -1,5 +1,5 @@
 use Rattle.std.proofs.Common.{◌≡◌, ◌++◌, drop}
-use Rattle.yv_statement.specs.Selection.{selected_of}
+use Rattle.yv_text_statement.specs.Selection.{selected_of}
 use Rattle.yv_link_scopes.specs.Views.{lent_in}
 use Rattle.yv_expand_tree.specs.FileOrder.{order_from, order_of, part_places}
 use Rattle.yv_expand_tree.proofs.file_order.order.Given as goal

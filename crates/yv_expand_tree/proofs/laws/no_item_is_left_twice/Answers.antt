@@ -4,7 +4,7 @@ use Rattle.yv_expand.specs.Tree as expansion
 use Rattle.yv_expand_augments.specs.Remains.{is_left}
 use Rattle.yv_expand_uses.specs.Spots.{labels_of}
 use Rattle.yv_expand_tree.specs.Final.{spots_of, whole_of}
-use Rattle.yv_expand_tree.proofs.Leaving.{no_node_twice}
+use Rattle.yv_expand_tree.proofs.TreeRemains.{no_node_twice}
 use Rattle.yv_expand_tree.proofs.laws.no_item_is_left_twice.Goals as goal
 
 pub returns : goal.returns

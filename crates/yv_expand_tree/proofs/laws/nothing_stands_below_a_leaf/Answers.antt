@@ -1,4 +1,4 @@
-use Rattle.yv_expand_tree.proofs.Lowering.{parents_left}
+use Rattle.yv_expand_tree.proofs.ParentKinds.{parents_left}
 use Rattle.yv_expand_tree.proofs.laws.nothing_stands_below_a_leaf.Goals as goal
 
 pub returns : goal.returns

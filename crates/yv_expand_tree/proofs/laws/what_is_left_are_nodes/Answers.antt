@@ -5,7 +5,7 @@ use Rattle.yv_expand_rounds.specs.Kinds.{is_uses}
 use Rattle.yv_expand_augments.specs.Remains.{is_left}
 use Rattle.yv_expand_tree.specs.Final.{spots_of, whole_of}
 use Rattle.yv_expand_tree.proofs.Finals.{left_items}
-use Rattle.yv_expand_tree.proofs.Leaving.{left_kind, node_kept, spot_item}
+use Rattle.yv_expand_tree.proofs.TreeRemains.{left_kind, node_kept, spot_item}
 use Rattle.yv_expand_tree.proofs.laws.what_is_left_are_nodes.Goals as goal
 
 pub returns : goal.returns

@@ -6,7 +6,7 @@ use Rattle.yv_expand_uses.specs.On.{is_marked}
 use Rattle.yv_expand_changes.specs.IfFeatures.{item_marks, statement_marks}
 use Rattle.yv_expand_tree.specs.Final.{changes_of, spots_of}
 use Rattle.yv_expand_tree.specs.Remains.{nodes_of}
-use Rattle.yv_expand_tree.proofs.Standing.{parents_first}
+use Rattle.yv_expand_tree.proofs.NodePositions.{parents_first}
 use Rattle.yv_expand_tree.proofs.laws.what_is_left_is_one.Goals as goal
 
 pub returns : goal.returns

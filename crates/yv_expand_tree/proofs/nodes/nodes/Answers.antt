@@ -1,7 +1,7 @@
 use Rattle.std.proofs.Common.{◌∙◌, None}
 use Rattle.std.proofs.lemmas.Option.{slice_get-get_or}
 use Rattle.yv_expand_tree.specs.InnerNodes.{nodes_of_rows}
-use Rattle.yv_expand_tree.proofs.Noding.{last_in, nodes_all, nodes_listed, nodes_step}
+use Rattle.yv_expand_tree.proofs.ItemNodes.{last_in, nodes_all, nodes_listed, nodes_step}
 use Rattle.yv_expand_tree.proofs.nodes.nodes.Goals as goal
 
 pub loop-place-preserved : goal.loop-place-preserved

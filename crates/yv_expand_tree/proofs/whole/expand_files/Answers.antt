@@ -1,7 +1,7 @@
 use Rattle.std.proofs.Common.{◌≡◌, ◌∙◌, Bool, List, None, subst}
 use Rattle.std.specs.Result.{OnOk}
-use Rattle.yv_statement.specs.Order.{IsLeast}
-use Rattle.yv_statement.specs.Selection.{selected_of}
+use Rattle.yv_text_statement.specs.Order.{IsLeast}
+use Rattle.yv_text_statement.specs.Selection.{selected_of}
 use Rattle.yv_link_scopes.specs.Views.{lent_in}
 use Rattle.yv_expand.specs.Limit.{TooMany}
 use Rattle.yv_expand_tree.specs.FileOrder.{marks_of}

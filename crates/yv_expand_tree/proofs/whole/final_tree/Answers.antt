@@ -1,6 +1,6 @@
 use Rattle.std.proofs.Common.{Some, None}
 use Rattle.std.proofs.lemmas.Result.{on_ok_weaker}
-use Rattle.yv_statement.specs.Selection.{selected_of}
+use Rattle.yv_text_statement.specs.Selection.{selected_of}
 use Rattle.yv_link_scopes.specs.Views.{lent_in}
 use Rattle.yv_expand_tree.proofs.Phases.{least_fits, least_many}
 use Rattle.yv_expand_tree.proofs.whole.final_tree.Goals as goal

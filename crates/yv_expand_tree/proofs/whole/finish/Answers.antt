@@ -1,9 +1,9 @@
 use Rattle.std.proofs.Common.{◌≡◌, refl, Some, None, subst}
-use Rattle.yv_statement.specs.declared.refusal.Refusal.{Refusal}
-use Rattle.yv_statement.specs.Order.{IsLeast}
+use Rattle.yv_text_statement.specs.declared.refusal.Refusal.{Refusal}
+use Rattle.yv_text_statement.specs.Order.{IsLeast}
 use Rattle.yv_link_scopes.specs.Views.{lent_in}
 use Rattle.yv_expand_tree.specs.Refusals.{BadFinal}
-use Rattle.yv_expand_tree.proofs.Finishing.{changes_are, final_least, final_of, is_final, known_by}
+use Rattle.yv_expand_tree.proofs.ExpansionResult.{changes_are, final_least, final_of, is_final, known_by}
 use Rattle.yv_expand_tree.proofs.whole.finish.Goals as goal
 
 pub returns-in-Some-clause-refusal : goal.returns-in-Some-clause-refusal

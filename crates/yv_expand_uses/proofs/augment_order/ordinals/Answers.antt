@@ -1,6 +1,6 @@
 use Rattle.std.proofs.Common.{ℕ, List, Option, Some, length, ◌∙◌, ap, arith, length-append, [], ◌∷◌}
 use Rattle.std.proofs.lemmas.Option.{slice_get-get_or}
-use Rattle.yv_expand_uses.proofs.Counting.{count_within, counts_more, next_told, told_all, told_more}
+use Rattle.yv_expand_uses.proofs.PlaceNumbers.{count_within, counts_more, next_told, told_all, told_more}
 use Rattle.yv_expand_uses.proofs.augment_order.ordinals.Goals as goal
 
 pub next-requires-clause-room : goal.next-requires-clause-room

@@ -1,7 +1,7 @@
 use Rattle.std.proofs.Common.{◌≡◌, ℕ, ◌<◌, length, get_or}
 use Rattle.std.specs.List.{slice_get}
 use Rattle.yv_expand_uses.specs.AugmentOrder.{place_before}
-use Rattle.yv_expand_uses.proofs.Counting.{Counts}
+use Rattle.yv_expand_uses.proofs.PlaceNumbers.{Counts}
 use Rattle.yv_expand_uses.proofs.augment_order.ordinals.Given as goal
 
 abbrev pub invariant-loop-place : goal.invariant-loop-place

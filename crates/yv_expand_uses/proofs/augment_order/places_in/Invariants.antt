@@ -1,4 +1,4 @@
-use Rattle.yv_expand_uses.proofs.Counting.{Placed}
+use Rattle.yv_expand_uses.proofs.PlaceNumbers.{Placed}
 use Rattle.yv_expand_uses.proofs.augment_order.places_in.Given as goal
 
 abbrev pub invariant-loop-left : goal.invariant-loop-left

@@ -3,8 +3,8 @@ use Rattle.std.specs.List.{slice_get}
 use Rattle.std.proofs.lemmas.Option.{slice_get_within}
 use Rattle.yv_link_scopes.specs.Rows.{Row, row}
 use Rattle.yv_link_scopes.specs.Views.{rows_in}
-use Rattle.yv_expand_uses.proofs.Reading.{row_read, rows_count}
-use Rattle.yv_expand_uses.proofs.Counting.{giving_all, giving_more}
+use Rattle.yv_expand_uses.proofs.StatementLists.{row_read, rows_count}
+use Rattle.yv_expand_uses.proofs.PlaceNumbers.{giving_all, giving_more}
 use Rattle.yv_expand_uses.proofs.augment_order.places_of.Goals as goal
 
 pub loop-number-preserved : goal.loop-number-preserved

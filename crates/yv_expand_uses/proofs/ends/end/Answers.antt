@@ -2,7 +2,7 @@ use Rattle.std.proofs.Common.{◌≡◌, ◌<◌, ℕ, length, get_or, drop, ◌
 use Rattle.std.specs.List.{slice_get}
 use Rattle.yv_expand_uses.specs.Ends.{end_at, run_length}
 use Rattle.yv_expand_uses.specs.InnerEnds.{is_from_at}
-use Rattle.yv_expand_uses.proofs.Ending.{end_next, end_here, from_within, end_within}
+use Rattle.yv_expand_uses.proofs.SubtreeEnds.{end_next, end_here, from_within, end_within}
 use Rattle.yv_expand_uses.proofs.ends.end.Goals as goal
 
 pub loop-next-preserved : goal.loop-next-preserved

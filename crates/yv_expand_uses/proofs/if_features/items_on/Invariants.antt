@@ -1,6 +1,6 @@
 use Rattle.yv_link_scopes.specs.Views.{rows_in}
 use Rattle.yv_expand_uses.specs.On.{is_marked}
-use Rattle.yv_expand_uses.proofs.Asking.{Asking}
+use Rattle.yv_expand_uses.proofs.ItemMarks.{Asking}
 use Rattle.yv_expand_uses.proofs.if_features.items_on.Given as goal
 
 abbrev pub invariant-loop-number : goal.invariant-loop-number

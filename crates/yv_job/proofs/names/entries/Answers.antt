@@ -2,7 +2,7 @@ use Rattle.std.proofs.Common.{◌∙◌, sym, ap, subst, map, take, ◌+◌, Bor
 use Rattle.std.specs.List.{AllZip}
 use Rattle.std.proofs.lemmas.List.{map-append}
 use Rattle.yv_job.specs.Names.{IsEntry}
-use Rattle.yv_statement.specs.Selection.{Entry, entry_of}
+use Rattle.yv_text_statement.specs.Selection.{Entry, entry_of}
 use Rattle.yv_job.proofs.NameLemmas.{zip_at, zip_more}
 use Rattle.yv_job.proofs.names.entries.Goals as goal
 

@@ -1,7 +1,7 @@
 use Rattle.std.proofs.Common.{map, take}
 use Rattle.std.specs.List.{AllZip}
 use Rattle.yv_job.specs.Names.{IsEntry}
-use Rattle.yv_statement.specs.Selection.{entry_of}
+use Rattle.yv_text_statement.specs.Selection.{entry_of}
 use Rattle.yv_job.proofs.names.entries.Given as goal
 
 abbrev pub invariant-loop-part : goal.invariant-loop-part

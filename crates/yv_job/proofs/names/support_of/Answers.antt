@@ -1,6 +1,6 @@
 use Rattle.std.proofs.Common.{◌∙◌, ap, map, Bor, List, ℕ}
 use Rattle.std.proofs.lemmas.Result.{IfOk-weaker}
-use Rattle.yv_statement.specs.Selection.{entry_of}
+use Rattle.yv_text_statement.specs.Selection.{entry_of}
 use Rattle.yv_job.proofs.NameLemmas.{support_from}
 use Rattle.yv_job.proofs.names.support_of.Goals as goal
 

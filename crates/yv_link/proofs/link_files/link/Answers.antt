@@ -1,5 +1,5 @@
 use Rattle.std.proofs.Common.{Some, None, map, subst, sym, OnOk}
-use Rattle.yv_statement.specs.Order.{IsLeast}
+use Rattle.yv_text_statement.specs.Order.{IsLeast}
 use Rattle.yv_link_scopes.specs.Files.{Files, brief_of}
 use Rattle.yv_link_scopes.specs.RowList.{rows_of}
 use Rattle.yv_link_modules.specs.Modules.{BadModules}

@@ -1,6 +1,6 @@
 use Rattle.std.proofs.Common.{◌≡◌, ◌<◌, ℕ, length, Some}
 use Rattle.std.specs.List.{slice_get}
-use Rattle.yv_statement.specs.Selection.{selected_of}
+use Rattle.yv_text_statement.specs.Selection.{selected_of}
 use Rattle.yv_link_scopes.specs.Views.{files_in}
 use Rattle.yv_link.specs.Modules.{ref_at}
 use Rattle.yv_link.proofs.modules.read_modules.Given as goal

@@ -1,12 +1,12 @@
 use Rattle.std.proofs.Common.{None, Some, ◌≡◌, length, subst}
 use Rattle.yv_link_definitions.specs.Leads.{IsOrderOf}
-use Rattle.yv_statement.specs.Order.{IsLeast}
-use Rattle.yv_statement.specs.declared.refusal.Stop.TheVariants.{Fault}
+use Rattle.yv_text_statement.specs.Order.{IsLeast}
+use Rattle.yv_text_statement.specs.declared.refusal.Stop.TheVariants.{Fault}
 use Rattle.yv_link_definitions.specs.Refusals.{BadIn}
 use Rattle.yv_link_scopes.specs.declared.rows.Rows.{Rows}
 use Rattle.yv_link_scopes.specs.Views.{files_in, rows_in}
 use Rattle.yv_link_definitions.specs.InnerAnswers.{TellFirst}
-use Rattle.yv_link_definitions.proofs.Told.{meanings_read, meanings_told, refs_told, types_told, uses_told}
+use Rattle.yv_link_definitions.proofs.StatementAnswers.{meanings_read, meanings_told, refs_told, types_told, uses_told}
 use Rattle.yv_link_definitions.proofs.build.names.Goals as goal
 
 pub order-requires : goal.order-requires

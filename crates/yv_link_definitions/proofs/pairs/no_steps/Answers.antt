@@ -1,6 +1,6 @@
 use Rattle.std.proofs.Common.{arith, ap, length, ◌∙◌}
-use Rattle.yv_link_definitions.proofs.Joining.{longer}
-use Rattle.yv_link_definitions.proofs.Joining.{no_edge_none, no_edge_more}
+use Rattle.yv_link_definitions.proofs.DefinitionGraph.{longer}
+use Rattle.yv_link_definitions.proofs.DefinitionGraph.{no_edge_none, no_edge_more}
 use Rattle.yv_link_definitions.proofs.pairs.no_steps.Goals as goal
 
 pub loop-init : goal.loop-init

@@ -1,6 +1,6 @@
 use Rattle.std.proofs.Common.{sym, ◌∙◌, ap}
 use Rattle.std.specs.Option.{option_copied}
-use Rattle.yv_link_definitions.proofs.Rising.{all_before}
+use Rattle.yv_link_definitions.proofs.PlaceSearch.{all_before}
 use Rattle.yv_link_definitions.proofs.place.are_before.Goals as goal
 
 pub returns-in-Some : goal.returns-in-Some

@@ -1,5 +1,5 @@
 use Rattle.std.proofs.Common.{ℕ, ◌+◌, ◌-◌, ◌/◌, sym, ◌∙◌, arith}
-use Rattle.yv_link_definitions.proofs.Rising.{above_read, below_read}
+use Rattle.yv_link_definitions.proofs.PlaceSearch.{above_read, below_read}
 use Rattle.yv_link_definitions.proofs.place.count_before.Goals as goal
 
 pub loop-low-preserved-then-is_before : goal.loop-low-preserved-then-is_before

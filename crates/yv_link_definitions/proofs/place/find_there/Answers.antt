@@ -1,5 +1,5 @@
 use Rattle.std.proofs.Common.{sym, ◌∙◌, arith}
-use Rattle.yv_link_definitions.proofs.Rising.{ended, found, nothing, past}
+use Rattle.yv_link_definitions.proofs.PlaceSearch.{ended, found, nothing, past}
 use Rattle.yv_link_definitions.proofs.place.find_there.Goals as goal
 
 pub returns-in-Some : goal.returns-in-Some

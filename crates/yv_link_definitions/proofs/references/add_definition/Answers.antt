@@ -1,6 +1,6 @@
 use Rattle.std.proofs.Common.{sym, ◌∙◌}
 use Rattle.yv_link_scopes.specs.Rows.{row}
-use Rattle.yv_link_definitions.proofs.Defining.{defined_more, defined_other}
+use Rattle.yv_link_definitions.proofs.DefinitionReferences.{defined_more, defined_other}
 use Rattle.yv_link_definitions.proofs.references.add_definition.Goals as goal
 
 pub returns-in_ok-insert : goal.returns-in_ok-insert

@@ -3,7 +3,7 @@ use Rattle.yv_link_scopes.specs.Rows.{row}
 use Rattle.yv_link_definitions.specs.Places.{placed_in}
 use Rattle.yv_link_definitions.specs.InnerPlaces.{keep_first}
 use Rattle.yv_link_definitions.specs.declared.place.Place.{Place}
-use Rattle.yv_link_definitions.proofs.Placing.{places_more, places_same, with_word}
+use Rattle.yv_link_definitions.proofs.FirstStatements.{places_more, places_same, with_word}
 use Rattle.yv_link_definitions.proofs.references.add_place.Goals as goal
 
 pub returns-in_ok-add : goal.returns-in_ok-add

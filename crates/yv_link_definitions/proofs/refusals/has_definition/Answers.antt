@@ -1,5 +1,5 @@
 use Rattle.std.proofs.Common.{refl, sym, ◌∙◌}
-use Rattle.yv_statement.specs.declared.keyword.Keyword.TheVariants as word
+use Rattle.yv_text_statement.specs.declared.keyword.Keyword.TheVariants as word
 use Rattle.yv_link_scopes.specs.Rows.{row}
 use Rattle.yv_link_scopes.proofs.Keywords.{differs}
 use Rattle.yv_link_definitions.proofs.KindsDefined.{kind_by_keyword, none_of, not_word}

@@ -1,6 +1,6 @@
 use Rattle.yv_link_features.specs.Features.{meaning_in, on_in, truth_of}
-use Rattle.yv_link_features.proofs.Agreeing.{has_told, told_by}
-use Rattle.yv_text_if_feature.proofs.Spelled.{spelled_by}
+use Rattle.yv_link_features.proofs.AssignmentAgreement.{has_told, told_by}
+use Rattle.yv_text_if_feature.proofs.ConditionSpelling.{spelled_by}
 use Rattle.yv_link_features.proofs.laws.features_tell_the_value.Goals as goal
 
 pub returns-clause-tells : goal.returns-clause-tells

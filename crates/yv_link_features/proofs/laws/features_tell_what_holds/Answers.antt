@@ -2,11 +2,11 @@ use Rattle.std.proofs.Common.{map, subst}
 use Rattle.yv_link_scopes.specs.Files.{brief_of}
 use Rattle.yv_link_scopes.specs.RowList.{rows_of}
 use Rattle.yv_link_scopes.specs.Tables.{Table}
-use Rattle.yv_text_if_feature.proofs.Spelled.{spelled_by}
+use Rattle.yv_text_if_feature.proofs.ConditionSpelling.{spelled_by}
 use Rattle.yv_link_features.specs.Meaning.{looked_up}
 use Rattle.yv_link_features.specs.Features.{AreFeatures, from_marks, meaning_in, truth_of}
 use Rattle.yv_link_features.specs.Value.{HasValue}
-use Rattle.yv_link_features.proofs.Agreeing.{has_told}
+use Rattle.yv_link_features.proofs.AssignmentAgreement.{has_told}
 use Rattle.yv_link_features.proofs.laws.features_tell_what_holds.Goals as goal
 
 pub returns : goal.returns

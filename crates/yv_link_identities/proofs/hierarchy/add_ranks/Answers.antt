@@ -1,6 +1,6 @@
 use Rattle.std.proofs.Common.{refl}
 use Rattle.std.proofs.lemmas.List.{take_more}
-use Rattle.yv_link_identities.proofs.Finding.{ranks_more}
+use Rattle.yv_link_identities.proofs.DerivationRanks.{ranks_more}
 use Rattle.yv_link_identities.proofs.hierarchy.add_ranks.Goals as goal
 
 pub loop-node-preserved : goal.loop-node-preserved

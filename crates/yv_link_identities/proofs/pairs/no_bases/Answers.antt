@@ -1,6 +1,6 @@
 use Rattle.std.proofs.Common.{arith, ap, length, ◌∙◌}
-use Rattle.yv_link_identities.proofs.Choosing.{longer}
-use Rattle.yv_link_identities.proofs.Pairing.{no_edge_none, no_edge_more}
+use Rattle.yv_link_identities.proofs.PassingNumbers.{longer}
+use Rattle.yv_link_identities.proofs.BaseGraph.{no_edge_none, no_edge_more}
 use Rattle.yv_link_identities.proofs.pairs.no_bases.Goals as goal
 
 pub loop-init : goal.loop-init

@@ -5,7 +5,7 @@ use Rattle.yv_link_scopes.specs.Rows.{Row, row}
 use Rattle.yv_link_scopes.specs.Views.{files_in, rows_in}
 use Rattle.yv_link_identities.specs.InnerPairs.{pair_of}
 use Rattle.yv_link_identities.proofs.Numbering.{row_read, rows_count, numbers_count}
-use Rattle.yv_link_identities.proofs.Pairing.{pairing_none, pairing_other, pairing_pair, pairing_all, pair_within}
+use Rattle.yv_link_identities.proofs.BaseGraph.{pairing_none, pairing_other, pairing_pair, pairing_all, pair_within}
 use Rattle.yv_link_identities.proofs.pairs.read_bases.Goals as goal
 use Rattle.yv_link_identities.proofs.pairs.read_bases.Goals.{in-Some+in_ok-push, in_default}
 

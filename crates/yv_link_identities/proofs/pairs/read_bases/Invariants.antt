@@ -1,5 +1,5 @@
 use Rattle.yv_link_scopes.specs.Views.{files_in, rows_in}
-use Rattle.yv_link_identities.proofs.Pairing.{Pairing}
+use Rattle.yv_link_identities.proofs.BaseGraph.{Pairing}
 use Rattle.yv_link_identities.proofs.pairs.read_bases.Given as goal
 
 abbrev pub invariant-loop-entry : goal.invariant-loop-entry

@@ -1,6 +1,6 @@
 use Rattle.std.proofs.Common.{refl, arith}
 use Rattle.std.proofs.lemmas.List.{take_more}
-use Rattle.yv_link_identities.proofs.Reversing.{adds_more}
+use Rattle.yv_link_identities.proofs.GraphReversal.{adds_more}
 use Rattle.yv_link_identities.proofs.reverse.add_edges.Goals as goal
 
 pub loop-from-preserved : goal.loop-from-preserved

@@ -1,5 +1,5 @@
 use Rattle.std.proofs.Common.{refl, arith}
-use Rattle.yv_link_identities.proofs.Reversing.{reversing_none, reversing_more, reversing_all}
+use Rattle.yv_link_identities.proofs.GraphReversal.{reversing_none, reversing_more, reversing_all}
 use Rattle.yv_link_identities.proofs.reverse.reverse.Goals as goal
 
 pub loop-node-init : goal.loop-node-init

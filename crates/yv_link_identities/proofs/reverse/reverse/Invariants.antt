@@ -1,4 +1,4 @@
-use Rattle.yv_link_identities.proofs.Reversing.{Reversing}
+use Rattle.yv_link_identities.proofs.GraphReversal.{Reversing}
 use Rattle.yv_link_identities.proofs.reverse.reverse.Given as goal
 
 abbrev pub invariant-loop-node : goal.invariant-loop-node

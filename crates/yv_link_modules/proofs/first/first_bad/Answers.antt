@@ -1,6 +1,6 @@
 use Rattle.std.proofs.Common.{length, sym, subst}
-use Rattle.yv_statement.specs.Order.{IsLeast}
-use Rattle.yv_statement.proofs.Least.{least_lesser}
+use Rattle.yv_text_statement.specs.Order.{IsLeast}
+use Rattle.yv_text_statement.proofs.Least.{least_lesser}
 use Rattle.yv_link_scopes.specs.declared.rows.Rows.{Rows}
 use Rattle.yv_link_scopes.specs.Views.{files_in, rows_in}
 use Rattle.yv_link_modules.specs.Modules.{BadModules}

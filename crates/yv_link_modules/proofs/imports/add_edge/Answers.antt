@@ -1,6 +1,6 @@
 use Rattle.std.proofs.Common.{refl}
 use Rattle.std.proofs.lemmas.Option.{slice_get_read}
-use Rattle.yv_link_modules.proofs.Leading.{one_more}
+use Rattle.yv_link_modules.proofs.ImportWays.{one_more}
 use Rattle.yv_link_modules.proofs.imports.add_edge.Goals as goal
 
 pub returns : goal.returns

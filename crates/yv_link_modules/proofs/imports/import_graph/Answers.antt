@@ -6,7 +6,7 @@ use Rattle.yv_link_scopes.specs.Rows.{Row, row}
 use Rattle.yv_link_scopes.specs.Views.{files_in, lent_in, rows_in}
 use Rattle.yv_link_modules.proofs.Flags.{get_view}
 use Rattle.yv_link_modules.specs.InnerImports.{AreImports}
-use Rattle.yv_link_modules.proofs.Leading.{bare_more, imports_start, imports_more, imports_same}
+use Rattle.yv_link_modules.proofs.ImportWays.{bare_more, imports_start, imports_more, imports_same}
 use Rattle.yv_link_modules.proofs.imports.import_graph.Goals as goal
 use Rattle.yv_link_modules.proofs.imports.import_graph.Goals.{in-Some+in_ok-add_edge, in_default}
 

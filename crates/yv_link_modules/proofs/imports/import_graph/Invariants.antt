@@ -1,6 +1,6 @@
 use Rattle.yv_link_scopes.specs.Views.{files_in, rows_in}
 use Rattle.yv_link_modules.specs.InnerImports.{AreImports}
-use Rattle.yv_link_modules.proofs.Leading.{IsBare}
+use Rattle.yv_link_modules.proofs.ImportWays.{IsBare}
 use Rattle.yv_link_modules.proofs.imports.import_graph.Given as goal
 
 abbrev pub invariant-loop : goal.invariant-loop

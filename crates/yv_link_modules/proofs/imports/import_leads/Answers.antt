@@ -3,7 +3,7 @@ use Rattle.yv_base_graph.specs.Graph.{Graph, IsGraph, AreReached}
 use Rattle.yv_link_scopes.specs.Files.{Briefs}
 use Rattle.yv_link_scopes.specs.Rows.{name_in}
 use Rattle.yv_link_scopes.specs.Views.{files_in, rows_in}
-use Rattle.yv_link_modules.proofs.Leading.{imported_named, is_graph, leads_all, rows_more}
+use Rattle.yv_link_modules.proofs.ImportWays.{imported_named, is_graph, leads_all, rows_more}
 use Rattle.yv_link_modules.proofs.imports.import_leads.Goals as goal
 
 pub reachable_from-requires-clause-graph : goal.reachable_from-requires-clause-graph

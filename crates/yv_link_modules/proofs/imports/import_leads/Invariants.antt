@@ -1,4 +1,4 @@
-use Rattle.yv_link_modules.proofs.Leading.{AreRows}
+use Rattle.yv_link_modules.proofs.ImportWays.{AreRows}
 use Rattle.yv_link_modules.proofs.imports.import_leads.Given as goal
 
 abbrev pub invariant-loop-module : goal.invariant-loop-module

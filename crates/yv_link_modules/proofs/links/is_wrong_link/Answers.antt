@@ -3,7 +3,7 @@ use Rattle.std.specs.List.{slice_get}
 use Rattle.std.specs.Option.{option_and_then}
 use Rattle.std.specs.Str.{bytes_eq}
 use Rattle.std.proofs.lemmas.Bool.{false≢true}
-use Rattle.yv_statement.specs.Tree.{Head}
+use Rattle.yv_text_statement.specs.Tree.{Head}
 use Rattle.yv_link_scopes.specs.Files.{Brief, Briefs, file_named, has_word}
 use Rattle.yv_link_scopes.specs.Rows.{Row, row, name_in}
 use Rattle.yv_link_scopes.specs.Views.{files_in}

@@ -1,6 +1,6 @@
 use Rattle.std.proofs.Common.{refl, sym, ◌∙◌}
-use Rattle.yv_statement.specs.declared.keyword.Keyword.TheVariants as word
-use Rattle.yv_link_modules.proofs.Prefixed.{names_by, none_of, one_of_three, with_names}
+use Rattle.yv_text_statement.specs.declared.keyword.Keyword.TheVariants as word
+use Rattle.yv_link_modules.proofs.KeywordPrefixes.{names_by, none_of, one_of_three, with_names}
 use Rattle.yv_link_modules.proofs.prefixes.has_names.Goals as goal
 
 pub returns-in-Type : goal.returns-in-Type

@@ -3,7 +3,7 @@ use Rattle.yv_link_scopes.specs.Rows.{is_extended}
 use Rattle.yv_link_scopes.specs.Tables.{table_of}
 use Rattle.yv_link_scopes.proofs.Keywords.{extended_by_colon}
 use Rattle.yv_link_modules.specs.Prefixes.{is_undeclared}
-use Rattle.yv_link_modules.proofs.Prefixed.{no_prefix}
+use Rattle.yv_link_modules.proofs.KeywordPrefixes.{no_prefix}
 use Rattle.yv_link_modules.proofs.prefixes.has_unknown_keyword.Goals as goal
 
 pub returns-then-not-is : goal.returns-then-not-is

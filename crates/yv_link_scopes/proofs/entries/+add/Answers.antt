@@ -1,10 +1,10 @@
 use Rattle.std.proofs.Common.{◌≡◌, rules, ◌<◌, ◌++◌, List, true, false, length, map, sym, ◌∙◌, ap, arith, refl, get_or}
 use Rattle.std.proofs.lemmas.List.{length-map}
-use Rattle.yv_statement.specs.Tree.{Tree, Then, End, trees, forest, count}
+use Rattle.yv_text_statement.specs.Tree.{Tree, Then, End, trees, forest, count}
 use Rattle.yv_link_scopes.specs.Rows.{row, tree, row_list, is_extended}
 use Rattle.yv_link_scopes.specs.RowList.{statements_in}
 use Rattle.yv_link_scopes.proofs.Listing.{lists_step, lists_end, listed_whole, listed_bare, next_of, end_of, pushed, fewer, forest-trees}
-use Rattle.yv_link_scopes.proofs.Telling.{tells_step, tells_end, told_whole, told_bare, pushed_tree}
+use Rattle.yv_link_scopes.proofs.StatementTraversal.{tells_step, tells_end, told_whole, told_bare, pushed_tree}
 use Rattle.yv_link_scopes.proofs.entries.+add.Goals as goal
 
 pub add-requires : goal.add-requires

@@ -1,9 +1,9 @@
 use Rattle.std.proofs.Common.{◌++◌, map, sym, ◌∙◌, ap, refl}
 use Rattle.std.proofs.lemmas.List.{length-map}
-use Rattle.yv_statement.specs.Tree.{Then, End, forest}
+use Rattle.yv_text_statement.specs.Tree.{Then, End, forest}
 use Rattle.yv_link_scopes.specs.Rows.{row, row_list}
 use Rattle.yv_link_scopes.proofs.Listing.{lists_step, lists_end, next_of, end_of}
-use Rattle.yv_link_scopes.proofs.Telling.{tells_step, tells_end}
+use Rattle.yv_link_scopes.proofs.StatementTraversal.{tells_step, tells_end}
 use Rattle.yv_link_scopes.proofs.entries.add_block.Goals as goal
 
 pub loop-child-init : goal.loop-child-init

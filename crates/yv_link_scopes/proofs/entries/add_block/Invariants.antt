@@ -1,8 +1,8 @@
 use Rattle.std.proofs.Common.{map, drop}
-use Rattle.yv_statement.specs.Tree.{forest}
+use Rattle.yv_text_statement.specs.Tree.{forest}
 use Rattle.yv_link_scopes.specs.Rows.{row, tree}
 use Rattle.yv_link_scopes.proofs.Listing.{Lists}
-use Rattle.yv_link_scopes.proofs.Telling.{Tells}
+use Rattle.yv_link_scopes.proofs.StatementTraversal.{Tells}
 use Rattle.yv_link_scopes.proofs.entries.add_block.Given as goal
 
 abbrev pub invariant-loop-child : goal.invariant-loop-child

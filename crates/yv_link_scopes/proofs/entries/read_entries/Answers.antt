@@ -1,13 +1,13 @@
 use Rattle.std.proofs.Common.{◌≡◌, ◌++◌, length, map, refl, sym, ◌∙◌, ap}
 use Rattle.std.proofs.lemmas.List.{length-map}
-use Rattle.yv_statement.specs.Tree.{forest}
+use Rattle.yv_text_statement.specs.Tree.{forest}
 use Rattle.yv_link_scopes.specs.Rows.{row, tree}
 use Rattle.yv_link_scopes.specs.RowList.{statements_in}
 use Rattle.yv_link_scopes.specs.Files.{brief, brief_of}
 use Rattle.yv_link_scopes.proofs.Firsts.{get_map}
 use Rattle.yv_link_scopes.proofs.Listing.{pushed, forest-trees}
 use Rattle.yv_link_scopes.proofs.Bodies.{roots_step, bodies_step, bodies_start, bodies_end, body_is}
-use Rattle.yv_link_scopes.proofs.Telling.{tells_root, tells_body, tells_start, tells_all, pushed_tree}
+use Rattle.yv_link_scopes.proofs.StatementTraversal.{tells_root, tells_body, tells_start, tells_all, pushed_tree}
 use Rattle.yv_link_scopes.proofs.entries.read_entries.Goals as goal
 
 pub loop-file-preserved : goal.loop-file-preserved

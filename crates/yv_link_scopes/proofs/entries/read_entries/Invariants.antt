@@ -1,7 +1,7 @@
 use Rattle.std.proofs.Common.{map}
 use Rattle.yv_link_scopes.specs.Rows.{row, tree}
 use Rattle.yv_link_scopes.proofs.Bodies.{Roots, Bodies}
-use Rattle.yv_link_scopes.proofs.Telling.{TellsRoots, TellsBodies}
+use Rattle.yv_link_scopes.proofs.StatementTraversal.{TellsRoots, TellsBodies}
 use Rattle.yv_link_scopes.proofs.entries.read_entries.Given as goal
 
 abbrev pub invariant-loop-file : goal.invariant-loop-file

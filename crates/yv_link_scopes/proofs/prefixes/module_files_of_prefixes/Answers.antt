@@ -3,7 +3,7 @@ use Rattle.std.specs.List.{slice_get}
 use Rattle.yv_link_scopes.specs.Rows.{Row, row}
 use Rattle.yv_link_scopes.specs.Views.{files_in, rows_in}
 use Rattle.yv_link_scopes.specs.InnerModuleFiles.{module_file_of_prefix}
-use Rattle.yv_link_scopes.proofs.Reading.{row_read, mapped_more}
+use Rattle.yv_link_scopes.proofs.MappedLists.{row_read, mapped_more}
 use Rattle.yv_link_scopes.proofs.prefixes.module_files_of_prefixes.Goals as goal
 
 pub loop-entry-preserved : goal.loop-entry-preserved

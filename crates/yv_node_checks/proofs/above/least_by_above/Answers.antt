@@ -1,10 +1,10 @@
 use Rattle.std.proofs.Common.{◌≡◌, ◌≤◌, ◌∷◌, length, refl, sym, ap, ◌∙◌, arith, List, length-append, subst, ℕ, [], Option, Some}
-use Rattle.yv_statement.specs.declared.refusal.Refusal.{Refusal}
+use Rattle.yv_text_statement.specs.declared.refusal.Refusal.{Refusal}
 use Rattle.std.specs.List.{slice_get}
 use Rattle.std.specs.Option.{option_map}
 use Rattle.std.proofs.lemmas.Option.{slice_get_read}
-use Rattle.yv_statement.specs.Order.{Among, IsLeast}
-use Rattle.yv_statement.proofs.Least.{least_more}
+use Rattle.yv_text_statement.specs.Order.{Among, IsLeast}
+use Rattle.yv_text_statement.proofs.Least.{least_more}
 use Rattle.yv_nodes.specs.declared.node.NodeId.{NodeId}
 use Rattle.yv_nodes.specs.Tree.{Forest, Label}
 use Rattle.yv_nodes.specs.Places.{Place, places}
@@ -14,7 +14,7 @@ use Rattle.yv_node_checks.proofs.Spots.{IsNumbered, is_numbered, length_rows}
 use Rattle.yv_node_checks.specs.declared.lineage.Ancestry.{Ancestry}
 use Rattle.yv_node_checks.specs.Above.{BadBelow, line}
 use Rattle.yv_node_checks.specs.InnerAncestry.{ancestry_at, ancestry_of, label_in, nearest_of}
-use Rattle.yv_node_checks.proofs.Kept.{kept_more, nearest_is, ancestry_is}
+use Rattle.yv_node_checks.proofs.AncestryTable.{kept_more, nearest_is, ancestry_is}
 use Rattle.yv_node_checks.proofs.above.least_by_above.Goals as goal
 
 -- what one more node adds

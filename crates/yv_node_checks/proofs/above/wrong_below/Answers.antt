@@ -1,8 +1,8 @@
 use Rattle.std.proofs.Common.{◌≡◌, ◌∷◌, ap, ◌∙◌, true}
-use Rattle.yv_statement.specs.declared.refusal.Code.TheVariants as code
-use Rattle.yv_statement.specs.declared.refusal.Refusal.{Refusal}
-use Rattle.yv_statement.specs.Order.{Stands}
-use Rattle.yv_statement.proofs.Least.{least_lesser}
+use Rattle.yv_text_statement.specs.declared.refusal.Code.TheVariants as code
+use Rattle.yv_text_statement.specs.declared.refusal.Refusal.{Refusal}
+use Rattle.yv_text_statement.specs.Order.{Stands}
+use Rattle.yv_text_statement.proofs.Least.{least_lesser}
 use Rattle.yv_nodes.specs.Tree.{Label}
 use Rattle.yv_nodes.specs.Refusals.{refusal_of}
 use Rattle.yv_node_checks.specs.Above.{AtNearest, is_misconfigured, is_misfit, is_misplaced, lacks_key, line}

@@ -1,5 +1,5 @@
 use Rattle.std.proofs.Common.{◌∙◌}
-use Rattle.yv_statement.proofs.Least.{least_lesser}
+use Rattle.yv_text_statement.proofs.Least.{least_lesser}
 use Rattle.yv_node_checks.specs.Above.{BadByAbove}
 use Rattle.yv_node_checks.specs.Mandatory.{BadByDefault}
 use Rattle.yv_nodes.specs.InnerSpots.{AreRows}

@@ -1,6 +1,6 @@
 use Rattle.std.proofs.Common.{ap, ◌∙◌, List, ℕ, Option}
 use Rattle.std.specs.List.{find}
-use Rattle.yv_statement.specs.TextInFile.{TextInFile, written_of}
+use Rattle.yv_text_statement.specs.TextInFile.{TextInFile, written_of}
 use Rattle.yv_nodes.specs.declared.node.NodeId.{NodeId}
 use Rattle.yv_node_checks.specs.InnerBelow.{case_among, is_named_at}
 use Rattle.yv_node_checks.proofs.mandatory.default_case.Goals as goal

@@ -1,8 +1,8 @@
 use Rattle.std.proofs.Common.{◌≡◌, ℕ, ◌∷◌, [], Some, length, length-append, get_or, sym, ap, ◌∙◌, arith, List, subst}
 use Rattle.std.specs.List.{slice_get}
 use Rattle.std.proofs.lemmas.Option.{slice_get-get_or}
-use Rattle.yv_statement.specs.Order.{Among, IsLeast}
-use Rattle.yv_statement.proofs.Least.{least_more}
+use Rattle.yv_text_statement.specs.Order.{Among, IsLeast}
+use Rattle.yv_text_statement.proofs.Least.{least_more}
 use Rattle.yv_nodes.specs.Places.{places}
 use Rattle.yv_nodes.specs.Rows.{Row, blank_row}
 use Rattle.yv_node_checks.proofs.Spots.{IsNumbered, is_numbered, length_rows}

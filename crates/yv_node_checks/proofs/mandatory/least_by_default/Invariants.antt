@@ -1,6 +1,6 @@
 use Rattle.std.proofs.Common.{◌≡◌, length}
 use Rattle.yv_node_checks.specs.InnerNamesakes.{AreCases}
-use Rattle.yv_statement.specs.Order.{Among, IsLeast}
+use Rattle.yv_text_statement.specs.Order.{Among, IsLeast}
 use Rattle.yv_nodes.specs.Tree.{Forest}
 use Rattle.yv_nodes.specs.Places.{places}
 use Rattle.yv_nodes.specs.InnerSpots.{AreRows}

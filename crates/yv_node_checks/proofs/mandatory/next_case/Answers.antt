@@ -1,6 +1,6 @@
 use Rattle.std.proofs.Common.{◌≡◌, List, Option, Some, IfSome, sym, subst}
 use Rattle.std.specs.List.{slice_get}
-use Rattle.yv_node_definition.specs.Definition.{own_default}
+use Rattle.yv_node_content.specs.Definition.{own_default}
 use Rattle.yv_nodes.specs.declared.node.NodeId.{NodeId}
 use Rattle.yv_nodes.specs.Rows.{Row}
 use Rattle.yv_node_checks.specs.InnerNamesakes.{NamesDefault}

@@ -1,10 +1,10 @@
 use Rattle.std.proofs.Common.{◌≡◌, ◌⊎◌, ◌+◌, sym, ap, ◌∙◌, true, arith, List, is_some}
 use Rattle.std.specs.List.{slice_get}
-use Rattle.yv_statement.specs.declared.refusal.Code.TheVariants as code
-use Rattle.yv_statement.specs.declared.refusal.Refusal.{Refusal}
-use Rattle.yv_statement.specs.Order.{Stands}
-use Rattle.yv_statement.proofs.Least.{least_lesser}
-use Rattle.yv_node_definition.specs.Definition.{own_default}
+use Rattle.yv_text_statement.specs.declared.refusal.Code.TheVariants as code
+use Rattle.yv_text_statement.specs.declared.refusal.Refusal.{Refusal}
+use Rattle.yv_text_statement.specs.Order.{Stands}
+use Rattle.yv_text_statement.proofs.Least.{least_lesser}
+use Rattle.yv_node_content.specs.Definition.{own_default}
 use Rattle.yv_nodes.specs.Tree.{Label}
 use Rattle.yv_nodes.specs.Refusals.{refusal_of}
 use Rattle.yv_nodes.specs.Places.{Place}

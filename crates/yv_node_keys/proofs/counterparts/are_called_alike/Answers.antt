@@ -1,6 +1,6 @@
 use Rattle.std.proofs.Common.{◌<◌, ◌∙◌, List, arith, length, ap, sym}
 use Rattle.yv_nodes.specs.Rows.{Row}
-use Rattle.yv_node_keys.proofs.Pairing.{called_alike}
+use Rattle.yv_node_keys.proofs.NodeCounterparts.{called_alike}
 use Rattle.yv_node_keys.proofs.counterparts.are_called_alike.Goals as goal
 
 pub returns-then-module_file : goal.returns-then-module_file

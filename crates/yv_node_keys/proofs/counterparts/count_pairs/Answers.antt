@@ -1,6 +1,6 @@
 use Rattle.std.proofs.Common.{arith}
 use Rattle.yv_node_keys.specs.InnerCounterparts.{no_pairs}
-use Rattle.yv_node_keys.proofs.Pairing.{pairs_next}
+use Rattle.yv_node_keys.proofs.NodeCounterparts.{pairs_next}
 use Rattle.yv_node_keys.proofs.counterparts.count_pairs.Goals as goal
 
 pub loop-count-init : goal.loop-count-init

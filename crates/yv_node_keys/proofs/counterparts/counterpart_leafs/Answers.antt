@@ -6,7 +6,7 @@ use Rattle.yv_nodes.specs.declared.node.NodeId.{NodeId}
 use Rattle.yv_nodes.specs.Rows.{Row}
 use Rattle.yv_node_keys.specs.Numbers.{children_at, module_file_at}
 use Rattle.yv_node_keys.specs.InnerCounterparts.{ArePairs, counterpart}
-use Rattle.yv_node_keys.proofs.Pairing.{leafs_beside, some_weaker}
+use Rattle.yv_node_keys.proofs.NodeCounterparts.{leafs_beside, some_weaker}
 use Rattle.yv_node_keys.proofs.counterparts.counterpart_leafs.Goals as goal
 
 pub returns : goal.returns

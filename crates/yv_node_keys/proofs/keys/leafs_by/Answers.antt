@@ -2,7 +2,7 @@ use Rattle.std.proofs.Common.{◌≡◌, None, is_some, not, map, refl, sym, ap,
 use Rattle.std.proofs.lemmas.List.{take_all}
 use Rattle.std.proofs.lemmas.Option.{slice_get_read}
 use Rattle.yv_nodes.specs.declared.node.NodeId.{NodeId}
-use Rattle.yv_node_definition.specs.Steps.{Step}
+use Rattle.yv_node_content.specs.Steps.{Step}
 use Rattle.yv_node_keys.specs.Numbers.{key_leaf_at}
 use Rattle.yv_node_keys.proofs.Listing.{any_there, none_missing, values_more}
 use Rattle.yv_node_keys.proofs.keys.leafs_by.Goals as goal

@@ -5,7 +5,7 @@ use Rattle.yv_nodes.specs.Rows.{Row}
 use Rattle.yv_node_keys.specs.InnerMixedConfig.{is_mixed_at}
 use Rattle.yv_node_keys.specs.InnerShifts.{AreUnmixed, moved_id}
 use Rattle.yv_node_keys.proofs.Listing.{lists_more}
-use Rattle.yv_node_keys.proofs.Shifting.{unmixed_more}
+use Rattle.yv_node_keys.proofs.PathShifts.{unmixed_more}
 use Rattle.yv_node_keys.proofs.moved_leafs.all_moved.Goals as goal
 
 pub loop-leafs-preserved : goal.loop-leafs-preserved

@@ -1,4 +1,4 @@
-use Rattle.yv_node_keys.proofs.Shifting.{statements_found}
+use Rattle.yv_node_keys.proofs.PathShifts.{statements_found}
 use Rattle.yv_node_keys.proofs.moved_leafs.counterpart_uniques.Goals as goal
 
 pub returns-clause-numbers : goal.returns-clause-numbers

@@ -1,7 +1,7 @@
 use Rattle.std.proofs.Common.{◌∙◌, ◌<◌, arith, ap, sym, subst, length, map}
 use Rattle.std.proofs.lemmas.List.{take_all}
 use Rattle.yv_node_keys.specs.InnerShifts.{AreInside, moved_id}
-use Rattle.yv_node_keys.proofs.Shifting.{next_inside, next_moved}
+use Rattle.yv_node_keys.proofs.PathShifts.{next_inside, next_moved}
 use Rattle.yv_node_keys.proofs.shift.are_moved_to.Goals as goal
 
 pub loop-place-preserved : goal.loop-place-preserved

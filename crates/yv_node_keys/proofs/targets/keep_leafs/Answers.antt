@@ -1,6 +1,6 @@
 use Rattle.std.proofs.Common.{◌==◌, ℕ, Some, cond, sym, ap, ◌∙◌}
 use Rattle.yv_node_keys.specs.InnerTargets.{HasLeafs, lists_at}
-use Rattle.yv_node_keys.proofs.Keeping.{empty_leafs, kept_more, kept_none, none_there, put_number, right_more}
+use Rattle.yv_node_keys.proofs.NumberTables.{empty_leafs, kept_more, kept_none, none_there, put_number, right_more}
 use Rattle.yv_node_keys.proofs.targets.keep_leafs.Goals as goal
 
 pub returns-then-is_empty-2-clause-up_to : goal.returns-then-is_empty-2-clause-up_to

@@ -1,14 +1,14 @@
 use Rattle.std.proofs.Common.{◌≡◌, ℕ, List, length, sym, ap, ◌∙◌, subst, arith}
 use Rattle.std.specs.List.{slice_get}
 use Rattle.std.proofs.lemmas.Option.{slice_get-get_or}
-use Rattle.yv_statement.specs.Order.{Among, IsLeast}
-use Rattle.yv_statement.proofs.Least.{least_more, least_start}
+use Rattle.yv_text_statement.specs.Order.{Among, IsLeast}
+use Rattle.yv_text_statement.proofs.Least.{least_more, least_start}
 use Rattle.yv_nodes.specs.Places.{places}
 use Rattle.yv_nodes.specs.Rows.{Row, blank_row}
 use Rattle.yv_node_keys.specs.Bad.{BadOfLeafs}
 use Rattle.yv_node_keys.specs.InnerTargets.{AreUpTo}
 use Rattle.yv_node_keys.proofs.Spots.{IsNumbered, is_numbered, length_rows}
-use Rattle.yv_node_keys.proofs.Refusing.{both_none}
+use Rattle.yv_node_keys.proofs.ListRefusals.{both_none}
 use Rattle.yv_node_keys.proofs.targets.leaf_targets.Goals as goal
 
 pub loop-number-init : goal.loop-number-init

@@ -1,5 +1,5 @@
 use Rattle.std.proofs.Common.{◌≡◌, None}
-use Rattle.yv_statement.specs.Order.{Among, IsLeast}
+use Rattle.yv_text_statement.specs.Order.{Among, IsLeast}
 use Rattle.yv_nodes.specs.Tree.{Forest}
 use Rattle.yv_nodes.specs.Places.{places}
 use Rattle.yv_nodes.specs.Numbers.{rows_from}

@@ -2,12 +2,12 @@ use Rattle.std.proofs.Common.{◌≡◌, Bool, true, false, Some, IfSome, is_som
 use Rattle.std.proofs.lemmas.Option.{slice_get_read}
 use Rattle.yv_nodes.specs.declared.node.NodeId.{NodeId}
 use Rattle.yv_nodes.specs.Rows.{Row}
-use Rattle.yv_node_definition.specs.Steps.{Step}
+use Rattle.yv_node_content.specs.Steps.{Step}
 use Rattle.yv_node_keys.specs.Numbers.{unique_leaf_at}
-use Rattle.yv_node_definition.specs.Definition.{paths_in}
+use Rattle.yv_node_content.specs.Definition.{paths_in}
 use Rattle.yv_node_keys.specs.InnerMixedConfig.{is_bad_statement_at}
 use Rattle.yv_node_keys.proofs.Listing.{any_more, any_there, item_read, mapped_more}
-use Rattle.yv_node_keys.proofs.Mixing.{not_false, not_true}
+use Rattle.yv_node_keys.proofs.MixedConfig.{not_false, not_true}
 use Rattle.yv_node_keys.proofs.unique.all_leafs.Goals as goal
 use Rattle.yv_node_keys.proofs.unique.all_leafs.Goals.{After-statement_leafs, In_ok-leafs}
 

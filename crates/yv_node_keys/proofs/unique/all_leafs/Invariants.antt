@@ -1,7 +1,7 @@
 use Rattle.std.proofs.Common.{◌≡◌, Some, false, map, take}
 use Rattle.std.specs.List.{list_any}
 use Rattle.yv_node_keys.specs.Numbers.{unique_leaf_at}
-use Rattle.yv_node_definition.specs.Definition.{paths_in}
+use Rattle.yv_node_content.specs.Definition.{paths_in}
 use Rattle.yv_node_keys.specs.InnerMixedConfig.{is_bad_statement_at}
 use Rattle.yv_node_keys.proofs.unique.all_leafs.Given as goal
 

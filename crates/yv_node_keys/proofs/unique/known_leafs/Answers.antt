@@ -1,5 +1,5 @@
 use Rattle.std.proofs.Common.{map}
-use Rattle.yv_node_definition.specs.Definition.{paths_in}
+use Rattle.yv_node_content.specs.Definition.{paths_in}
 use Rattle.yv_node_keys.proofs.unique.known_leafs.Goals as goal
 
 pub returns-clause-numbers : goal.returns-clause-numbers

@@ -2,7 +2,7 @@ use Rattle.std.proofs.Common.{◌≡◌, ◌≤◌, None, is_some, not, List, ma
 use Rattle.std.proofs.lemmas.List.{length-map, take_all}
 use Rattle.yv_nodes.specs.declared.node.NodeId.{NodeId}
 use Rattle.yv_nodes.specs.Rows.{Row}
-use Rattle.yv_node_definition.specs.Steps.{Step}
+use Rattle.yv_node_content.specs.Steps.{Step}
 use Rattle.yv_node_keys.specs.Numbers.{unique_leaf_at}
 use Rattle.yv_node_keys.proofs.Listing.{any_there, item_read, none_missing, values_more}
 use Rattle.yv_node_keys.proofs.unique.named_leafs.Goals as goal

@@ -1,10 +1,10 @@
 use Rattle.std.proofs.Common.{◌≡◌, Some, IfSome, not, List, map, sym, ap, ◌∙◌, subst, Option, Vec, Global}
 use Rattle.yv_nodes.specs.declared.node.NodeId.{NodeId}
 use Rattle.yv_nodes.specs.Rows.{Row}
-use Rattle.yv_node_definition.specs.Steps.{Step}
+use Rattle.yv_node_content.specs.Steps.{Step}
 use Rattle.yv_node_keys.specs.Numbers.{unique_leaf_at}
 use Rattle.yv_node_keys.specs.InnerMixedConfig.{is_mixed_at}
-use Rattle.yv_node_keys.proofs.Mixing.{bad_is}
+use Rattle.yv_node_keys.proofs.MixedConfig.{bad_is}
 use Rattle.yv_node_keys.proofs.unique.statement_leafs.Goals as goal
 use Rattle.yv_node_keys.proofs.unique.statement_leafs.Goals.{After-is_mixed}
 

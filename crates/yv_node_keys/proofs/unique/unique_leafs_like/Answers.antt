@@ -4,11 +4,11 @@ use Rattle.std.specs.Option.{option_map}
 use Rattle.std.proofs.lemmas.List.{length-map}
 use Rattle.yv_nodes.specs.declared.node.NodeId.{NodeId}
 use Rattle.yv_nodes.specs.Rows.{Row}
-use Rattle.yv_node_definition.specs.Steps.{Step}
+use Rattle.yv_node_content.specs.Steps.{Step}
 use Rattle.yv_node_keys.specs.Numbers.{tree_in, unique_leaf_at}
-use Rattle.yv_node_definition.specs.Definition.{paths_in}
+use Rattle.yv_node_content.specs.Definition.{paths_in}
 use Rattle.yv_node_keys.specs.InnerMixedConfig.{is_bad_statement_at}
-use Rattle.yv_node_keys.proofs.Mixing.{unique_is}
+use Rattle.yv_node_keys.proofs.MixedConfig.{unique_is}
 use Rattle.yv_node_keys.proofs.unique.unique_leafs_like.Goals as goal
 
 pub returns-clause-refuses : goal.returns-clause-refuses

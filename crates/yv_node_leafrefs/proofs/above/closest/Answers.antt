@@ -1,8 +1,8 @@
 use Rattle.std.proofs.Common.{◌≡◌, ◌<◌, length, refl, sym, ap, ◌∙◌, arith, Some}
 use Rattle.std.proofs.lemmas.Option.{slice_get_read}
 use Rattle.std.specs.List.{slice_get}
-use Rattle.yv_node_definition.specs.Kinds.{is_passed}
-use Rattle.yv_node_leafrefs.proofs.Placing.{closest_none, closest_here, closest_further}
+use Rattle.yv_node_content.specs.Kinds.{is_passed}
+use Rattle.yv_node_leafrefs.proofs.AncestorPlaces.{closest_none, closest_here, closest_further}
 use Rattle.yv_node_leafrefs.proofs.above.closest.Goals as goal
 
 pub returns-in-None : goal.returns-in-None

@@ -1,9 +1,9 @@
 use Rattle.std.proofs.Common.{refl, sym, ap, ◌∙◌, subst, Option}
 use Rattle.std.proofs.lemmas.Bool.{false≢true}
-use Rattle.yv_node_definition.specs.Kinds.{is_operation_or_notification}
+use Rattle.yv_node_content.specs.Kinds.{is_operation_or_notification}
 use Rattle.yv_node_leafrefs.specs.Above as above
 use Rattle.yv_node_leafrefs.specs.Above.{IsInside}
-use Rattle.yv_node_leafrefs.proofs.Placing.{inside_by_parent, outside_at_top}
+use Rattle.yv_node_leafrefs.proofs.AncestorPlaces.{inside_by_parent, outside_at_top}
 use Rattle.yv_node_leafrefs.proofs.above.is_inside.Goals as goal
 
 pub returns-then-is_operation_or_notification : goal.returns-then-is_operation_or_notification

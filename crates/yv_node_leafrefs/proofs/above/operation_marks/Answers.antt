@@ -1,7 +1,7 @@
 use Rattle.std.proofs.Common.{◌≡◌, ◌+◌, length, refl, ◌∙◌, ap}
 use Rattle.std.proofs.lemmas.Option.{slice_get_read}
 use Rattle.yv_node_leafrefs.specs.InnerOutline.{AreInside}
-use Rattle.yv_node_leafrefs.proofs.Placing.{inside_more, longer}
+use Rattle.yv_node_leafrefs.proofs.AncestorPlaces.{inside_more, longer}
 use Rattle.yv_node_leafrefs.proofs.above.operation_marks.Goals as goal
 
 pub loop-node-preserved : goal.loop-node-preserved

@@ -1,6 +1,6 @@
 use Rattle.std.proofs.Common.{refl}
 use Rattle.std.proofs.lemmas.Option.{slice_get_read}
-use Rattle.yv_node_leafrefs.proofs.Finding.{keys_more}
+use Rattle.yv_node_leafrefs.proofs.KeyLookup.{keys_more}
 use Rattle.yv_node_leafrefs.proofs.draft.data_keys.Goals as goal
 
 pub loop-number-preserved : goal.loop-number-preserved

@@ -1,5 +1,5 @@
 use Rattle.std.proofs.Common.{length, ◌∙◌, ap}
-use Rattle.yv_node_leafrefs.proofs.Edging.{cycles_in, graph_in}
+use Rattle.yv_node_leafrefs.proofs.LeafrefGraph.{cycles_in, graph_in}
 use Rattle.yv_node_leafrefs.proofs.graph.cycles.Goals as goal
 
 pub nodes_on_cycles-requires : goal.nodes_on_cycles-requires

@@ -1,5 +1,5 @@
 use Rattle.std.proofs.Common.{◌≡◌, length, refl, arith}
-use Rattle.yv_node_leafrefs.proofs.Edging.{edges_more}
+use Rattle.yv_node_leafrefs.proofs.LeafrefGraph.{edges_more}
 use Rattle.yv_node_leafrefs.proofs.graph.graph.Goals as goal
 
 pub loop-target-preserved : goal.loop-target-preserved

@@ -1,4 +1,4 @@
-use Rattle.yv_node_leafrefs.proofs.Edging.{graph_in, clear_of_cycles, behind_in, all_in}
+use Rattle.yv_node_leafrefs.proofs.LeafrefGraph.{graph_in, clear_of_cycles, behind_in, all_in}
 use Rattle.yv_node_leafrefs.proofs.graph.order.Goals as goal
 
 pub rank-requires : goal.rank-requires

@@ -1,7 +1,7 @@
 use Rattle.std.proofs.Common.{◌≡◌, ◌<◌, ◌≤◌, ℕ, List, length, slice_index, refl, ◌∙◌, ap, arith, length-set}
 use Rattle.std.proofs.Math.ListN.{set}
 use Rattle.yv_node_leafrefs.specs.InnerGraph.{IsBehind}
-use Rattle.yv_node_leafrefs.proofs.Edging.{origins_more}
+use Rattle.yv_node_leafrefs.proofs.LeafrefGraph.{origins_more}
 use Rattle.yv_node_leafrefs.proofs.graph.origins.Goals as goal
 
 pub loop-node-preserved : goal.loop-node-preserved

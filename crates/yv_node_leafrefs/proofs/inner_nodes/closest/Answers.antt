@@ -1,7 +1,7 @@
 use Rattle.std.proofs.Common.{◌≡◌, ◌<◌, true, length, refl, sym, ap, ◌∙◌, arith, Some}
 use Rattle.std.proofs.lemmas.Option.{slice_get_read}
 use Rattle.std.specs.List.{slice_get}
-use Rattle.yv_node_definition.specs.Kinds.{is_passed}
+use Rattle.yv_node_content.specs.Kinds.{is_passed}
 use Rattle.yv_node_leafrefs.specs.Links.{is_inner}
 use Rattle.yv_node_leafrefs.proofs.LinkPlacing.{at_passed, at_inner, at_other, passed_kind, inner_kind, other_kind}
 use Rattle.yv_node_leafrefs.proofs.inner_nodes.closest.Goals as goal

@@ -1,4 +1,4 @@
-use Rattle.yv_node_leafrefs.proofs.Required.{has_reference}
+use Rattle.yv_node_leafrefs.proofs.LeafrefLinks.{has_reference}
 use Rattle.yv_node_leafrefs.proofs.link_laws.leafrefs_have_links.Goals as goal
 
 pub returns : goal.returns

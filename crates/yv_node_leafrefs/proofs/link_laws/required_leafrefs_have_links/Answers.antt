@@ -1,4 +1,4 @@
-use Rattle.yv_node_leafrefs.proofs.Required.{has_link}
+use Rattle.yv_node_leafrefs.proofs.LeafrefLinks.{has_link}
 use Rattle.yv_node_leafrefs.proofs.link_laws.required_leafrefs_have_links.Goals as goal
 
 pub returns : goal.returns

@@ -3,8 +3,8 @@ use Rattle.std.proofs.lemmas.Option.{slice_get_read, slice_get-get_or}
 use Rattle.std.specs.List.{slice_get}
 use Rattle.yv_nodes.specs.Rows.{Row}
 use Rattle.yv_node_leafrefs.specs.InnerNames.{told_of}
-use Rattle.yv_node_leafrefs.proofs.Placing.{longer}
-use Rattle.yv_node_leafrefs.proofs.Naming.{numbers_next}
+use Rattle.yv_node_leafrefs.proofs.AncestorPlaces.{longer}
+use Rattle.yv_node_leafrefs.proofs.NameNumbers.{numbers_next}
 use Rattle.yv_node_leafrefs.proofs.names.number_names.Goals as goal
 
 pub loop-number-preserved : goal.loop-number-preserved

@@ -1,6 +1,6 @@
 use Rattle.std.proofs.Common.{◌≤◌, length, get_or, arith}
 use Rattle.std.proofs.lemmas.Option.{slice_get-get_or}
-use Rattle.yv_statement.proofs.Least.{least_more}
+use Rattle.yv_text_statement.proofs.Least.{least_more}
 use Rattle.yv_nodes.specs.Rows.{Row, blank_row}
 use Rattle.yv_node_leafrefs.specs.Bad.{BadLeafref}
 use Rattle.yv_node_leafrefs.specs.InnerOutline.{rows_in, schema_in}

@@ -1,4 +1,4 @@
-use Rattle.yv_statement.specs.Order.{IsLeast, Among}
+use Rattle.yv_text_statement.specs.Order.{IsLeast, Among}
 use Rattle.yv_node_leafrefs.specs.Bad.{BadLeafref}
 use Rattle.yv_node_leafrefs.specs.InnerOutline.{rows_in, schema_in}
 use Rattle.yv_node_leafrefs.proofs.refusals.first_refusal.Given as goal

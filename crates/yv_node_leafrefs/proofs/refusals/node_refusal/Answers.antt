@@ -1,7 +1,7 @@
 use Rattle.std.proofs.Common.{◌≡◌, refl, sym, ◌∙◌}
 use Rattle.std.proofs.lemmas.Option.{same_Some, slice_get_read}
-use Rattle.yv_statement.specs.declared.refusal.Code.TheVariants as code
-use Rattle.yv_statement.proofs.Least.{least_lesser}
+use Rattle.yv_text_statement.specs.declared.refusal.Code.TheVariants as code
+use Rattle.yv_text_statement.proofs.Least.{least_lesser}
 use Rattle.yv_nodes.specs.Refusals.{refusal_of}
 use Rattle.yv_node_leafrefs.specs.Targets.{LeadsTo}
 use Rattle.yv_node_leafrefs.specs.Bad.{IsLost}

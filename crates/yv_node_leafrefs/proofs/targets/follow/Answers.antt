@@ -2,12 +2,12 @@ use Rattle.std.proofs.Common.{◌≡◌, ◌↔◌, ◌<◌, ℕ, List, Option, 
 use Rattle.std.proofs.lemmas.Option.{slice_get_read, slice_get_within}
 use Rattle.std.specs.List.{slice_get}
 use Rattle.yv_nodes.specs.Rows.{Row}
-use Rattle.yv_node_definition.specs.Steps.{Step}
+use Rattle.yv_node_content.specs.Steps.{Step}
 use Rattle.yv_node_leafrefs.specs.Schema.{Schema}
 use Rattle.yv_node_leafrefs.specs.Targets.{RefersTo, is_fit}
 use Rattle.yv_node_leafrefs.specs.Ways.{Begins, Leads}
 use Rattle.yv_node_leafrefs.specs.InnerOutline.{rows_in, schema_in}
-use Rattle.yv_node_leafrefs.proofs.Targeting.{lost_start, lost_walk, fits, misfits, nothing, target_within}
+use Rattle.yv_node_leafrefs.proofs.LeafrefTargets.{lost_start, lost_walk, fits, misfits, nothing, target_within}
 use Rattle.yv_node_leafrefs.proofs.targets.follow.Goals as goal
 
 pub start-requires-clause-within : goal.start-requires-clause-within

@@ -4,7 +4,7 @@ use Rattle.std.proofs.lemmas.List.{get_or_default}
 use Rattle.std.proofs.lemmas.Option.{slice_get-get_or}
 use Rattle.yv_nodes.specs.Rows.{blank_row}
 use Rattle.yv_node_leafrefs.specs.InnerOutline.{rows_in}
-use Rattle.yv_node_leafrefs.proofs.Targeting.{one_exactly}
+use Rattle.yv_node_leafrefs.proofs.LeafrefTargets.{one_exactly}
 use Rattle.yv_node_leafrefs.proofs.targets.is_leafref.Goals as goal
 
 pub returns-in-Some : goal.returns-in-Some

@@ -2,7 +2,7 @@ use Rattle.std.proofs.Common.{◌≡◌, ◌<◌, Some, length, refl, ◌∙◌,
 use Rattle.std.proofs.lemmas.Option.{slice_get_read, slice_get_within}
 use Rattle.std.specs.List.{slice_get}
 use Rattle.yv_node_leafrefs.specs.InnerOutline.{leafrefs_in}
-use Rattle.yv_node_leafrefs.proofs.Finding.{as_many, both_at}
+use Rattle.yv_node_leafrefs.proofs.KeyLookup.{as_many, both_at}
 use Rattle.yv_node_leafrefs.proofs.targets.target.Goals as goal
 
 pub follow-requires-clause-strides : goal.follow-requires-clause-strides

@@ -1,7 +1,7 @@
 use Rattle.std.proofs.Common.{◌≡◌, ◌+◌, ◌≤◌, length, ◌∙◌, ap, arith}
 use Rattle.yv_node_leafrefs.specs.InnerOutline.{rows_in, schema_in}
-use Rattle.yv_node_leafrefs.proofs.Placing.{longer}
-use Rattle.yv_node_leafrefs.proofs.Targeting.{targets_more, targets_all}
+use Rattle.yv_node_leafrefs.proofs.AncestorPlaces.{longer}
+use Rattle.yv_node_leafrefs.proofs.LeafrefTargets.{targets_more, targets_all}
 use Rattle.yv_node_leafrefs.proofs.targets.targets.Goals as goal
 
 pub loop-number-preserved : goal.loop-number-preserved

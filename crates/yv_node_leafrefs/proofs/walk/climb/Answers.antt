@@ -5,8 +5,8 @@ use Rattle.yv_node_leafrefs.specs.InnerOutline.{rows_in}
 use Rattle.yv_node_leafrefs.specs.Ways.{Climbs}
 use Rattle.yv_node_leafrefs.specs.declared.outline.Outline.{Outline}
 use Rattle.yv_node_leafrefs.specs.InnerIndex.{IsDraft}
-use Rattle.yv_node_leafrefs.proofs.Closing.{climbs_next, climbs_past, climbs_done}
-use Rattle.yv_node_leafrefs.proofs.Finding.{above_of, up_within}
+use Rattle.yv_node_leafrefs.proofs.ClimbUniqueness.{climbs_next, climbs_past, climbs_done}
+use Rattle.yv_node_leafrefs.proofs.KeyLookup.{above_of, up_within}
 use Rattle.yv_node_leafrefs.proofs.walk.climb.Goals as goal
 
 pub returns-in_default : goal.returns-in_default

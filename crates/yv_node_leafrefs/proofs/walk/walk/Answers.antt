@@ -4,7 +4,7 @@ use Rattle.std.proofs.lemmas.Option.{none-some, slice_get-get_or}
 use Rattle.yv_node_leafrefs.specs.InnerNames.{told_of}
 use Rattle.yv_node_leafrefs.specs.InnerOutline.{rows_in}
 use Rattle.yv_node_leafrefs.specs.InnerIndex.{table_of}
-use Rattle.yv_node_leafrefs.proofs.Leading.{leads_next, leads_nowhere, leads_done}
+use Rattle.yv_node_leafrefs.proofs.PathSteps.{leads_next, leads_nowhere, leads_done}
 use Rattle.yv_node_leafrefs.proofs.walk.walk.Goals as goal
 
 pub returns-in_err-node : goal.returns-in_err-node

@@ -1,5 +1,5 @@
 use Rattle.std.proofs.Common.{◌≡◌, ◌↔◌, ℕ, List, Option, map, drop}
-use Rattle.yv_node_definition.specs.Steps.{Step}
+use Rattle.yv_node_content.specs.Steps.{Step}
 use Rattle.yv_node_leafrefs.specs.Ways.{Leads}
 use Rattle.yv_node_leafrefs.specs.InnerNames.{told_of, stride_of}
 use Rattle.yv_node_leafrefs.specs.InnerOutline.{rows_in}

@@ -1,4 +1,4 @@
-use Rattle.yv_node_paths.proofs.Beginning.{begins_within}
+use Rattle.yv_node_paths.proofs.PathTexts.{begins_within}
 use Rattle.yv_node_paths.proofs.laws.paths_in_what_fits_begin.Goals as goal
 
 pub returns : goal.returns

@@ -1,4 +1,4 @@
-use Rattle.yv_node_paths.proofs.Fitting.{begins_in_files}
+use Rattle.yv_node_paths.proofs.PathStarts.{begins_in_files}
 use Rattle.yv_node_paths.proofs.laws.paths_of_files_begin.Goals as goal
 
 pub returns : goal.returns

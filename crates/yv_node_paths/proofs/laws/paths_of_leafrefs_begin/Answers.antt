@@ -1,4 +1,4 @@
-use Rattle.yv_node_paths.proofs.Beginning.{begins}
+use Rattle.yv_node_paths.proofs.PathTexts.{begins}
 use Rattle.yv_node_paths.proofs.laws.paths_of_leafrefs_begin.Goals as goal
 
 pub returns : goal.returns

@@ -1,6 +1,6 @@
 use Rattle.std.proofs.Common.{lit<}
 use Rattle.std.proofs.lemmas.Str.Pattern.{strip_prefix_char}
-use Rattle.yv_node_paths.proofs.Referring.{rooted}
+use Rattle.yv_node_paths.proofs.PathPieces.{rooted}
 use Rattle.yv_node_paths.proofs.referral.behind_root.Goals as goal
 
 pub returns : goal.returns

@@ -5,7 +5,7 @@ use Rattle.std.proofs.lemmas.Iterator.Consumers.{YieldsList-at, count_from_yield
 use Rattle.std.proofs.lemmas.Iterator.Search.{YieldsList-from_take_while}
 use Rattle.std.proofs.lemmas.List.Folds.{length-prefix_len}
 use Rattle.yv_node_paths.specs.Referral.{is_up}
-use Rattle.yv_node_paths.proofs.Referring.{prefix_len-map}
+use Rattle.yv_node_paths.proofs.PathPieces.{prefix_len-map}
 use Rattle.yv_node_paths.proofs.referral.ups.Goals as goal
 
 pub returns-clause-count : goal.returns-clause-count

@@ -1,6 +1,6 @@
 use Rattle.std.proofs.Common.{◌++◌, [], ◌∷◌, List, map, ap, ◌∙◌}
-use Rattle.yv_statement.specs.Tree.{Tree}
-use Rattle.yv_statement.specs.TextInFile.{written_of}
+use Rattle.yv_text_statement.specs.Tree.{Tree}
+use Rattle.yv_text_statement.specs.TextInFile.{written_of}
 use Rattle.yv_node_statements.specs.InnerChanges.{defaults_among}
 use Rattle.yv_node_statements.proofs.Listing.{defaults_more}
 use Rattle.yv_node_statements.proofs.changes.default_texts.Goals as goal

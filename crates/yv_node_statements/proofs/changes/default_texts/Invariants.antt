@@ -1,5 +1,5 @@
 use Rattle.std.proofs.Common.{◌≡◌, ◌++◌, drop, map}
-use Rattle.yv_statement.specs.TextInFile.{written_of}
+use Rattle.yv_text_statement.specs.TextInFile.{written_of}
 use Rattle.yv_node_statements.specs.InnerChanges.{defaults_among}
 use Rattle.yv_node_statements.proofs.changes.default_texts.Given as goal
 

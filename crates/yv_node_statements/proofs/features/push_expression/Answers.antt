@@ -1,8 +1,8 @@
 use Rattle.std.proofs.Common.{◌∙◌, ◌++◌, ◌∷◌, [], List, ℕ, ap, string_bytes, sym}
 use Rattle.std.proofs.lemmas.Result.{IfOk-weaker}
 use Rattle.yv_node_statements.specs.Features.{with_single_spaces, with_expressions}
-use Rattle.yv_node_statements.proofs.Separating.{none_added, one_added}
-use Rattle.yv_node_statements.proofs.Spacing.{empty_text, spaced_some}
+use Rattle.yv_node_statements.proofs.CommaLists.{none_added, one_added}
+use Rattle.yv_node_statements.proofs.BlankRuns.{empty_text, spaced_some}
 use Rattle.yv_node_statements.proofs.features.push_expression.Goals as goal
 
 pub returns-then-is_empty : goal.returns-then-is_empty

@@ -3,7 +3,7 @@ use Rattle.std.specs.Str.{chars}
 use Rattle.std.proofs.lemmas.Iterator.{YieldsList-from_chars}
 use Rattle.std.proofs.lemmas.List.{map-id}
 use Rattle.std.proofs.lemmas.Iterator.Consumers.{YieldsList-end}
-use Rattle.yv_node_statements.proofs.Spacing.{ends_blank-more, written, written_letter, written_nothing, written_space}
+use Rattle.yv_node_statements.proofs.BlankRuns.{ends_blank-more, written, written_letter, written_nothing, written_space}
 use Rattle.yv_node_statements.proofs.features.push_spaced.Goals as goal
 
 pub loop-character-preserved-in_ok-push : goal.loop-character-preserved-in_ok-push

@@ -1,5 +1,5 @@
 use Rattle.std.proofs.Common.{◌≡◌, false, string_bytes}
-use Rattle.yv_node_statements.proofs.Spacing.{ends_blank, written}
+use Rattle.yv_node_statements.proofs.BlankRuns.{ends_blank, written}
 use Rattle.yv_node_statements.proofs.features.push_spaced.Given as goal
 
 abbrev pub invariant-loop-character : goal.invariant-loop-character

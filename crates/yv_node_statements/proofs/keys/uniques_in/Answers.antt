@@ -1,6 +1,6 @@
 use Rattle.std.proofs.Common.{◌++◌, [], ◌∷◌, List, map, ap, ◌∙◌}
-use Rattle.yv_statement.specs.Tree.{Tree}
-use Rattle.yv_node_definition.specs.Definition.{paths_in}
+use Rattle.yv_text_statement.specs.Tree.{Tree}
+use Rattle.yv_node_content.specs.Definition.{paths_in}
 use Rattle.yv_node_statements.specs.Definitions.{uniques_in}
 use Rattle.yv_node_statements.proofs.Listing.{uniques_more}
 use Rattle.yv_node_statements.proofs.keys.uniques_in.Goals as goal

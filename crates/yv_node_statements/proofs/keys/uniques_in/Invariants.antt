@@ -1,7 +1,7 @@
 use Rattle.std.proofs.Common.{◌≡◌, ◌++◌, drop, map}
 use Rattle.yv_link_scopes.specs.Files.{Files}
 use Rattle.yv_node_paths.specs.LeafPaths.{AreLeafPaths}
-use Rattle.yv_node_definition.specs.Definition.{paths_in}
+use Rattle.yv_node_content.specs.Definition.{paths_in}
 use Rattle.yv_node_statements.specs.Definitions.{uniques_in}
 use Rattle.yv_node_statements.proofs.keys.uniques_in.Given as goal
 

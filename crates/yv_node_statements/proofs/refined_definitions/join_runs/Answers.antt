@@ -1,6 +1,6 @@
 use Rattle.std.proofs.Common.{◌≡◌, ℕ, List, [], ap, rules, ◌∙◌}
 use Rattle.yv_node_statements.specs.InnerRefinedStore.{with_runs}
-use Rattle.yv_node_statements.proofs.Following.{none_left, one_less, read}
+use Rattle.yv_node_statements.proofs.RefineRuns.{none_left, one_less, read}
 use Rattle.yv_node_statements.proofs.refined_definitions.join_runs.Goals as goal
 
 pub loop-run-preserved : goal.loop-run-preserved

@@ -1,7 +1,7 @@
 use Rattle.std.proofs.Common.{Option, ap, ◌∙◌}
 use Rattle.std.specs.Option.{unwrap_or}
 use Rattle.std.proofs.lemmas.Option.{unwrap_or-slice_get}
-use Rattle.yv_statement.specs.Tree.{Tree}
+use Rattle.yv_text_statement.specs.Tree.{Tree}
 use Rattle.yv_link_scopes.specs.Views.{trees_in}
 use Rattle.yv_node_properties.specs.Statements.{no_statement}
 use Rattle.yv_node_statements.proofs.statements.statement_at.Goals as goal

@@ -2,8 +2,8 @@ use Rattle.std.proofs.Common.{◌≡◌, ◌+◌, ◌++◌, ◌∷◌, List, dro
 use Rattle.std.proofs.lemmas.List.{at_drop_more}
 use Rattle.yv_values.specs.Types.{Plain, plain_of}
 use Rattle.yv_values.specs.Values.{Val}
-use Rattle.yv_statement.specs.TextInFile.{written_of}
-use Rattle.yv_statement.specs.declared.written_text.WrittenText.{WrittenText}
+use Rattle.yv_text_statement.specs.TextInFile.{written_of}
+use Rattle.yv_text_statement.specs.declared.written_text.WrittenText.{WrittenText}
 use Rattle.yv_node_statements.specs.Values.{alone, value_of, values_of}
 use Rattle.yv_node_statements.proofs.values.values_of.Goals as goal
 

@@ -1,7 +1,7 @@
 use Rattle.std.proofs.Common.{◌≡◌, ◌≤◌, ◌++◌, drop, length, map}
 use Rattle.yv_link_scopes.specs.Files.{Files}
 use Rattle.yv_values.specs.Types.{plain_of}
-use Rattle.yv_statement.specs.TextInFile.{written_of}
+use Rattle.yv_text_statement.specs.TextInFile.{written_of}
 use Rattle.yv_types.specs.Scopes.{AreScopes}
 use Rattle.yv_node_statements.specs.Values.{values_of}
 use Rattle.yv_node_statements.proofs.values.values_of.Given as goal

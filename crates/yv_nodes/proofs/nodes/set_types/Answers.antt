@@ -4,7 +4,7 @@ use Rattle.yv_nodes.specs.Rows.{Row}
 use Rattle.yv_nodes.specs.NodeTypes.{typed_row}
 use Rattle.yv_nodes.specs.InnerTypes.{with_own_types, types_in}
 use Rattle.std.proofs.lemmas.List.{length-map, map_push}
-use Rattle.yv_nodes.proofs.Retyping.{all_given, empty, last_given}
+use Rattle.yv_nodes.proofs.RowTypes.{all_given, empty, last_given}
 use Rattle.yv_nodes.proofs.nodes.set_types.Goals as goal
 
 pub loop-types-init : goal.loop-types-init

@@ -1,10 +1,10 @@
 use Rattle.std.proofs.Common.{◌≡◌, ◌++◌, ◌∙◌, ap, List, ℕ, length, min, string_bytes}
-use Rattle.yv_statement.specs.Tree.{Head, name_of}
-use Rattle.yv_streams.specs.Files.{File, file_of}
+use Rattle.yv_text_statement.specs.Tree.{Head, name_of}
+use Rattle.yv_base_streams.specs.Files.{File, file_of}
 use Rattle.yv_note_text.specs.Excerpt.{ShowsPlace}
 use Rattle.yv_note_text.specs.Quotes.{in_quotes}
 use Rattle.yv_note_patterns.specs.PatternFailure.{TellsOf, unbuilt_line}
-use Rattle.yv_note_text.proofs.Quoting.{grown}
+use Rattle.yv_note_text.proofs.QuotedWords.{grown}
 use Rattle.yv_note_patterns.proofs.pattern_failure.pattern_message.Goals as goal
 
 -- a text that was put together so tells of the statement

@@ -1,9 +1,9 @@
 use Rattle.std.proofs.Common.{rules, ◌≡◌, ◌∙◌, List, length, map, sym, subst}
 use Rattle.std.specs.List.{AllZip}
 use Rattle.std.proofs.lemmas.List.{length-map}
-use Rattle.yv_statement.specs.Tree.{Tree}
+use Rattle.yv_text_statement.specs.Tree.{Tree}
 use Rattle.yv_link_scopes.specs.Views.{lent_in, rows_in}
-use Rattle.yv_streams.specs.Files.{File, file_of}
+use Rattle.yv_base_streams.specs.Files.{File, file_of}
 use Rattle.yv_source.specs.FileStatements.{IsRead}
 use Rattle.yv_note_patterns.specs.PatternFailure.{AreNoPatterns, HasNoPattern, read, unread}
 use Rattle.yv_note_patterns.proofs.NoPattern.{none_then, same_length}

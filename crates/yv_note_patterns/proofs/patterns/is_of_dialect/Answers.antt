@@ -1,7 +1,7 @@
 use Rattle.std.proofs.Common.{◌≡◌, ℕ, List, subst}
-use Rattle.yv_statement.specs.declared.refusal.Refusal.{Refusal}
-use Rattle.yv_statement.specs.declared.refusal.Stop.{Stop}
-use Rattle.yv_statement.specs.declared.refusal.Stop.TheVariants as stop
+use Rattle.yv_text_statement.specs.declared.refusal.Refusal.{Refusal}
+use Rattle.yv_text_statement.specs.declared.refusal.Stop.{Stop}
+use Rattle.yv_text_statement.specs.declared.refusal.Stop.TheVariants as stop
 use Rattle.yv_pattern.specs.Spells.{IsRefusedAs}
 use Rattle.yv_note_patterns.specs.PatternFailure.{IsOfDialect}
 use Rattle.yv_note_patterns.proofs.patterns.is_of_dialect.Goals as goal

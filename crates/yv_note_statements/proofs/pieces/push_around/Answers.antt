@@ -1,5 +1,5 @@
 use Rattle.std.proofs.Common.{string_bytes}
-use Rattle.yv_note_text.proofs.Quoting.{quotes_within}
+use Rattle.yv_note_text.proofs.QuotedWords.{quotes_within}
 use Rattle.yv_note_statements.proofs.pieces.push_around.Goals as goal
 
 pub returns-clause-names : goal.returns-clause-names

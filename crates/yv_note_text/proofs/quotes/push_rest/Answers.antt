@@ -1,5 +1,5 @@
 use Rattle.std.proofs.Common.{string_bytes}
-use Rattle.yv_note_text.proofs.Quoting.{further, as_before}
+use Rattle.yv_note_text.proofs.QuotedWords.{further, as_before}
 use Rattle.yv_note_text.proofs.quotes.push_rest.Goals as goal
 
 pub returns-in_err-push_str-clause-grows : goal.returns-in_err-push_str-clause-grows

@@ -1,4 +1,4 @@
-use Rattle.yv_streams.proofs.StreamLemmas.{gave_up_to}
+use Rattle.yv_base_streams.proofs.StreamLemmas.{gave_up_to}
 use Rattle.yv_run.proofs.RunLemmas.{both}
 use Rattle.yv_run.proofs.answers.validate_document.Goals as goal
 

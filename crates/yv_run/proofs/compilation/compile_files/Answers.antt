@@ -1,9 +1,9 @@
 use Rattle.std.proofs.Common.{map}
 use Rattle.std.specs.List.{AllZip}
-use Rattle.yv_statement.specs.Selection.{selected_of}
+use Rattle.yv_text_statement.specs.Selection.{selected_of}
 use Rattle.yv_source.specs.FileStatements.{IsRead}
 use Rattle.yv_run.specs.Compiles.{refuses}
-use Rattle.yv_streams.specs.Files.{file_of}
+use Rattle.yv_base_streams.specs.Files.{file_of}
 use Rattle.yv_run.proofs.FileLemmas.{all_given, err_again, is_schema, refuses_unread}
 use Rattle.yv_run.proofs.compilation.compile_files.Goals as goal
 

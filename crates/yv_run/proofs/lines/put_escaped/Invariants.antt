@@ -1,7 +1,7 @@
 use Rattle.std.proofs.Common.{take}
-use Rattle.yv_streams.specs.Stream.{has_failed, stream_failures, stream_inner}
-use Rattle.yv_faults.specs.Line.{escape}
-use Rattle.yv_streams.specs.Pages.{Adds, output_of}
+use Rattle.yv_base_streams.specs.Stream.{has_failed, stream_failures, stream_inner}
+use Rattle.yv_data_faults.specs.Line.{escape}
+use Rattle.yv_base_streams.specs.Pages.{Adds, output_of}
 use Rattle.yv_run.proofs.lines.put_escaped.Given as goal
 
 abbrev pub invariant-loop-byte : goal.invariant-loop-byte

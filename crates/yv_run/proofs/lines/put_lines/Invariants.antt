@@ -1,7 +1,7 @@
 use Rattle.std.proofs.Common.{take}
-use Rattle.yv_streams.specs.Stream.{has_failed, stream_failures, stream_inner}
+use Rattle.yv_base_streams.specs.Stream.{has_failed, stream_failures, stream_inner}
 use Rattle.yv_run.specs.Lines.{fault_lines}
-use Rattle.yv_streams.specs.Pages.{Adds, output_of}
+use Rattle.yv_base_streams.specs.Pages.{Adds, output_of}
 use Rattle.yv_run.proofs.lines.put_lines.Given as goal
 
 abbrev pub invariant-loop-fault : goal.invariant-loop-fault

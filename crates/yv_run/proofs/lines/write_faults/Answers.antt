@@ -1,7 +1,7 @@
 use Rattle.std.proofs.Common.{◌≡◌, [], sym, ◌∙◌, false}
-use Rattle.yv_streams.specs.Stream.{has_failed, stream_failures, stream_inner}
+use Rattle.yv_base_streams.specs.Stream.{has_failed, stream_failures, stream_inner}
 use Rattle.yv_run.specs.Lines.{fault_lines, faults_text}
-use Rattle.yv_streams.proofs.Paging.{all_written, front_written, none_written, not_failed, not_failed_yet, once_written}
+use Rattle.yv_base_streams.proofs.PageWrites.{all_written, front_written, none_written, not_failed, not_failed_yet, once_written}
 use Rattle.yv_run.proofs.lines.write_faults.Goals as goal
 
 pub returns-clause-ends : goal.returns-clause-ends

@@ -1,6 +1,6 @@
 use Rattle.std.proofs.Common.{◌≡◌, ◌-◌, false}
 use Rattle.std.specs.Io.KnownBytes.{Keeps}
-use Rattle.yv_streams.specs.Stream.{stream_inner, stream_interrupts, has_failed}
+use Rattle.yv_base_streams.specs.Stream.{stream_inner, stream_interrupts, has_failed}
 use Rattle.yv_run.proofs.output.flush_all.Given as goal
 
 abbrev pub invariant-loop-writer : goal.invariant-loop-writer

@@ -1,5 +1,5 @@
 use Rattle.std.proofs.Common.{map, string_bytes}
-use Rattle.yv_streams.specs.Files.{file_of}
+use Rattle.yv_base_streams.specs.Files.{file_of}
 use Rattle.yv_run.proofs.PatternLemmas.{notes_pattern}
 use Rattle.yv_run.proofs.whole_run.pattern_note.Goals as goal
 

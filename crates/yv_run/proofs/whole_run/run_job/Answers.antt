@@ -1,9 +1,9 @@
 use Rattle.std.proofs.Common.{ap, map}
 use Rattle.std.proofs.lemmas.Result.{IfOk-weaker}
-use Rattle.yv_statement.specs.declared.refusal.Stop.{Stop}
+use Rattle.yv_text_statement.specs.declared.refusal.Stop.{Stop}
 use Rattle.yv_job.specs.Jobs.{task_of}
 use Rattle.yv_nodes.specs.Rows.{Rows}
-use Rattle.yv_streams.specs.Files.{file_of}
+use Rattle.yv_base_streams.specs.Files.{file_of}
 use Rattle.yv_run.proofs.FileLemmas.{failed}
 use Rattle.yv_run.proofs.RunLemmas.{both, runs_built, runs_refused}
 use Rattle.yv_run.proofs.whole_run.run_job.Goals as goal

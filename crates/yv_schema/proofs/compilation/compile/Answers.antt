@@ -1,7 +1,7 @@
 use Rattle.std.proofs.Common.{ℕ, ◌≤◌, length, None, IfOk, OnOk}
 use Rattle.std.specs.Prelude.{Result}
-use Rattle.yv_statement.specs.Order.{IsLeast}
-use Rattle.yv_statement.specs.Selection.{ModuleChoice, selected_of}
+use Rattle.yv_text_statement.specs.Order.{IsLeast}
+use Rattle.yv_text_statement.specs.Selection.{ModuleChoice, selected_of}
 use Rattle.yv_link_scopes.specs.Files.{Files}
 use Rattle.yv_nodes.specs.Rows.{whole}
 use Rattle.yv_nodes.specs.Tree.{count}

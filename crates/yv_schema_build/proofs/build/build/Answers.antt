@@ -2,9 +2,9 @@ use Rattle.std.proofs.Common.{◌≡◌, List, sym, subst, IfOk, OnOk, None}
 use Rattle.std.specs.declared.option.Option.{Option}
 use Rattle.std.specs.declared.result.Result.{Result}
 use Rattle.std.proofs.lemmas.Result.{IfOk-weaker}
-use Rattle.yv_statement.specs.Order.{IsLeast}
-use Rattle.yv_statement.specs.declared.refusal.Refusal.{Refusal}
-use Rattle.yv_statement.specs.declared.refusal.Stop.{Stop}
+use Rattle.yv_text_statement.specs.Order.{IsLeast}
+use Rattle.yv_text_statement.specs.declared.refusal.Refusal.{Refusal}
+use Rattle.yv_text_statement.specs.declared.refusal.Stop.{Stop}
 use Rattle.yv_nodes.specs.Link.{Link}
 use Rattle.yv_nodes.specs.Rows.{Rows, whole}
 use Rattle.yv_nodes.specs.Tree.{Forest}
@@ -14,7 +14,7 @@ use Rattle.yv_schema_tables.specs.Bad.{BadRows}
 use Rattle.yv_schema_build.specs.InnerBuild.{HasLeast}
 use Rattle.yv_schema_build.specs.InnerBasis.{leafrefs_of, stated_of}
 use Rattle.yv_schema_build.specs.InnerParts.{BadOther}
-use Rattle.yv_schema_build.proofs.Built.{both_clear, first_stands, on_ok_from}
+use Rattle.yv_schema_build.proofs.BuildRefusals.{both_clear, first_stands, on_ok_from}
 use Rattle.yv_schema_build.proofs.build.build.Goals as goal
 
 pub returns-clause-schema : goal.returns-clause-schema

@@ -1,7 +1,7 @@
 use Rattle.std.proofs.Common.{◌≡◌, Some, sym, ap, ◌∙◌, subst, Option}
-use Rattle.yv_statement.specs.Order.{IsLesser}
-use Rattle.yv_statement.specs.declared.refusal.Stop.{Stop}
-use Rattle.yv_schema_build.proofs.Built.{fault_in, lesser_some}
+use Rattle.yv_text_statement.specs.Order.{IsLesser}
+use Rattle.yv_text_statement.specs.declared.refusal.Stop.{Stop}
+use Rattle.yv_schema_build.proofs.BuildRefusals.{fault_in, lesser_some}
 use Rattle.yv_schema_build.proofs.build.first_stop.Goals as goal
 
 pub returns-in-Fault-clause-refusal : goal.returns-in-Fault-clause-refusal

@@ -1,7 +1,7 @@
 use Rattle.std.proofs.Common.{◌≡◌, Err, Some, ap, ◌∙◌}
-use Rattle.yv_statement.specs.declared.refusal.Stop.TheVariants.{Fault, NoMemory}
+use Rattle.yv_text_statement.specs.declared.refusal.Stop.TheVariants.{Fault, NoMemory}
 use Rattle.yv_schema_build.specs.InnerBuild.{of_both, of_tree}
-use Rattle.yv_schema_build.proofs.Built.{fault_in, stop_in}
+use Rattle.yv_schema_build.proofs.BuildRefusals.{fault_in, stop_in}
 use Rattle.yv_schema_build.proofs.build.with_refusal.Goals as goal
 
 pub returns-in-Some-clause-refusal : goal.returns-in-Some-clause-refusal

@@ -3,11 +3,11 @@ use Rattle.std.specs.Prelude.{Result, OnOk}
 use Rattle.std.proofs.lemmas.Bool.{cases_lt}
 use Rattle.yv_link_scopes.specs.Files.{Files}
 use Rattle.yv_link_scopes.specs.RowList.{rows_of}
-use Rattle.yv_statement.specs.declared.refusal.Stop.TheVariants.{NoMemory}
-use Rattle.yv_statement.specs.declared.refusal.Refusal.{Refusal}
-use Rattle.yv_statement.specs.Order.{IsLeast}
-use Rattle.yv_statement.specs.Selection.{ModuleChoice, selected_of}
-use Rattle.yv_statement.specs.declared.refusal.Stop.{Stop}
+use Rattle.yv_text_statement.specs.declared.refusal.Stop.TheVariants.{NoMemory}
+use Rattle.yv_text_statement.specs.declared.refusal.Refusal.{Refusal}
+use Rattle.yv_text_statement.specs.Order.{IsLeast}
+use Rattle.yv_text_statement.specs.Selection.{ModuleChoice, selected_of}
+use Rattle.yv_text_statement.specs.declared.refusal.Stop.{Stop}
 use Rattle.yv_link.proofs.Phases.{err_again}
 use Rattle.yv_schema_build.specs.InnerRefuses.{RefusesByNumber}
 use Rattle.yv_schema_build.specs.InnerPhases.{AreClear}

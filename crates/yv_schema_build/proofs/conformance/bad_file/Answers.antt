@@ -1,6 +1,6 @@
-use Rattle.yv_statement.specs.Order.{IsLeast}
+use Rattle.yv_text_statement.specs.Order.{IsLeast}
 use Rattle.yv_text_grammar.specs.Refusals.{Bad}
-use Rattle.yv_schema_build.proofs.Told.{least_told}
+use Rattle.yv_schema_build.proofs.FileRefusals.{least_told}
 use Rattle.yv_schema_build.proofs.conformance.bad_file.Goals as goal
 
 pub returns : goal.returns

@@ -1,6 +1,6 @@
 use Rattle.std.proofs.Common.{◌≡◌, length, refl, arith}
 use Rattle.std.proofs.lemmas.Option.{slice_get_read}
-use Rattle.yv_statement.proofs.Least.{least_more}
+use Rattle.yv_text_statement.proofs.Least.{least_more}
 use Rattle.yv_schema_build.specs.Refusals.{BadFile}
 use Rattle.yv_schema_build.proofs.conformance.first_bad_file.Goals as goal
 

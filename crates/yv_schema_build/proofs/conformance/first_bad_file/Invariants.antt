@@ -1,4 +1,4 @@
-use Rattle.yv_statement.specs.Order.{Among, IsLeast}
+use Rattle.yv_text_statement.specs.Order.{Among, IsLeast}
 use Rattle.yv_schema_build.specs.Refusals.{BadFile}
 use Rattle.yv_schema_build.proofs.conformance.first_bad_file.Given as goal
 

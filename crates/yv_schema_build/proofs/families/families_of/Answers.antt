@@ -2,7 +2,7 @@ use Rattle.std.proofs.Common.{◌≡◌, ◌∙◌, ap, sym, arith, length, List
 use Rattle.std.proofs.lemmas.List.{drop_all}
 use Rattle.yv_expand.specs.Tree.{Node}
 use Rattle.yv_schema_build.specs.InnerChildren.{Lists, hang_all, lists_in}
-use Rattle.yv_schema_build.proofs.Hanging.{hung_all}
+use Rattle.yv_schema_build.proofs.ChildPlacement.{hung_all}
 use Rattle.yv_schema_build.proofs.families.families_of.Goals as goal
 
 pub returns-clause-top : goal.returns-clause-top

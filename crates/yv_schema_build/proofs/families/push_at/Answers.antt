@@ -1,5 +1,5 @@
 use Rattle.std.proofs.Common.{arith}
-use Rattle.yv_schema_build.proofs.Hanging.{pushed}
+use Rattle.yv_schema_build.proofs.ChildPlacement.{pushed}
 use Rattle.yv_schema_build.proofs.families.push_at.Goals as goal
 
 pub returns-in_ok-push : goal.returns-in_ok-push

@@ -2,8 +2,8 @@ use Rattle.std.proofs.Common.{◌∙◌, [], sym, arith, subst}
 use Rattle.yv_link_scopes.specs.Files.{Files}
 use Rattle.yv_schema_build.specs.InnerBasis.{leafrefs_of, stated_of}
 use Rattle.yv_schema_build.specs.Units.{TakeUnits}
-use Rattle.yv_schema_build.proofs.Typing.{count_resolved}
-use Rattle.yv_schema_build.proofs.Counting.{count_labelled}
+use Rattle.yv_schema_build.proofs.ResolvedLeafrefs.{count_resolved}
+use Rattle.yv_schema_build.proofs.NodeCounts.{count_labelled}
 use Rattle.yv_schema_build.proofs.laws.nodes_are_within_units.Goals as goal
 
 pub returns : goal.returns

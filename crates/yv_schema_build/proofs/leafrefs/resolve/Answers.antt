@@ -5,7 +5,7 @@ use Rattle.yv_node_statements.specs.Context.{files_in, typing_in}
 use Rattle.yv_node_statements.specs.Definitions.{leafref_of}
 use Rattle.yv_node_statements.specs.Kinds.{TypeMeanings}
 use Rattle.yv_schema_build.specs.InnerResolution.{AreSilent}
-use Rattle.yv_schema_build.proofs.Unlinked.{answered_without, silent_nodes}
+use Rattle.yv_schema_build.proofs.LinklessTrees.{answered_without, silent_nodes}
 use Rattle.yv_schema_build.proofs.leafrefs.resolve.Goals as goal
 
 pub returns-then-not-has_leafrefs-clause-answers : goal.returns-then-not-has_leafrefs-clause-answers

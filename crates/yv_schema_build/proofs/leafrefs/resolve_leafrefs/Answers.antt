@@ -14,9 +14,9 @@ use Rattle.yv_schema_build.specs.Referrals.{referral_at}
 use Rattle.yv_schema_build.specs.InnerResolution.{origins_of, schema_of_rows, statement_number}
 use Rattle.yv_schema_build.specs.InnerBasis.{leafrefs_of, stated_of}
 use Rattle.yv_nodes.specs.Rows.{Row}
-use Rattle.yv_schema_build.proofs.Resolving.{are_alike, are_named, count_statements, links_are, origins_told}
-use Rattle.yv_schema_build.proofs.Typing.{links_resolved}
-use Rattle.yv_schema_build.proofs.Unlinked.{answered_without, no_items, said_nowhere}
+use Rattle.yv_schema_build.proofs.BasisLeafrefs.{are_alike, are_named, count_statements, links_are, origins_told}
+use Rattle.yv_schema_build.proofs.ResolvedLeafrefs.{links_resolved}
+use Rattle.yv_schema_build.proofs.LinklessTrees.{answered_without, no_items, said_nowhere}
 use Rattle.yv_schema_build.proofs.leafrefs.resolve_leafrefs.Goals as goal
 
 pub read-requires-clause-behind : goal.read-requires-clause-behind

@@ -1,9 +1,9 @@
 use Rattle.std.proofs.Common.{◌≡◌, ◌<◌, ◌≤◌, sym, ◌∙◌, subst, length, get_or}
-use Rattle.yv_statement.specs.Selection.{selected_of}
+use Rattle.yv_text_statement.specs.Selection.{selected_of}
 use Rattle.yv_link_scopes.specs.Files.{Files}
 use Rattle.yv_link_scopes.specs.Views.{lent_in}
 use Rattle.yv_schema_build.specs.Module.{modules_of}
-use Rattle.yv_schema_build.proofs.Called.{given_all, given_more, given_other}
+use Rattle.yv_schema_build.proofs.ImplementedModules.{given_all, given_more, given_other}
 use Rattle.yv_schema_build.proofs.module_names.modules.Goals as goal
 use Rattle.yv_schema_build.proofs.module_names.modules.Goals.{then-is_given+in_ok-name+in_ok-from_str+in_ok-push, else-is_given}
 

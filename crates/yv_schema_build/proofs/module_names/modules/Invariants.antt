@@ -1,5 +1,5 @@
 use Rattle.std.proofs.Common.{◌≡◌, ◌++◌, drop}
-use Rattle.yv_statement.specs.Selection.{selected_of}
+use Rattle.yv_text_statement.specs.Selection.{selected_of}
 use Rattle.yv_link_scopes.specs.Views.{lent_in}
 use Rattle.yv_schema_build.specs.Module.{given_from, modules_of}
 use Rattle.yv_schema_build.proofs.module_names.modules.Given as goal

@@ -4,7 +4,7 @@ use Rattle.yv_link_definitions.proofs.Words.{row_read}
 use Rattle.yv_link_scopes.specs.Files.{Files, brief_of, module_file_at}
 use Rattle.yv_link_scopes.specs.Views.{rows_in}
 use Rattle.yv_link_scopes.specs.Rows.{row}
-use Rattle.yv_schema_build.proofs.Noting.{noted}
+use Rattle.yv_schema_build.proofs.AugmentNotes.{noted}
 use Rattle.yv_schema_build.proofs.notes.note.Goals as goal
 
 pub returns-clause-note : goal.returns-clause-note

@@ -8,8 +8,8 @@ use Rattle.yv_nodes.specs.Rows.{Note}
 use Rattle.yv_schema_build.specs.InnerRows.{IsWithin}
 use Rattle.yv_schema_build.specs.InnerNotes.{notes_of}
 use Rattle.yv_schema_build.proofs.Numbering.{AllBefore, above_before, family_before, givers_many, parents_before}
-use Rattle.yv_schema_build.proofs.Noting.{family_is, givers, givers_kept, note_is, notes_end, notes_more}
-use Rattle.yv_schema_build.proofs.Telling.{follows, kept}
+use Rattle.yv_schema_build.proofs.AugmentNotes.{family_is, givers, givers_kept, note_is, notes_end, notes_more}
+use Rattle.yv_schema_build.proofs.ContextBasis.{follows, kept}
 use Rattle.yv_schema_build.proofs.notes.notes.Goals as goal
 use Rattle.yv_schema_build.proofs.notes.notes.Goals.{in-Some+in_ok-push, in_default}
 

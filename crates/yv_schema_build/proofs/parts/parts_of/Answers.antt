@@ -1,12 +1,12 @@
 use Rattle.std.proofs.Common.{◌∙◌, sym, subst, arith}
-use Rattle.yv_statement.specs.Selection.{selected_of}
+use Rattle.yv_text_statement.specs.Selection.{selected_of}
 use Rattle.yv_link_scopes.specs.Files.{Files}
 use Rattle.yv_link_scopes.specs.Views.{lent_in}
 use Rattle.yv_schema_build.specs.InnerModuleNames.{AreModuleNames}
 use Rattle.yv_schema_build.specs.InnerBasis.{leafrefs_of, stated_of}
-use Rattle.yv_schema_build.proofs.Built.{both_none, least_other}
-use Rattle.yv_schema_build.proofs.Building.{modules_in_order, notes_in_order, numbered_in_order}
-use Rattle.yv_schema_build.proofs.Typing.{tops_resolved}
+use Rattle.yv_schema_build.proofs.BuildRefusals.{both_none, least_other}
+use Rattle.yv_schema_build.proofs.BasisValidity.{modules_in_order, notes_in_order, numbered_in_order}
+use Rattle.yv_schema_build.proofs.ResolvedLeafrefs.{tops_resolved}
 use Rattle.yv_schema_build.proofs.parts.parts_of.Goals as goal
 
 pub number_nodes-requires-clause-tells : goal.number_nodes-requires-clause-tells

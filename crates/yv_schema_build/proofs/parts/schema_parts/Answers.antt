@@ -1,5 +1,5 @@
 use Rattle.std.proofs.Common.{◌∙◌, sym}
-use Rattle.yv_statement.specs.Selection.{selected_of}
+use Rattle.yv_text_statement.specs.Selection.{selected_of}
 use Rattle.yv_schema_build.proofs.parts.schema_parts.Goals as goal
 
 pub parts_of-requires-clause-basis : goal.parts_of-requires-clause-basis

@@ -1,7 +1,7 @@
 use Rattle.std.proofs.Common.{Some, None, refl, sym, ap, ◌∙◌}
 use Rattle.std.proofs.lemmas.Result.{IfOk-weaker, on_ok_weaker}
-use Rattle.yv_statement.specs.Order.{IsLeast}
-use Rattle.yv_statement.specs.Selection.{selected_of}
+use Rattle.yv_text_statement.specs.Order.{IsLeast}
+use Rattle.yv_text_statement.specs.Selection.{selected_of}
 use Rattle.yv_link.specs.LinkedFiles.{truth_in}
 use Rattle.yv_link.proofs.Phases.{err_again}
 use Rattle.yv_types.specs.Refusals.{BadTypes}

@@ -1,6 +1,6 @@
 use Rattle.std.proofs.Common.{◌≡◌, ◌≤◌, ◌∙◌, ap, arith, inl, inr, length, Some, None}
-use Rattle.yv_statement.specs.Order.{IsLeast}
-use Rattle.yv_statement.specs.Selection.{selected_of}
+use Rattle.yv_text_statement.specs.Order.{IsLeast}
+use Rattle.yv_text_statement.specs.Selection.{selected_of}
 use Rattle.yv_link.specs.LinkedFiles.{truth_in}
 use Rattle.yv_link.proofs.Phases.{err_again}
 use Rattle.yv_link_definitions.specs.Meanings.{AreNames}

@@ -1,4 +1,4 @@
-use Rattle.yv_schema_build.proofs.Beginning.{begins}
+use Rattle.yv_schema_build.proofs.LeafrefPathStarts.{begins}
 use Rattle.yv_schema_build.proofs.referral_laws.what_leafrefs_say_begins.Goals as goal
 
 pub returns : goal.returns

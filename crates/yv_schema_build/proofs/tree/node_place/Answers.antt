@@ -1,5 +1,5 @@
 use Rattle.std.proofs.Common.{◌≡◌, ◌&&◌, Bool, Option, IfSome, subst}
-use Rattle.yv_node_definition.specs.Kinds.{is_leaf}
+use Rattle.yv_node_content.specs.Kinds.{is_leaf}
 use Rattle.yv_nodes.specs.Labels.{has_key_called}
 use Rattle.yv_schema_build.proofs.tree.node_place.Goals as goal
 

@@ -1,9 +1,9 @@
 use Rattle.std.proofs.Common.{sym, ◌∙◌, ap, arith, below_more}
-use Rattle.yv_node_definition.specs.Kinds.{is_data}
+use Rattle.yv_node_content.specs.Kinds.{is_data}
 use Rattle.yv_nodes.specs.declared.node.NodeId.{NodeId}
 use Rattle.yv_nodes.specs.Rows.{Row}
 use Rattle.yv_schema_tables.proofs.Members.{numbers_within}
-use Rattle.yv_schema_tables.proofs.Unopened.{inside_plain, told_plainly}
+use Rattle.yv_schema_tables.proofs.PlainDataNodes.{inside_plain, told_plainly}
 use Rattle.yv_schema_tables.proofs.data_children.are_data.Goals as goal
 
 pub get-requires : goal.get-requires

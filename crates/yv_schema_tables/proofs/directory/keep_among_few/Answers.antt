@@ -1,6 +1,6 @@
 use Rattle.std.proofs.Common.{◌∙◌, ap}
 use Rattle.yv_schema_tables.specs.InnerTables.{first_held}
-use Rattle.yv_schema_tables.proofs.Keeping.{held_more}
+use Rattle.yv_schema_tables.proofs.ChildDirectories.{held_more}
 use Rattle.yv_schema_tables.proofs.directory.keep_among_few.Goals as goal
 
 pub returns-clause-keeps : goal.returns-clause-keeps

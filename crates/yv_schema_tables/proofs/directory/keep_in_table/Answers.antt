@@ -1,7 +1,7 @@
 use Rattle.std.proofs.Common.{sym, ◌∙◌}
 use Rattle.indexmap.specs.IndexMap.{get}
 use Rattle.yv_schema_tables.specs.InnerTables.{same_member}
-use Rattle.yv_schema_tables.proofs.Keeping.{kept_new}
+use Rattle.yv_schema_tables.proofs.ChildDirectories.{kept_new}
 use Rattle.yv_schema_tables.proofs.directory.keep_in_table.Goals as goal
 
 pub returns-clause-keeps : goal.returns-clause-keeps

@@ -1,5 +1,5 @@
 use Rattle.std.proofs.Common.{[], refl}
-use Rattle.yv_schema_tables.proofs.Typing.{formed}
+use Rattle.yv_schema_tables.proofs.TypeReplacement.{formed}
 use Rattle.yv_schema_tables.proofs.laws.types_leave_forms.Goals as goal
 
 pub returns : goal.returns

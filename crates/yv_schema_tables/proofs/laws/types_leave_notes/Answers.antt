@@ -1,4 +1,4 @@
-use Rattle.yv_schema_tables.proofs.Typing.{all_notes}
+use Rattle.yv_schema_tables.proofs.TypeReplacement.{all_notes}
 use Rattle.yv_schema_tables.proofs.laws.types_leave_notes.Goals as goal
 
 pub returns : goal.returns

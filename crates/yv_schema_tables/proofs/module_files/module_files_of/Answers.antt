@@ -5,8 +5,8 @@ use Rattle.std.specs.Str.{bytes_eq}
 use Rattle.yv_nodes.specs.Rows.{Module}
 use Rattle.yv_schema_tables.specs.InnerNames.{get_by_name}
 use Rattle.yv_schema_tables.specs.InnerTables.{module_file_named}
-use Rattle.yv_schema_tables.proofs.Keeping.{drop_next}
-use Rattle.yv_schema_tables.proofs.Named.{put_name}
+use Rattle.yv_schema_tables.proofs.ChildDirectories.{drop_next}
+use Rattle.yv_schema_tables.proofs.SharedNameTables.{put_name}
 use Rattle.yv_schema_tables.proofs.module_files.module_files_of.Goals as goal
 
 pub loop-left-preserved : goal.loop-left-preserved

@@ -3,7 +3,7 @@ use Rattle.std.proofs.lemmas.List.{length-take-le}
 use Rattle.std.proofs.lemmas.Option.{slice_get-get_or}
 use Rattle.yv_nodes.specs.Rows.{blank_row}
 use Rattle.yv_schema_tables.specs.InnerNames.{AreNumbersOf, names_of}
-use Rattle.yv_schema_tables.proofs.Naming.{names_count}
+use Rattle.yv_schema_tables.proofs.NameNumbers.{names_count}
 use Rattle.yv_schema_tables.proofs.Numbering.{names_next}
 use Rattle.yv_schema_tables.proofs.names.node_names.Goals as goal
 

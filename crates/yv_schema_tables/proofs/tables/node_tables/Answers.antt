@@ -1,10 +1,10 @@
 use Rattle.std.proofs.Common.{◌≡◌, get_or, length, refl, ap, arith, subst}
 use Rattle.std.proofs.lemmas.Option.{get_or_from_slice_get, slice_get_read}
-use Rattle.yv_statement.proofs.Least.{least_more}
+use Rattle.yv_text_statement.proofs.Least.{least_more}
 use Rattle.yv_nodes.specs.Rows.{Row}
 use Rattle.yv_schema_tables.specs.InnerTables.{Namesakes}
 use Rattle.yv_schema_tables.specs.InnerSits.{HaveTrees, family_in}
-use Rattle.yv_schema_tables.proofs.Keeping.{directories_more}
+use Rattle.yv_schema_tables.proofs.ChildDirectories.{directories_more}
 use Rattle.yv_schema_tables.proofs.tables.node_tables.Goals as goal
 
 pub below-requires : goal.below-requires

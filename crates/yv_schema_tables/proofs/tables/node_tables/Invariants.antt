@@ -1,7 +1,7 @@
-use Rattle.yv_statement.specs.Order.{Among, IsLeast}
+use Rattle.yv_text_statement.specs.Order.{Among, IsLeast}
 use Rattle.yv_schema_tables.specs.InnerTables.{Namesakes}
 use Rattle.yv_schema_tables.specs.InnerSits.{family_in}
-use Rattle.yv_schema_tables.proofs.Keeping.{AreDirectoriesUpTo}
+use Rattle.yv_schema_tables.proofs.ChildDirectories.{AreDirectoriesUpTo}
 use Rattle.yv_schema_tables.proofs.tables.node_tables.Given as goal
 
 abbrev pub invariant-loop-node : goal.invariant-loop-node

@@ -3,7 +3,7 @@ use Rattle.std.specs.Prelude.{IfOk, string_bytes, String, Result, Ok, Err}
 use Rattle.yv_source.specs.Quotes.{quoted_value}
 use Rattle.yv_source.specs.Inner.Writer.{WriterState, all_of}
 use Rattle.yv_source.proofs.Runs.{WritesTo, writes_boundary, writes_each, writes_run, writes_char, writes_all}
-use Rattle.yv_source.proofs.Stripping.{stripped_pairs}
+use Rattle.yv_source.proofs.StrippedBlanks.{stripped_pairs}
 use Rattle.yv_source.proofs.double_quotes.write_quoted.Goals as goal
 
 said_by : {E Z : Type 0} (r : Result (String Z) E) (w : WriterState) (column : ℕ) (text : List ℕ) → IfOk r (λ s. string_bytes s ≡ all_of w) → all_of w ≡ quoted_value column text → IfOk r (λ s. string_bytes s ≡ quoted_value column text)

@@ -2,7 +2,7 @@ use Rattle.std.proofs.Common.{◌≤◌, ◌&&◌, ap, sym, ◌∙◌, arith, le
 use Rattle.std.proofs.lemmas.List.{take_rest, length-take-le}
 use Rattle.yv_source.specs.Pieces.{begins}
 use Rattle.yv_text_if_feature.specs.Names.{is_identifier}
-use Rattle.yv_source.proofs.Built.{key_without, key_with, length-until}
+use Rattle.yv_source.proofs.MachineViews.{key_without, key_with, length-until}
 use Rattle.yv_source.proofs.identifier.is_keyword.Goals as goal
 
 pub returns-then-colon-bytes : goal.returns-then-colon-bytes

@@ -1,5 +1,5 @@
 use Rattle.std.proofs.Common.{sym, ◌∙◌}
-use Rattle.yv_source.proofs.Known.{known_is_keyword}
+use Rattle.yv_source.proofs.KnownKeywords.{known_is_keyword}
 use Rattle.yv_source.proofs.machine.has_keyword.Goals as goal
 
 pub returns : goal.returns

@@ -1,6 +1,6 @@
 use Rattle.std.proofs.Common.{◌-◌, length, take, drop, length-drop, arith}
 use Rattle.std.proofs.lemmas.List.{length-take}
-use Rattle.yv_source.proofs.Reading.{columns_most}
+use Rattle.yv_source.proofs.ReadProgress.{columns_most}
 use Rattle.yv_source.proofs.place.column_after.Goals as goal
 
 pub returns-clause-bound : goal.returns-clause-bound

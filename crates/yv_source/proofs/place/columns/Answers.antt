@@ -1,7 +1,7 @@
 use Rattle.std.proofs.Common.{◌+◌, ap, ◌∙◌}
 use Rattle.std.proofs.lemmas.List.{take_rest}
 use Rattle.yv_source.specs.Place.{columns}
-use Rattle.yv_source.proofs.Reading.{columns_last}
+use Rattle.yv_source.proofs.ReadProgress.{columns_last}
 use Rattle.yv_source.proofs.place.columns.Goals as goal
 
 pub returns-in-Some : goal.returns-in-Some

@@ -2,7 +2,7 @@ use Rattle.std.proofs.Common.{◌+◌, ◌-◌, ◌≡◌, ◌==◌, take, drop,
 use Rattle.std.specs.Prelude.{count_by}
 use Rattle.std.proofs.lemmas.List.{take-append-drop, take_rest}
 use Rattle.std.proofs.Math.Seq.{take-add}
-use Rattle.yv_source.proofs.Reading.{count-append}
+use Rattle.yv_source.proofs.ReadProgress.{count-append}
 use Rattle.yv_source.proofs.place.line_feeds.Goals as goal
 
 pub loop-at-preserved : goal.loop-at-preserved

@@ -1,6 +1,6 @@
 use Rattle.std.proofs.Common.{◌+◌, arith, ap, length}
 use Rattle.std.specs.Prelude.{reverse}
-use Rattle.yv_source.proofs.Counting.{counted_start, counted_on}
+use Rattle.yv_source.proofs.LineCounts.{counted_start, counted_on}
 use Rattle.yv_source.proofs.Gaps.{gap_read}
 use Rattle.yv_source.proofs.Loop as loop
 use Rattle.yv_source.proofs.reader.read.Goals as goal

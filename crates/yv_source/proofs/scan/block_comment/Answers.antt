@@ -4,7 +4,7 @@ use Rattle.yv_source.specs.Inner.Scan.{from, ahead_of}
 use Rattle.yv_source.specs.declared.scan.Ahead.TheVariants as ahead
 use Rattle.yv_source.specs.declared.scan.FoundPiece.TheVariants as found
 use Rattle.yv_source.proofs.Until.{closed_by_two_none, closed_by_two_some}
-use Rattle.yv_source.proofs.Cutting.{until_from}
+use Rattle.yv_source.proofs.FirstPiece.{until_from}
 use Rattle.yv_source.proofs.scan.block_comment.Goals as goal
 
 pub returns-then-len-rest : goal.returns-then-len-rest

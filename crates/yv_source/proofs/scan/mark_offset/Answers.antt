@@ -1,5 +1,5 @@
 use Rattle.std.proofs.Common.{arith, refl, ◌∙◌}
-use Rattle.yv_source.proofs.Built.{length-until}
+use Rattle.yv_source.proofs.MachineViews.{length-until}
 use Rattle.memchr.specs.Find.{is_byte2}
 use Rattle.yv_source.specs.Inner.Scan.{begins_mark}
 use Rattle.yv_source.proofs.Until.{found_at}

@@ -4,7 +4,7 @@ use Rattle.yv_source.specs.Inner.Scan.{First, closed_piece, from, ahead_of, unle
 use Rattle.yv_source.specs.declared.scan.Ahead.TheVariants as ahead
 use Rattle.yv_source.specs.declared.scan.FoundPiece.TheVariants as found
 use Rattle.yv_source.proofs.Until.{closed_none, closed_some, unless_none, unless_apart}
-use Rattle.yv_source.proofs.Cutting.{until_from}
+use Rattle.yv_source.proofs.FirstPiece.{until_from}
 use Rattle.yv_source.proofs.scan.single.Goals as goal
 
 pub returns-then-len-rest : goal.returns-then-len-rest

@@ -1,5 +1,5 @@
 use Rattle.std.proofs.Common.{◌∙◌}
-use Rattle.yv_text_grammar.proofs.Ascending.{searched_among}
+use Rattle.yv_text_grammar.proofs.SortedWords.{searched_among}
 use Rattle.yv_text_grammar.proofs.distinct.is_among.Goals as goal
 
 pub returns : goal.returns

@@ -2,7 +2,7 @@ use Rattle.std.proofs.Common.{rules}
 use Rattle.std.specs.Ordering.{is_lt}
 use Rattle.std.proofs.lemmas.List.Sorted.{answers_always}
 use Rattle.yv_text_grammar.specs.InnerDistinct.{by_text}
-use Rattle.yv_text_grammar.proofs.Ascending.{rising_is}
+use Rattle.yv_text_grammar.proofs.SortedWords.{rising_is}
 use Rattle.yv_text_grammar.proofs.distinct.is_rising.Goals as goal
 
 pub returns : goal.returns

@@ -1,14 +1,14 @@
 use Rattle.std.proofs.Common.{◌≡◌, ◌≢◌, IfNone, sym, ◌∙◌, Some, length, refl, arith}
 use Rattle.std.specs.List.{slice_get}
 use Rattle.std.proofs.lemmas.Option.{slice_get_read}
-use Rattle.yv_statement.specs.Order.{IsLeast}
+use Rattle.yv_text_statement.specs.Order.{IsLeast}
 use Rattle.yv_text_grammar.specs.Fits.{FitsIn, extension}
-use Rattle.yv_statement.specs.Tree.{trees}
+use Rattle.yv_text_statement.specs.Tree.{trees}
 use Rattle.yv_text_grammar.specs.Refusals.{Faulty, keyword_at}
-use Rattle.yv_statement.specs.declared.keyword.Keyword.TheVariants as word
-use Rattle.yv_statement.proofs.Least.{least_more}
+use Rattle.yv_text_statement.specs.declared.keyword.Keyword.TheVariants as word
+use Rattle.yv_text_statement.proofs.Least.{least_more}
 use Rattle.yv_text_grammar.proofs.Inside.{Inner, least_inside}
-use Rattle.yv_text_grammar.proofs.Fitting.{FitBelow, fit_more, all_fit}
+use Rattle.yv_text_grammar.proofs.StatementFit.{FitBelow, fit_more, all_fit}
 use Rattle.yv_text_grammar.proofs.Smaller.{fewer}
 use Rattle.yv_text_grammar.proofs.Keywords.{one, other}
 use Rattle.yv_text_grammar.proofs.refusal.+first_refusal.Goals as goal

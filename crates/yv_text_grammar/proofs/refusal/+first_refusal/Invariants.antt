@@ -1,7 +1,7 @@
-use Rattle.yv_statement.specs.Order.{Among, IsLeast}
-use Rattle.yv_statement.specs.Tree.{count, trees}
+use Rattle.yv_text_statement.specs.Order.{Among, IsLeast}
+use Rattle.yv_text_statement.specs.Tree.{count, trees}
 use Rattle.yv_text_grammar.specs.Refusals.{Faulty, keyword_at}
-use Rattle.yv_text_grammar.proofs.Fitting.{FitBelow}
+use Rattle.yv_text_grammar.proofs.StatementFit.{FitBelow}
 use Rattle.yv_text_grammar.proofs.refusal.+first_refusal.Given as goal
 
 abbrev pub invariant-loop-child : goal.invariant-loop-child

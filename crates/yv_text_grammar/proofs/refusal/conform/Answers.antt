@@ -1,14 +1,14 @@
 use Rattle.std.proofs.Common.{◌≡◌, ⊎_elim, Bool, true, false, not, cond, Some, None, IfNone, sym, ◌∙◌, ap, refl}
 use Rattle.std.proofs.lemmas.Bool.{false≢true, not-true, not_from_false}
-use Rattle.yv_statement.specs.Order.{IsLeast, Stands, refusal_at}
+use Rattle.yv_text_statement.specs.Order.{IsLeast, Stands, refusal_at}
 use Rattle.yv_text_grammar.specs.Refusals.{Bad, is_module, keyword_at}
-use Rattle.yv_statement.specs.declared.keyword.Keyword.TheVariants as word
-use Rattle.yv_statement.specs.declared.refusal.Code.TheVariants as code
+use Rattle.yv_text_statement.specs.declared.keyword.Keyword.TheVariants as word
+use Rattle.yv_text_statement.specs.declared.refusal.Code.TheVariants as code
 use Rattle.yv_text_grammar.specs.Fits.{Fits, FitsIn}
-use Rattle.yv_statement.specs.Tree.{Tree}
-use Rattle.yv_statement.specs.declared.refusal.Refusal.{Refusal}
-use Rattle.yv_text_grammar.proofs.Fitting.{neither, no_fault}
-use Rattle.yv_statement.proofs.Least.{least_refused, least_lesser}
+use Rattle.yv_text_statement.specs.Tree.{Tree}
+use Rattle.yv_text_statement.specs.declared.refusal.Refusal.{Refusal}
+use Rattle.yv_text_grammar.proofs.StatementFit.{neither, no_fault}
+use Rattle.yv_text_statement.proofs.Least.{least_refused, least_lesser}
 use Rattle.yv_text_grammar.proofs.refusal.conform.Goals as goal
 use Rattle.yv_text_grammar.proofs.refusal.conform.Goals.{After-lesser-first}
 

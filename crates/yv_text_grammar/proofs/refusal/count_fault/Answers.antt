@@ -1,17 +1,17 @@
 use Rattle.std.proofs.Common.{◌≡◌, not, ◌&&◌, sym, ◌∙◌, ap, Some, length, map, take, refl, arith}
 use Rattle.std.specs.List.{slice_get, list_any}
 use Rattle.std.proofs.lemmas.Option.{slice_get_read}
-use Rattle.yv_statement.specs.Order.{Among, IsLeast, Stands, refusal_at}
+use Rattle.yv_text_statement.specs.Order.{Among, IsLeast, Stands, refusal_at}
 use Rattle.yv_text_grammar.specs.InnerKeywordSet.{is_marked}
 use Rattle.yv_text_grammar.specs.Table.{is_one, rows_of}
 use Rattle.yv_text_grammar.specs.InnerEntries.{row}
-use Rattle.yv_statement.specs.Tree.{trees}
+use Rattle.yv_text_statement.specs.Tree.{trees}
 use Rattle.yv_text_grammar.specs.Refusals.{IsMisplaced, LacksChild, has, is_misplaced, keyword_at}
-use Rattle.yv_statement.specs.declared.keyword.Keyword.{Keyword}
-use Rattle.yv_statement.specs.declared.refusal.Code.TheVariants as code
-use Rattle.yv_statement.proofs.Least.{least_more}
+use Rattle.yv_text_statement.specs.declared.keyword.Keyword.{Keyword}
+use Rattle.yv_text_statement.specs.declared.refusal.Code.TheVariants as code
+use Rattle.yv_text_statement.proofs.Least.{least_more}
 use Rattle.yv_text_grammar.proofs.Counts.{all_seen, has_more, missing_is}
-use Rattle.yv_statement.proofs.Least.{least_refused, least_lesser}
+use Rattle.yv_text_statement.proofs.Least.{least_refused, least_lesser}
 use Rattle.yv_text_grammar.proofs.refusal.count_fault.Goals as goal
 
 pub loop-child-preserved : goal.loop-child-preserved

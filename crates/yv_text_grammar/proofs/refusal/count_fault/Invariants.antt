@@ -1,10 +1,10 @@
 use Rattle.std.proofs.Common.{◌≡◌, take}
-use Rattle.yv_statement.specs.Order.{Among, IsLeast, Stands, refusal_at}
+use Rattle.yv_text_statement.specs.Order.{Among, IsLeast, Stands, refusal_at}
 use Rattle.yv_text_grammar.specs.InnerKeywordSet.{is_marked}
-use Rattle.yv_statement.specs.Tree.{trees}
+use Rattle.yv_text_statement.specs.Tree.{trees}
 use Rattle.yv_text_grammar.specs.Refusals.{IsMisplaced, has}
-use Rattle.yv_statement.specs.declared.keyword.Keyword.{Keyword}
-use Rattle.yv_statement.specs.declared.refusal.Code.TheVariants as code
+use Rattle.yv_text_statement.specs.declared.keyword.Keyword.{Keyword}
+use Rattle.yv_text_statement.specs.declared.refusal.Code.TheVariants as code
 use Rattle.yv_text_grammar.proofs.refusal.count_fault.Given as goal
 
 abbrev pub invariant-loop-child : goal.invariant-loop-child

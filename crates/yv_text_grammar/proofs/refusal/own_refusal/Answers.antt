@@ -1,12 +1,12 @@
 use Rattle.std.proofs.Common.{◌≡◌, MatchBool, true, sym, ◌∙◌}
-use Rattle.yv_statement.specs.Order.{IsLeast, Stands, refusal_at}
+use Rattle.yv_text_statement.specs.Order.{IsLeast, Stands, refusal_at}
 use Rattle.yv_text_grammar.specs.Argument.{ArgumentFits}
 use Rattle.yv_text_grammar.specs.Refusals.{is_unsupported, keyword_at}
-use Rattle.yv_statement.specs.declared.keyword.Keyword.TheVariants as word
-use Rattle.yv_statement.specs.declared.refusal.Code.TheVariants as code
-use Rattle.yv_text_grammar.proofs.Fitting.{neither, spared, told}
+use Rattle.yv_text_statement.specs.declared.keyword.Keyword.TheVariants as word
+use Rattle.yv_text_statement.specs.declared.refusal.Code.TheVariants as code
+use Rattle.yv_text_grammar.proofs.StatementFit.{neither, spared, told}
 use Rattle.yv_text_grammar.proofs.Keywords.{one, other, is_same, failed, fails, passed}
-use Rattle.yv_statement.proofs.Least.{least_refused, least_lesser}
+use Rattle.yv_text_statement.proofs.Least.{least_refused, least_lesser}
 use Rattle.yv_text_grammar.proofs.refusal.own_refusal.Goals as goal
 
 pub returns : goal.returns

@@ -2,7 +2,7 @@ use Rattle.std.proofs.Common.{◌≡◌, false, [], ◌∷◌, ◌++◌, append_
 use Rattle.yv_text_if_feature.specs.Reads.{HasRead}
 use Rattle.yv_text_if_feature.specs.WordTokens.{token_shown, tokens_left}
 use Rattle.yv_text_if_feature.specs.Tokens.{tokens}
-use Rattle.yv_text_if_feature.proofs.Decided.{decided, none_agrees}
+use Rattle.yv_text_if_feature.proofs.ConditionTruth.{decided, none_agrees}
 use Rattle.yv_text_if_feature.proofs.if_feature.is_if_feature.Goals as goal
 
 pub loop-word-init : goal.loop-word-init

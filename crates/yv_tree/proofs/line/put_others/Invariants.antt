@@ -1,5 +1,5 @@
 use Rattle.std.proofs.Common.{codes, map, take}
-use Rattle.yv_streams.specs.Pages.{Adds}
+use Rattle.yv_base_streams.specs.Pages.{Adds}
 use Rattle.yv_tree.specs.Lines.{behind_each, key_name}
 use Rattle.yv_tree.proofs.line.put_others.Given as goal
 

@@ -3,8 +3,8 @@ use Rattle.yv_link_scopes.specs.Rows.{Row, row}
 use Rattle.yv_link_scopes.specs.Views.{files_in, rows_in}
 use Rattle.yv_type_chains.specs.Types.{Follows}
 use Rattle.yv_type_chains.proofs.Words.{longer, row_read, rows_count}
-use Rattle.yv_type_chains.proofs.Filling.{told_all, told_more, within_more}
-use Rattle.yv_type_chains.proofs.Following.{follower_within}
+use Rattle.yv_type_chains.proofs.NumberTables.{told_all, told_more, within_more}
+use Rattle.yv_type_chains.proofs.FollowedTypes.{follower_within}
 use Rattle.yv_type_chains.proofs.follows.all_followed.Goals as goal
 
 pub next_type-requires-clause-at : goal.next_type-requires-clause-at

@@ -3,7 +3,7 @@ use Rattle.yv_link_scopes.specs.Views.{files_in, lent_in, rows_in}
 use Rattle.yv_link_definitions.specs.Meanings.{AreNames}
 use Rattle.yv_type_chains.specs.Types.{Follows}
 use Rattle.yv_type_chains.specs.InnerTables.{at}
-use Rattle.yv_type_chains.proofs.Filling.{Told}
+use Rattle.yv_type_chains.proofs.NumberTables.{Told}
 use Rattle.yv_type_chains.proofs.follows.all_followed.Given as goal
 
 abbrev pub invariant-loop-number : goal.invariant-loop-number

@@ -3,7 +3,7 @@ use Rattle.std.specs.List.{slice_get}
 use Rattle.yv_link_scopes.specs.Rows.{row}
 use Rattle.yv_link_scopes.specs.Views.{files_in, lent_in, rows_in}
 use Rattle.yv_type_chains.proofs.Blocks.{type_within}
-use Rattle.yv_type_chains.proofs.Following.{follows_none, follows_out, follows_some}
+use Rattle.yv_type_chains.proofs.FollowedTypes.{follows_none, follows_out, follows_some}
 use Rattle.yv_type_chains.proofs.follows.next_type.Goals as goal
 
 pub returns-then-not-is_type-clause-exact : goal.returns-then-not-is_type-clause-exact

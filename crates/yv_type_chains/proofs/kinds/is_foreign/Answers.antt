@@ -1,8 +1,8 @@
 use Rattle.std.proofs.Common.{◌≡◌, refl, sym, ◌∙◌, ap}
-use Rattle.yv_statement.specs.Words.{is_among}
+use Rattle.yv_text_statement.specs.Words.{is_among}
 use Rattle.yv_type_chains.specs.Kinds.{has_pair, is_foreign, restrictions, substatements_taken}
 use Rattle.yv_type_chains.specs.InnerPairs.{is_one_of, is_paired}
-use Rattle.yv_type_chains.proofs.Pairing.{restricting, restricts_by, taken, taken_by}
+use Rattle.yv_type_chains.proofs.KeywordMeanings.{restricting, restricts_by, taken, taken_by}
 use Rattle.yv_type_chains.proofs.kinds.is_foreign.Goals as goal
 
 pub returns-then-is_one_of : goal.returns-then-is_one_of

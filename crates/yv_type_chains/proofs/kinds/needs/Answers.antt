@@ -1,7 +1,7 @@
 use Rattle.std.proofs.Common.{sym, ◌∙◌, ap}
 use Rattle.yv_type_chains.specs.Kinds.{needs}
 use Rattle.yv_type_chains.specs.InnerPairs.{is_paired, may_be_needed}
-use Rattle.yv_type_chains.proofs.Pairing.{needed, needed_by, needs_none}
+use Rattle.yv_type_chains.proofs.KeywordMeanings.{needed, needed_by, needs_none}
 use Rattle.yv_type_chains.proofs.kinds.needs.Goals as goal
 
 pub returns-then-may_be_needed : goal.returns-then-may_be_needed

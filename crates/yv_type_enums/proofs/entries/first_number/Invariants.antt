@@ -1,6 +1,6 @@
 use Rattle.std.proofs.Common.{◌≡◌, drop}
 use Rattle.std.specs.List.{find}
-use Rattle.yv_statement.specs.Tree.{trees}
+use Rattle.yv_text_statement.specs.Tree.{trees}
 use Rattle.yv_link_scopes.specs.Files.{has_word}
 use Rattle.yv_type_enums.specs.Entries.{number_word}
 use Rattle.yv_type_enums.proofs.entries.first_number.Given as goal

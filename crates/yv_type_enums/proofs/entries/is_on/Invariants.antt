@@ -1,5 +1,5 @@
 use Rattle.std.proofs.Common.{◌≡◌, drop}
-use Rattle.yv_statement.specs.Tree.{trees}
+use Rattle.yv_text_statement.specs.Tree.{trees}
 use Rattle.yv_link.specs.LinkedFiles.{truth_in}
 use Rattle.yv_link_features.specs.Blocks.{all_hold}
 use Rattle.yv_type_enums.proofs.entries.is_on.Given as goal

@@ -1,6 +1,6 @@
 use Rattle.std.proofs.Common.{◌≡◌, map, take}
 use Rattle.std.specs.List.{filter}
-use Rattle.yv_statement.specs.Tree.{Tree, trees}
+use Rattle.yv_text_statement.specs.Tree.{Tree, trees}
 use Rattle.yv_link_scopes.specs.Files.{has_word}
 use Rattle.yv_type_enums.specs.Entries.{entry_word}
 use Rattle.yv_type_enums.proofs.entries.listing.Given as goal

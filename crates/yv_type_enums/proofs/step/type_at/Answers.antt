@@ -1,14 +1,14 @@
 use Rattle.std.proofs.Common.{◌≡◌, ◌↔◌, ℕ, Option, Some, None, sym, ◌∙◌, ap, subst}
 use Rattle.std.specs.List.{slice_get}
 use Rattle.std.specs.Option.{option_copied, option_map}
-use Rattle.yv_statement.specs.Tree.{Tree}
+use Rattle.yv_text_statement.specs.Tree.{Tree}
 use Rattle.yv_link_scopes.specs.Files.{Files}
 use Rattle.yv_link_scopes.specs.Rows.{Row, row}
 use Rattle.yv_link_scopes.specs.Views.{lent_in, rows_in}
 use Rattle.yv_link.specs.LinkedFiles.{truth_in}
 use Rattle.yv_type_enums.specs.Types.{Truth, NamesView, HasNames, kind_in, new, from, first}
 use Rattle.yv_type_enums.specs.TypeNames.{told_of}
-use Rattle.yv_type_enums.proofs.Stepping.{from_known, if_ok, one_derived, one_new, out_none, out_other, out_past, out_unknown, row_read, step_by, step_nothing}
+use Rattle.yv_type_enums.proofs.TypeStatementStep.{from_known, if_ok, one_derived, one_new, out_none, out_other, out_past, out_unknown, row_read, step_by, step_nothing}
 use Rattle.yv_type_enums.proofs.step.type_at.Goals as goal
 
 pub returns-in_default : goal.returns-in_default

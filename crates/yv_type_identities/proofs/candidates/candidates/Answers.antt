@@ -5,8 +5,8 @@ use Rattle.yv_link_scopes.specs.RowList.{rows_of}
 use Rattle.yv_link_scopes.specs.Rows.{row}
 use Rattle.yv_link.specs.LinkedFiles.{truth_in}
 use Rattle.yv_type_identities.specs.InnerCandidates.{passes}
-use Rattle.yv_type_identities.proofs.Gathered.{gathered_none, gathered_more, gathered_same, all_candidates}
-use Rattle.yv_type_identities.proofs.Reading.{row_read, rows_count}
+use Rattle.yv_type_identities.proofs.StatementCandidates.{gathered_none, gathered_more, gathered_same, all_candidates}
+use Rattle.yv_type_identities.proofs.RowLoop.{row_read, rows_count}
 use Rattle.yv_type_identities.proofs.candidates.candidates.Goals as goal
 use Rattle.yv_type_identities.proofs.candidates.candidates.Goals.{then-passes+in_ok-candidate+in_ok-push, else-passes}
 

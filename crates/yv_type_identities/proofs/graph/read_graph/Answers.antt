@@ -5,8 +5,8 @@ use Rattle.yv_link_scopes.specs.Files.{brief_of}
 use Rattle.yv_link_scopes.specs.RowList.{rows_of}
 use Rattle.yv_link_scopes.specs.Rows.{Row, row}
 use Rattle.yv_type_identities.specs.InnerRuns.{is_identity_in, pair_of}
-use Rattle.yv_type_identities.proofs.Derived.{Edges, edges_all, edges_more, edges_none, edges_other, ends_graph, ends_more, ends_none}
-use Rattle.yv_type_identities.proofs.Reading.{row_read, rows_count}
+use Rattle.yv_type_identities.proofs.DerivationGraph.{Edges, edges_all, edges_more, edges_none, edges_other, ends_graph, ends_more, ends_none}
+use Rattle.yv_type_identities.proofs.RowLoop.{row_read, rows_count}
 use Rattle.yv_type_identities.proofs.graph.read_graph.Goals as goal
 use Rattle.yv_type_identities.proofs.graph.read_graph.Goals.{in-Some+in_ok-push, in_default}
 

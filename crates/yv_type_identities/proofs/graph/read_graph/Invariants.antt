@@ -1,11 +1,11 @@
 use Rattle.std.proofs.Common.{◌≡◌, length, map}
-use Rattle.yv_statement.specs.Selection.{ModuleChoice}
+use Rattle.yv_text_statement.specs.Selection.{ModuleChoice}
 use Rattle.yv_link_scopes.specs.Files.{Files, brief_of}
 use Rattle.yv_link_scopes.specs.RowList.{rows_of}
 use Rattle.yv_link_scopes.specs.Rows.{row}
 use Rattle.yv_link.specs.LinkedFiles.{AreLinked}
 use Rattle.yv_type_identities.specs.InnerRuns.{pair_of}
-use Rattle.yv_type_identities.proofs.Derived.{Edges, Ends}
+use Rattle.yv_type_identities.proofs.DerivationGraph.{Edges, Ends}
 use Rattle.yv_type_identities.proofs.graph.read_graph.Given as goal
 
 abbrev pub invariant-loop-number : goal.invariant-loop-number

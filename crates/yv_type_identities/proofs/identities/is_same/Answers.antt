@@ -1,5 +1,5 @@
 use Rattle.std.proofs.lemmas.Slice.Eq.{slice_eq-Decides}
-use Rattle.yv_type_identities.proofs.Kept.{pair_decides}
+use Rattle.yv_type_identities.proofs.KeyLists.{pair_decides}
 use Rattle.yv_type_identities.proofs.identities.is_same.Goals as goal
 
 pub returns : goal.returns

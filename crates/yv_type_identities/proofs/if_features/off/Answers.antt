@@ -4,8 +4,8 @@ use Rattle.yv_link_scopes.specs.RowList.{rows_of}
 use Rattle.yv_link_scopes.specs.Rows.{row}
 use Rattle.yv_link.specs.LinkedFiles.{truth_in}
 use Rattle.yv_type_identities.proofs.Numbers.{none_in}
-use Rattle.yv_type_identities.proofs.Reading.{row_read, rows_count}
-use Rattle.yv_type_identities.proofs.Standing.{failing_more, failing_same, failing_all}
+use Rattle.yv_type_identities.proofs.RowLoop.{row_read, rows_count}
+use Rattle.yv_type_identities.proofs.EnabledStatements.{failing_more, failing_same, failing_all}
 use Rattle.yv_type_identities.proofs.if_features.off.Goals as goal
 use Rattle.yv_type_identities.proofs.if_features.off.Goals.{then-is_false+in_ok-insert, else-is_false}
 

@@ -5,7 +5,7 @@ use Rattle.yv_link_scopes.specs.RowList.{rows_of}
 use Rattle.yv_link_scopes.specs.Rows.{row}
 use Rattle.yv_type_identities.specs.InnerBases.{bases_at}
 use Rattle.yv_type_identities.proofs.Blocks.{listed_none, listed_same, listed_more, listed_all}
-use Rattle.yv_type_identities.proofs.Reading.{row_read, rows_count}
+use Rattle.yv_type_identities.proofs.RowLoop.{row_read, rows_count}
 use Rattle.yv_type_identities.proofs.inside.bases_inside.Goals as goal
 use Rattle.yv_type_identities.proofs.inside.bases_inside.Goals.{in-Some+in_ok-add, in_default}
 

@@ -6,9 +6,9 @@ use Rattle.yv_values.specs.Identities.{id_of, identity_in, is_identity}
 use Rattle.yv_values.specs.Values.{identity}
 use Rattle.yv_type_identities.specs.InnerSets.{is_left}
 use Rattle.yv_type_identities.specs.declared.candidates.Candidate.{Candidate}
-use Rattle.yv_type_identities.proofs.Chosen.{is_one, id_in, one_is, none_is, id_is, by_number}
-use Rattle.yv_type_identities.proofs.Gathering.{gathering_none, gathering_more, gathering_same, gathered, told_alike}
-use Rattle.yv_type_identities.proofs.Keyed.{through}
+use Rattle.yv_type_identities.proofs.ChosenCandidates.{is_one, id_in, one_is, none_is, id_is, by_number}
+use Rattle.yv_type_identities.proofs.ListMembers.{gathering_none, gathering_more, gathering_same, gathered, told_alike}
+use Rattle.yv_type_identities.proofs.ValuesByKey.{through}
 use Rattle.yv_type_identities.proofs.lists.members_of.Goals as goal
 use Rattle.yv_type_identities.proofs.lists.members_of.Goals.{in-Some+in_ok-copy+in_ok-push, in_default}
 

@@ -1,5 +1,5 @@
-use Rattle.yv_type_identities.proofs.Chosen.{is_one, id_in}
-use Rattle.yv_type_identities.proofs.Gathering.{Gathering}
+use Rattle.yv_type_identities.proofs.ChosenCandidates.{is_one, id_in}
+use Rattle.yv_type_identities.proofs.ListMembers.{Gathering}
 use Rattle.yv_type_identities.proofs.lists.members_of.Given as goal
 
 abbrev pub invariant-loop-number : goal.invariant-loop-number

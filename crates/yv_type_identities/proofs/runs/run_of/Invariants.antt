@@ -1,5 +1,5 @@
 use Rattle.std.proofs.Common.{take}
-use Rattle.yv_type_identities.proofs.Running.{Joins}
+use Rattle.yv_type_identities.proofs.NumberRuns.{Joins}
 use Rattle.yv_type_identities.proofs.runs.run_of.Given as goal
 
 abbrev pub invariant-loop-node : goal.invariant-loop-node

@@ -1,10 +1,10 @@
 use Rattle.std.proofs.Common.{◌≡◌, ◌<◌, ℕ, List, Option, length, get_or, ◌∙◌, ap, subst, arith}
 use Rattle.std.specs.List.{Contains, list_any}
 use Rattle.std.specs.Prelude.{IfSome}
-use Rattle.yv_link_identities.proofs.Choosing.{longer}
+use Rattle.yv_link_identities.proofs.PassingNumbers.{longer}
 use Rattle.yv_type_identities.specs.InnerRuns.{IsKnown, in_node, is_in}
 use Rattle.yv_type_identities.specs.declared.runs.Run.{Run}
-use Rattle.yv_type_identities.proofs.Running.{Joins, run_is, runs_more}
+use Rattle.yv_type_identities.proofs.NumberRuns.{Joins, run_is, runs_more}
 use Rattle.yv_type_identities.proofs.runs.runs.Goals as goal
 
 pub loop-node-preserved : goal.loop-node-preserved

@@ -1,6 +1,6 @@
 use Rattle.std.proofs.Common.{sym, subst}
 use Rattle.std.specs.Prelude.{IfOk}
-use Rattle.yv_statement.specs.Order.{IsLeast}
+use Rattle.yv_text_statement.specs.Order.{IsLeast}
 use Rattle.yv_values.specs.Types.{plain_of}
 use Rattle.yv_values.specs.declared.plain.PlainType.{PlainType}
 use Rattle.yv_type_restrictions.specs.FacetRefusals.{BadFacets}

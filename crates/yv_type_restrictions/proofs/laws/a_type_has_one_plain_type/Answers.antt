@@ -1,7 +1,7 @@
 use Rattle.std.proofs.Common.{map}
 use Rattle.yv_link_scopes.specs.Files.{brief_of}
 use Rattle.yv_link_scopes.specs.RowList.{rows_of}
-use Rattle.yv_type_restrictions.proofs.Stepping.{plain_once}
+use Rattle.yv_type_restrictions.proofs.TypeStatementStep.{plain_once}
 use Rattle.yv_type_restrictions.proofs.laws.a_type_has_one_plain_type.Goals as goal
 
 pub returns : goal.returns

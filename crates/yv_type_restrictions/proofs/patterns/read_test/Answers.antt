@@ -1,11 +1,11 @@
 use Rattle.std.proofs.Common.{◌≡◌, rules, ℕ, List, true, codes, refl, sym, subst}
-use Rattle.yv_statement.specs.Order.{IsLeast, refusal_at}
-use Rattle.yv_statement.specs.Tree.{name_of}
-use Rattle.yv_statement.specs.declared.refusal.Code.TheVariants as code
-use Rattle.yv_statement.specs.declared.refusal.Refusal.{Refusal}
-use Rattle.yv_statement.specs.declared.refusal.Stop.{Stop}
-use Rattle.yv_statement.specs.declared.refusal.Stop.TheVariants as stop
-use Rattle.yv_statement.proofs.Least.{least_refused}
+use Rattle.yv_text_statement.specs.Order.{IsLeast, refusal_at}
+use Rattle.yv_text_statement.specs.Tree.{name_of}
+use Rattle.yv_text_statement.specs.declared.refusal.Code.TheVariants as code
+use Rattle.yv_text_statement.specs.declared.refusal.Refusal.{Refusal}
+use Rattle.yv_text_statement.specs.declared.refusal.Stop.{Stop}
+use Rattle.yv_text_statement.specs.declared.refusal.Stop.TheVariants as stop
+use Rattle.yv_text_statement.proofs.Least.{least_refused}
 use Rattle.yv_pattern.specs.Spells.{IsRefusedAs}
 use Rattle.yv_type_restrictions.specs.Facets.{has_word, IsOutside}
 use Rattle.yv_type_restrictions.specs.FacetRefusals.{BadPattern}

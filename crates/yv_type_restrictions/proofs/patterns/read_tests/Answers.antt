@@ -1,8 +1,8 @@
 use Rattle.std.proofs.Common.{◌≡◌, ◌≤◌, List, length, Some, refl, arith}
 use Rattle.std.specs.List.{slice_get}
 use Rattle.std.proofs.lemmas.Option.{slice_get_read}
-use Rattle.yv_statement.proofs.Least.{least_more}
-use Rattle.yv_statement.specs.Tree.{Tree}
+use Rattle.yv_text_statement.proofs.Least.{least_more}
+use Rattle.yv_text_statement.specs.Tree.{Tree}
 use Rattle.yv_type_restrictions.specs.FacetRefusals.{BadPattern}
 use Rattle.yv_type_restrictions.proofs.Read.{more_tests, least_all}
 use Rattle.yv_type_restrictions.proofs.patterns.read_tests.Goals as goal

@@ -1,5 +1,5 @@
 use Rattle.std.proofs.Common.{map, take}
-use Rattle.yv_statement.specs.Order.{IsLeast, Among}
+use Rattle.yv_text_statement.specs.Order.{IsLeast, Among}
 use Rattle.yv_values.specs.Types.{test_of}
 use Rattle.yv_type_restrictions.specs.Facets.{AreTests}
 use Rattle.yv_type_restrictions.specs.FacetRefusals.{BadPattern}

@@ -1,7 +1,7 @@
 use Rattle.std.proofs.Common.{List, Option, None, subst, codes}
-use Rattle.yv_statement.specs.Order.{IsLeast}
-use Rattle.yv_statement.specs.Tree.{Tree, trees}
-use Rattle.yv_statement.proofs.Least.{least_lesser}
+use Rattle.yv_text_statement.specs.Order.{IsLeast}
+use Rattle.yv_text_statement.specs.Tree.{Tree, trees}
+use Rattle.yv_text_statement.proofs.Least.{least_lesser}
 use Rattle.yv_type_restrictions.specs.Facets.{child}
 use Rattle.yv_type_restrictions.specs.FacetRefusals.{BadPatterns, BadRestriction}
 use Rattle.yv_type_restrictions.proofs.restricted_kinds.text.Goals as goal

@@ -1,6 +1,6 @@
 use Rattle.std.proofs.Common.{Option, None, subst}
-use Rattle.yv_statement.specs.Order.{IsLeast}
-use Rattle.yv_statement.specs.Tree.{Tree}
+use Rattle.yv_text_statement.specs.Order.{IsLeast}
+use Rattle.yv_text_statement.specs.Tree.{Tree}
 use Rattle.yv_type_restrictions.specs.FacetRefusals.{BadRestriction}
 use Rattle.yv_type_restrictions.proofs.restricted_kinds.whole.Goals as goal
 

@@ -4,7 +4,7 @@ use Rattle.std.specs.Option.{option_copied, option_map}
 use Rattle.yv_values.specs.Types.{plain_of}
 use Rattle.yv_values.specs.declared.plain.PlainType.{PlainType}
 use Rattle.yv_type_restrictions.specs.InnerSteps.{IsLeft}
-use Rattle.yv_type_restrictions.proofs.Stepping.{left_some}
+use Rattle.yv_type_restrictions.proofs.TypeStatementStep.{left_some}
 use Rattle.yv_type_restrictions.proofs.step.left_of.Goals as goal
 
 pub returns-in-Ok-clause-leaves : goal.returns-in-Ok-clause-leaves

@@ -1,13 +1,13 @@
 use Rattle.std.proofs.Common.{◌≡◌, ◌↔◌, ℕ, Option, Some, sym, ◌∙◌, subst}
 use Rattle.std.specs.List.{slice_get}
 use Rattle.std.specs.Option.{option_copied, option_map}
-use Rattle.yv_statement.specs.Tree.{Tree}
+use Rattle.yv_text_statement.specs.Tree.{Tree}
 use Rattle.yv_link_scopes.specs.Files.{Files}
 use Rattle.yv_link_scopes.specs.Rows.{row}
 use Rattle.yv_link_scopes.specs.Views.{lent_in, rows_in}
 use Rattle.yv_values.specs.Types.{Plain, plain_of}
 use Rattle.yv_type_restrictions.specs.Types.{HasPlainType, IsTypeAt, named_type}
-use Rattle.yv_type_restrictions.proofs.Stepping.{if_ok, out_none, out_other, out_past, starts_derived, starts_named, row_read, step_by, step_nothing}
+use Rattle.yv_type_restrictions.proofs.TypeStatementStep.{if_ok, out_none, out_other, out_past, starts_derived, starts_named, row_read, step_by, step_nothing}
 use Rattle.yv_type_restrictions.proofs.step.type_at.Goals as goal
 
 pub returns-in_default-clause-step : goal.returns-in_default-clause-step

@@ -2,7 +2,7 @@ use Rattle.std.proofs.Common.{Some, subst, sym, inl, inr}
 use Rattle.std.specs.Prelude.{OnOk}
 use Rattle.std.specs.declared.result.Result.{Result}
 use Rattle.std.specs.declared.result.Result.TheVariants.{Ok, Err}
-use Rattle.yv_statement.specs.Order.{IsLeast}
+use Rattle.yv_text_statement.specs.Order.{IsLeast}
 use Rattle.yv_link_definitions.specs.Meanings.{AreNames}
 use Rattle.yv_link_definitions.specs.Refusals.{BadNames}
 use Rattle.yv_types.proofs.build.resolve_types.Goals as goal

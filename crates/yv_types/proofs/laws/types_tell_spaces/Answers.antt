@@ -1,4 +1,4 @@
-use Rattle.yv_types.proofs.Told.{all_told}
+use Rattle.yv_types.proofs.PlacedPlainTypes.{all_told}
 use Rattle.yv_types.proofs.laws.types_tell_spaces.Goals as goal
 
 pub returns : goal.returns

@@ -3,7 +3,7 @@ use Rattle.std.specs.List.{slice_get}
 use Rattle.yv_link_scopes.specs.Rows.{Row, row}
 use Rattle.yv_link_scopes.specs.Views.{files_in, rows_in}
 use Rattle.yv_type_chains.proofs.Words.{row_read, rows_count}
-use Rattle.yv_types.proofs.Scoping.{scopes_all, scopes_bare, scopes_more}
+use Rattle.yv_types.proofs.PrefixScopes.{scopes_all, scopes_bare, scopes_more}
 use Rattle.yv_types.proofs.scopes.scopes_of.Goals as goal
 
 pub loop-entry-init : goal.loop-entry-init

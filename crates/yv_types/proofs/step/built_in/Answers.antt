@@ -4,7 +4,7 @@ use Rattle.yv_link_scopes.specs.Rows.{row}
 use Rattle.yv_link.specs.LinkedFiles.{truth_in}
 use Rattle.yv_types.specs.Spaces.{identityref, leafref}
 use Rattle.yv_types.specs.InnerTables.{joined_from, plains}
-use Rattle.yv_types.proofs.Stepping.{has_joined, has_none, has_some, if_ok}
+use Rattle.yv_types.proofs.TypeStatementStep.{has_joined, has_none, has_some, if_ok}
 use Rattle.yv_types.proofs.step.built_in.Goals as goal
 
 pub returns-then-is_kind-clause-space : goal.returns-then-is_kind-clause-space

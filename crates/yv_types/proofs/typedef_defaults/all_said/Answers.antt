@@ -3,7 +3,7 @@ use Rattle.yv_link_scopes.specs.Rows.{row}
 use Rattle.yv_link_scopes.specs.Views.{lent_in, rows_in}
 use Rattle.yv_type_chains.proofs.Words.{longer, rows_count}
 use Rattle.yv_types.specs.InnerDefaultTables.{said_at}
-use Rattle.yv_types.proofs.Saying.{texts_all, texts_more}
+use Rattle.yv_types.proofs.TypedefDefaultTexts.{texts_all, texts_more}
 use Rattle.yv_types.proofs.typedef_defaults.all_said.Goals as goal
 
 pub loop-number-preserved : goal.loop-number-preserved

@@ -1,4 +1,4 @@
-use Rattle.yv_validate.proofs.Remembered.{tells_none, tells_some}
+use Rattle.yv_validate.proofs.IndexContents.{tells_none, tells_some}
 use Rattle.yv_validate.proofs.memory.stood_before.Goals as goal
 
 pub returns-in-None-clause-tells : goal.returns-in-None-clause-tells

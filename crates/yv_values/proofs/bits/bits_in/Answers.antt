@@ -1,7 +1,7 @@
 use Rattle.std.proofs.Common.{◌<◌, List, ℕ, Bor, length, map, subst, sym}
 use Rattle.yv_values.specs.Texts.{words}
 use Rattle.yv_values.specs.InnerNames.{Arranges}
-use Rattle.yv_values.proofs.Chosen.{bits_arranged}
+use Rattle.yv_values.proofs.BitSets.{bits_arranged}
 use Rattle.yv_values.proofs.Fewer.{too_many_words}
 use Rattle.yv_values.proofs.bits.bits_in.Goals as goal
 

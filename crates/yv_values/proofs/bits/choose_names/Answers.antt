@@ -2,7 +2,7 @@ use Rattle.std.proofs.Common.{◌∙◌, ◌++◌, ℕ, List, Bor, map, append_a
 use Rattle.std.proofs.lemmas.List.{drop_all}
 use Rattle.yv_values.specs.Texts.{choose}
 use Rattle.yv_values.specs.Values.{texts}
-use Rattle.yv_values.proofs.Chosen.{rest_is, next_word, chosen_none}
+use Rattle.yv_values.proofs.BitSets.{rest_is, next_word, chosen_none}
 use Rattle.yv_values.proofs.bits.choose_names.Goals as goal
 
 pub loop-word-preserved : goal.loop-word-preserved

@@ -1,6 +1,6 @@
 use Rattle.std.proofs.Common.{◌∙◌, List, ℕ, ap}
 use Rattle.std.specs.Str.{bytes_eq}
-use Rattle.yv_values.proofs.Chosen.{first_of}
+use Rattle.yv_values.proofs.BitSets.{first_of}
 use Rattle.yv_values.proofs.bits.is_first.Goals as goal
 
 pub returns-in-Some : goal.returns-in-Some

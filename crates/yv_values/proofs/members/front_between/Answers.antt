@@ -2,7 +2,7 @@ use Rattle.std.proofs.Common.{◌≡◌, List, length, map, arith, Bor}
 use Rattle.std.proofs.lemmas.List.{length-map}
 use Rattle.yv_values.specs.declared.members.Member.{Member}
 use Rattle.yv_values.specs.Identities.{Id, id_of}
-use Rattle.yv_values.proofs.Numbered.{front_all, front_full}
+use Rattle.yv_values.proofs.NumberedIdentities.{front_all, front_full}
 use Rattle.yv_values.proofs.members.front_between.Goals as goal
 use Rattle.yv_values.proofs.members.front_between.Goals.{else-loop-entry-test, then-loop-entry-test+then-len-most}
 

@@ -4,8 +4,8 @@ use Rattle.std.proofs.lemmas.Option.{slice_get-get_or}
 use Rattle.yv_values.specs.declared.numbered_members.NumberedMember.{NumberedMember}
 use Rattle.yv_values.specs.Identities.{id_cmp}
 use Rattle.yv_values.specs.InnerMembers.{entry_id}
-use Rattle.yv_values.proofs.Found.{ids_total}
-use Rattle.yv_values.proofs.Rising.{adjacent_rises}
+use Rattle.yv_values.proofs.IdentitySearch.{ids_total}
+use Rattle.yv_values.proofs.RisingLists.{adjacent_rises}
 use Rattle.yv_values.proofs.numbered_members.rise.Goals as goal
 
 pub returns-clause-rises : goal.returns-clause-rises

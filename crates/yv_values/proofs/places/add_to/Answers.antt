@@ -1,4 +1,4 @@
-use Rattle.yv_values.proofs.Ascending.{inserted, inserted_order}
+use Rattle.yv_values.proofs.PlaceOrder.{inserted, inserted_order}
 use Rattle.yv_values.proofs.places.add_to.Goals as goal
 
 pub returns-clause-adds : goal.returns-clause-adds

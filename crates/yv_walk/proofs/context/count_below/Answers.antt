@@ -2,7 +2,7 @@ use Rattle.std.proofs.Common.{ltb, arith, rules}
 use Rattle.std.proofs.lemmas.Bool.Decides.{nat_tests}
 use Rattle.std.proofs.lemmas.List.Sorted.{IsPartitionedBy-ltb, IsPartitionPoint-from_clause}
 use Rattle.yv_nodes.specs.declared.node.NodeId.{NodeId}
-use Rattle.yv_walk.proofs.Ascending.{not_decreasing}
+use Rattle.yv_walk.proofs.AscendingNodes.{not_decreasing}
 use Rattle.yv_walk.proofs.context.count_below.Goals as goal
 
 pub returns-clause-below : goal.returns-clause-below

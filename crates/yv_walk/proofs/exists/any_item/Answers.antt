@@ -1,5 +1,5 @@
 use Rattle.std.proofs.Common.{length, nat_lt, ap, ◌∙◌}
-use Rattle.yv_walk.proofs.Filled.{filled}
+use Rattle.yv_walk.proofs.NonEmptyArrays.{filled}
 use Rattle.yv_walk.proofs.exists.any_item.Goals as goal
 
 pub returns : goal.returns

@@ -1,6 +1,6 @@
 use Rattle.std.proofs.Common.{ap}
 use Rattle.std.proofs.lemmas.Result.{on_ok_weaker}
-use Rattle.yv_base_graph.proofs.Following.{target_state, follow_new, follow_done, follow_pending}
+use Rattle.yv_base_graph.proofs.EdgeStep.{target_state, follow_new, follow_done, follow_pending}
 use Rattle.yv_base_graph.proofs.search.Search.follow.Goals as goal
 
 pub returns-in-New : goal.returns-in-New

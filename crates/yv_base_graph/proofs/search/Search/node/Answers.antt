@@ -1,5 +1,5 @@
 use Rattle.std.proofs.Common.{length, ap, arith}
-use Rattle.yv_base_graph.proofs.Following.{top_read, place_within, pending_within}
+use Rattle.yv_base_graph.proofs.EdgeStep.{top_read, place_within, pending_within}
 use Rattle.yv_base_graph.proofs.search.Search.node.Goals as goal
 
 pub index-requires : goal.index-requires

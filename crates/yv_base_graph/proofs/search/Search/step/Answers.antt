@@ -1,7 +1,7 @@
 use Rattle.std.proofs.Common.{◌≡◌, ◌≤◌, ◌∙◌, sym, arith, length, get_or}
 use Rattle.std.proofs.lemmas.Result.{on_ok_weaker}
-use Rattle.yv_base_graph.proofs.Following.{is_next}
-use Rattle.yv_base_graph.proofs.Searching.{has_head, not_head, all_within, ended_row, retreat_steps, leave_steps}
+use Rattle.yv_base_graph.proofs.EdgeStep.{is_next}
+use Rattle.yv_base_graph.proofs.SearchInvariant.{has_head, not_head, all_within, ended_row, retreat_steps, leave_steps}
 use Rattle.yv_base_graph.proofs.search.Search.step.Goals as goal
 
 pub follow-requires-clause-next : goal.follow-requires-clause-next

@@ -1,4 +1,4 @@
-use Rattle.yv_base_graph.proofs.Found.{visit_start, visit_visited}
+use Rattle.yv_base_graph.proofs.SearchResult.{visit_start, visit_visited}
 use Rattle.yv_base_graph.proofs.search.Search.visit.Goals as goal
 
 pub loop-self-init : goal.loop-self-init

@@ -1,6 +1,6 @@
 use Rattle.std.proofs.Common.{◌≡◌, ℕ, ◌+◌, ◌-◌, ◌<◌, length, refl, subst, arith}
 use Rattle.yv_base_tables.specs.InnerChains.{AreChains}
-use Rattle.yv_base_tables.proofs.Chaining.{linked_more}
+use Rattle.yv_base_tables.proofs.NumberChains.{linked_more}
 use Rattle.yv_base_tables.proofs.chains.Chains.read.Goals as goal
 
 pub loop-left-preserved : goal.loop-left-preserved

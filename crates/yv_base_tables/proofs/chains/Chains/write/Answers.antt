@@ -1,7 +1,7 @@
 use Rattle.std.proofs.Common.{◌≡◌, ℕ, ◌+◌, ◌<◌, ◌++◌, ◌∷◌, [], List, length, get_or, Option, Some, None, refl, sym, ◌∙◌, ap, subst, arith, append_assoc}
 use Rattle.std.proofs.lemmas.List.{append-nil, get_or_read}
 use Rattle.yv_base_tables.specs.InnerChains.{Leads}
-use Rattle.yv_base_tables.proofs.Chaining.{left, leads_one, leads_here, leads_none, leads_fall}
+use Rattle.yv_base_tables.proofs.NumberChains.{left, leads_one, leads_here, leads_none, leads_fall}
 use Rattle.yv_base_tables.proofs.chains.Chains.write.Goals as goal
 
 pub loop-next-init : goal.loop-next-init

@@ -1,6 +1,6 @@
 use Rattle.std.proofs.Common.{◌≡◌, ℕ, ◌++◌, List, length}
 use Rattle.yv_base_tables.specs.InnerChains.{Leads, IsChain}
-use Rattle.yv_base_tables.proofs.Chaining.{left}
+use Rattle.yv_base_tables.proofs.NumberChains.{left}
 use Rattle.yv_base_tables.proofs.chains.Chains.write.Given as goal
 
 abbrev pub invariant-loop-next : goal.invariant-loop-next

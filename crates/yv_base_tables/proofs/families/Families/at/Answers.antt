@@ -2,7 +2,7 @@ use Rattle.std.proofs.Common.{◌≡◌, ◌≤◌, ◌<◌, ℕ, [], List, leng
 use Rattle.std.proofs.lemmas.List.{get_or_read}
 use Rattle.std.specs.List.{slice_range}
 use Rattle.yv_base_tables.specs.InnerParts.{start_of}
-use Rattle.yv_base_tables.proofs.Parting.{part_at, part_past, part_within}
+use Rattle.yv_base_tables.proofs.ListParts.{part_at, part_past, part_within}
 use Rattle.yv_base_tables.proofs.families.Families.at.Goals as goal
 
 pub returns-then-place-len : goal.returns-then-place-len

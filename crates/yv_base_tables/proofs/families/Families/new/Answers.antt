@@ -1,7 +1,7 @@
 use Rattle.std.proofs.Common.{◌≡◌, ℕ, ◌++◌, ◌∷◌, [], List, Option, length, sym, ◌∙◌, ap, subst, arith, length-append, add-one}
 use Rattle.yv_base_tables.specs.Families.{numbers_at, by_place}
 use Rattle.yv_base_tables.specs.InnerParts.{AreEnds, parts}
-use Rattle.yv_base_tables.proofs.Parting.{parts_more, ends_more}
+use Rattle.yv_base_tables.proofs.ListParts.{parts_more, ends_more}
 use Rattle.yv_base_tables.proofs.families.Families.new.Goals as goal
 
 pub write-requires-clause-chain : goal.write-requires-clause-chain

@@ -1,6 +1,6 @@
 use Rattle.std.proofs.Common.{◌≡◌, ◌<◌, ◌+◌, ℕ, List, Some, length, take, sym, ◌∙◌, ap, arith}
 use Rattle.std.proofs.lemmas.List.{length-take, take_more}
-use Rattle.yv_base_tables.proofs.Growing.{after_err}
+use Rattle.yv_base_tables.proofs.PathTreeGrowth.{after_err}
 use Rattle.yv_base_tables.proofs.path_tree.PathTree.add.Goals as goal
 
 pub loop-place-preserved : goal.loop-place-preserved

@@ -6,7 +6,7 @@ use Rattle.std.proofs.lemmas.Bool.{cases_lt}
 use Rattle.std.proofs.lemmas.Option.{slice_get_within}
 use Rattle.yv_base_tables.specs.InnerTree.{HasRoom, branches_in}
 use Rattle.yv_base_tables.specs.declared.path_tree.PathTree.{PathTree}
-use Rattle.yv_base_tables.proofs.Growing.{grown, on_err, same_tree}
+use Rattle.yv_base_tables.proofs.PathTreeGrowth.{grown, on_err, same_tree}
 use Rattle.yv_base_tables.proofs.Rows.{KeepRows, empty_row, keep_same, keep_written, room_before, rows_written}
 use Rattle.yv_base_tables.proofs.path_tree.PathTree.grow.Goals as goal
 

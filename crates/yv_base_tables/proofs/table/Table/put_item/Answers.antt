@@ -1,5 +1,5 @@
 use Rattle.std.proofs.Common.{◌≡◌, ◌+◌, ◌∷◌, [], length, ap, ◌∙◌, length-append, arith}
-use Rattle.yv_base_tables.proofs.Tabling.{put_elsewhere, put_here, within_grown, within_set}
+use Rattle.yv_base_tables.proofs.TableEntries.{put_elsewhere, put_here, within_grown, within_set}
 use Rattle.yv_base_tables.proofs.table.Table.put_item.Goals as goal
 
 pub invariant_of-self : goal.invariant_of-self

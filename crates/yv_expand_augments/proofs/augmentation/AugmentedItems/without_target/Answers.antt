@@ -1,11 +1,11 @@
 use Rattle.std.proofs.Common.{Bool, sym, ◌∙◌, ap, subst}
 use Rattle.std.specs.List.{slice_get}
-use Rattle.yv_statement.specs.Order.{IsLeast}
-use Rattle.yv_statement.specs.declared.refusal.Code.TheVariants as code
+use Rattle.yv_text_statement.specs.Order.{IsLeast}
+use Rattle.yv_text_statement.specs.declared.refusal.Code.TheVariants as code
 use Rattle.yv_link_scopes.specs.Views.{rows_in}
 use Rattle.yv_expand_augments.specs.Refusals.{HasNoTarget, RefusesIf}
 use Rattle.yv_expand_augments.specs.InnerRefusals.{is_absent, refusal_of_row}
-use Rattle.yv_expand_augments.proofs.Refusing.{absent, least_at}
+use Rattle.yv_expand_augments.proofs.StatementRefusals.{absent, least_at}
 use Rattle.yv_expand_augments.proofs.augmentation.AugmentedItems.without_target.Goals as goal
 
 pub returns : goal.returns

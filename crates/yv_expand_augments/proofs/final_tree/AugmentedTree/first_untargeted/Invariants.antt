@@ -1,5 +1,5 @@
 use Rattle.std.proofs.Common.{List}
-use Rattle.yv_statement.specs.Order.{Among, IsLeast}
+use Rattle.yv_text_statement.specs.Order.{Among, IsLeast}
 use Rattle.yv_expand.specs.Tree.{Item}
 use Rattle.yv_expand_rounds.specs.Turns.{State}
 use Rattle.yv_expand_uses.specs.Ends.{end_at}

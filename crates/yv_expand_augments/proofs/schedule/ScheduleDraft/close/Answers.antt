@@ -5,7 +5,7 @@ use Rattle.std.specs.declared.vec.Vec.{Vec}
 use Rattle.yv_expand_augments.specs.InnerSchedule.{AreIdle}
 use Rattle.yv_expand_augments.specs.declared.schedule.AddressedAugment.{AddressedAugment}
 use Rattle.yv_expand_augments.specs.declared.schedule.Stretch.{Stretch}
-use Rattle.yv_expand_augments.proofs.Scheduling.{ended_within, none_idle, none_in, stretch_done}
+use Rattle.yv_expand_augments.proofs.AugmentSchedule.{ended_within, none_idle, none_in, stretch_done}
 use Rattle.yv_expand_augments.proofs.schedule.ScheduleDraft.close.Goals as goal
 
 pub returns-clause-ends : goal.returns-clause-ends

@@ -3,11 +3,11 @@ use Rattle.std.specs.BTreeSet.{contains}
 use Rattle.std.specs.List.{slice_get}
 use Rattle.std.specs.Ordering.{nat_cmp}
 use Rattle.std.proofs.lemmas.Option.{same_Some}
-use Rattle.yv_statement.specs.declared.refusal.Refusal.{Refusal}
+use Rattle.yv_text_statement.specs.declared.refusal.Refusal.{Refusal}
 use Rattle.yv_expand_augments.specs.InnerSchedule.{AreIdle, IsPathOf}
 use Rattle.yv_expand_augments.specs.declared.schedule.AddressedAugment.{AddressedAugment}
 use Rattle.yv_expand_augments.specs.declared.schedule.ScheduleDraft.{ScheduleDraft}
-use Rattle.yv_expand_augments.proofs.Scheduling.{all_passed, contains_more, idle_push, idle_same, known_before, passed_push, path_of_before, path_of_keep, path_of_last, refusal_code}
+use Rattle.yv_expand_augments.proofs.AugmentSchedule.{all_passed, contains_more, idle_push, idle_same, known_before, passed_push, path_of_before, path_of_keep, path_of_last, refusal_code}
 use Rattle.yv_expand_augments.proofs.schedule.ScheduleDraft.push.Goals as goal
 
 pub returns-then-not-branch : goal.returns-then-not-branch

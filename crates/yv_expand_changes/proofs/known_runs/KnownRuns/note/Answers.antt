@@ -4,8 +4,8 @@ use Rattle.yv_expand_refines.specs.Changes.{each}
 use Rattle.yv_expand_refines.specs.declared.targets.RefineTarget.{RefineTarget}
 use Rattle.yv_expand_changes.specs.InnerAlike.{AreRuns, noted_from, runs_of, ways_of}
 use Rattle.yv_expand_changes.specs.declared.ways.Way.{Way}
-use Rattle.yv_expand_changes.proofs.Copying.{copied}
-use Rattle.yv_expand_changes.proofs.Keeping.{on_ok}
+use Rattle.yv_expand_changes.proofs.CopyChanges.{copied}
+use Rattle.yv_expand_changes.proofs.UsesRuns.{on_ok}
 use Rattle.yv_expand_changes.proofs.known_runs.KnownRuns.note.Goals as goal
 
 pub returns-clause-each : goal.returns-clause-each

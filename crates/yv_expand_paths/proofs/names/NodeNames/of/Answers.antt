@@ -1,6 +1,6 @@
 use Rattle.std.proofs.Common.{◌∙◌, ap}
 use Rattle.std.specs.List.{slice_get}
-use Rattle.yv_expand_paths.proofs.Reading.{number_read}
+use Rattle.yv_expand_paths.proofs.PathReading.{number_read}
 use Rattle.yv_expand_paths.proofs.names.NodeNames.of.Goals as goal
 
 pub returns : goal.returns

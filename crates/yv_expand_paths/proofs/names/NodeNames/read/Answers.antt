@@ -5,8 +5,8 @@ use Rattle.yv_link_scopes.specs.Views.{rows_in}
 use Rattle.yv_expand_paths.specs.Names.{node_name}
 use Rattle.yv_expand_paths.specs.InnerNameNumbers.{own_names, place_of}
 use Rattle.yv_expand_paths.specs.InnerNames.{table_of}
-use Rattle.yv_expand_paths.proofs.Placing.{place_front}
-use Rattle.yv_expand_paths.proofs.Keeping.{told_more, numbers_behind}
+use Rattle.yv_expand_paths.proofs.NamePlaces.{place_front}
+use Rattle.yv_expand_paths.proofs.NameTableGrowth.{told_more, numbers_behind}
 use Rattle.yv_expand_paths.proofs.names.NodeNames.read.Goals as goal
 
 pub returns-clause-names : goal.returns-clause-names

@@ -6,7 +6,7 @@ use Rattle.yv_link_scopes.specs.Rows.{Row, row}
 use Rattle.yv_link_scopes.specs.Views.{files_in, rows_in}
 use Rattle.yv_expand_paths.specs.InnerSteps.{path_at}
 use Rattle.yv_expand_paths.specs.PathTables.{steps_of}
-use Rattle.yv_expand_paths.proofs.Reading.{row_read, rows_count, each_more, each_all}
+use Rattle.yv_expand_paths.proofs.PathReading.{row_read, rows_count, each_more, each_all}
 use Rattle.yv_expand_paths.proofs.paths.Paths.read.Goals as goal
 
 pub loop-entry-preserved : goal.loop-entry-preserved

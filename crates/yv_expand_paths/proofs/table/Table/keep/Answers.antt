@@ -2,7 +2,7 @@ use Rattle.std.proofs.Common.{◌≡◌, ◌∙◌, ℕ, Some, ap, subst, arith}
 use Rattle.std.specs.BTreeMap.Entry.{map_with_value}
 use Rattle.std.specs.Option.{unwrap_or}
 use Rattle.yv_expand_paths.specs.InnerNames.{lookup_in, keep_first}
-use Rattle.yv_expand_paths.proofs.Keeping.{kept}
+use Rattle.yv_expand_paths.proofs.NameTableGrowth.{kept}
 use Rattle.yv_expand_paths.proofs.table.Table.keep.Goals as goal
 
 pub returns-clause-tells : goal.returns-clause-tells

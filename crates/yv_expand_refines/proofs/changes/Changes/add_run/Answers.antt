@@ -1,7 +1,7 @@
 use Rattle.std.proofs.Common.{◌∙◌, ap}
 use Rattle.yv_expand_refines.specs.InnerPlaces.{places_in}
 use Rattle.yv_expand_refines.specs.Changes.{ChangesView}
-use Rattle.yv_expand_refines.proofs.Joining.{run_added}
+use Rattle.yv_expand_refines.proofs.RunSequences.{run_added}
 use Rattle.yv_expand_refines.proofs.changes.Changes.add_run.Goals as goal
 
 pub returns-clause-sequences : goal.returns-clause-sequences

@@ -1,6 +1,6 @@
 use Rattle.std.proofs.Common.{ap, length, arith}
 use Rattle.yv_expand_refines.specs.Changes.{ChangesView}
-use Rattle.yv_expand_refines.proofs.Joining.{items_of, length-sequences_of}
+use Rattle.yv_expand_refines.proofs.RunSequences.{items_of, length-sequences_of}
 use Rattle.yv_expand_refines.proofs.changes.Changes.count.Goals as goal
 
 pub returns : goal.returns

@@ -5,7 +5,7 @@ use Rattle.std.proofs.lemmas.Option.{slice_get-get_or}
 use Rattle.yv_expand_refines.specs.Changes.{ChangesView, sequence_at}
 use Rattle.yv_expand_refines.specs.InnerJoints.{AreJoined, sequences_of}
 use Rattle.yv_expand_refines.specs.InnerPlaces.{places_in}
-use Rattle.yv_expand_refines.proofs.Joining.{given, items_of, noted_in}
+use Rattle.yv_expand_refines.proofs.RunSequences.{given, items_of, noted_in}
 use Rattle.yv_expand_refines.proofs.changes.Changes.give.Goals as goal
 
 -- the sequence that an item has is read

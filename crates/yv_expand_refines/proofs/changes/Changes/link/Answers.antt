@@ -2,7 +2,7 @@ use Rattle.std.proofs.Common.{◌≡◌, None, Some, ap, rules}
 use Rattle.std.specs.List.{slice_get}
 use Rattle.yv_expand_refines.specs.InnerPlaces.{places_in}
 use Rattle.yv_expand_refines.specs.Changes.{ChangesView}
-use Rattle.yv_expand_refines.proofs.Joining.{items_of, linked_in, none_in}
+use Rattle.yv_expand_refines.proofs.RunSequences.{items_of, linked_in, none_in}
 use Rattle.yv_expand_refines.proofs.changes.Changes.link.Goals as goal
 
 pub returns-in-Some-clause-sequence : goal.returns-in-Some-clause-sequence

@@ -1,7 +1,7 @@
 use Rattle.std.proofs.Common.{ap}
 use Rattle.yv_expand_refines.specs.InnerPlaces.{places_in}
 use Rattle.yv_expand_refines.specs.Changes.{ChangesView}
-use Rattle.yv_expand_refines.proofs.Joining.{had, items_of}
+use Rattle.yv_expand_refines.proofs.RunSequences.{had, items_of}
 use Rattle.yv_expand_refines.proofs.changes.Changes.sequence.Goals as goal
 
 pub returns-clause-within : goal.returns-clause-within

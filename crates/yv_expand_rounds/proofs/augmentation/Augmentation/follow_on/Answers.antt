@@ -1,7 +1,7 @@
 use Rattle.std.proofs.Common.{List, Bool, sym, ◌∙◌}
 use Rattle.yv_expand_rounds.specs.declared.end.End.{End}
 use Rattle.yv_expand_rounds.specs.InnerPendingPaths.{IsFollowed}
-use Rattle.yv_expand_rounds.proofs.Following.{followed_end, followed_trail, kept_trail, trail_leads}
+use Rattle.yv_expand_rounds.proofs.FollowedPaths.{followed_end, followed_trail, kept_trail, trail_leads}
 use Rattle.yv_expand_rounds.proofs.augmentation.Augmentation.follow_on.Goals as goal
 
 pub returns-clause-end : goal.returns-clause-end

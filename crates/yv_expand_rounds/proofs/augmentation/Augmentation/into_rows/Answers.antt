@@ -3,8 +3,8 @@ use Rattle.yv_expand_rounds.specs.declared.label.Label.{Label}
 use Rattle.yv_expand_rounds.specs.Groups.{Groups}
 use Rattle.yv_expand_rounds.specs.Tree.{AreRows}
 use Rattle.yv_expand_rounds.specs.InnerTreeList.{StandAtMostOnce, groups_in}
-use Rattle.yv_expand_rounds.proofs.Grouped.{are_members}
-use Rattle.yv_expand_rounds.proofs.Taking.{stand_at_most_once}
+use Rattle.yv_expand_rounds.proofs.GroupMembers.{are_members}
+use Rattle.yv_expand_rounds.proofs.GroupRemoval.{stand_at_most_once}
 use Rattle.yv_expand_rounds.proofs.augmentation.Augmentation.into_rows.Goals as goal
 
 pub returns : goal.returns

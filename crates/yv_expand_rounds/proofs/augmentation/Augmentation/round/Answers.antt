@@ -6,7 +6,7 @@ use Rattle.std.proofs.lemmas.Option.{slice_get_read, slice_get-map}
 use Rattle.yv_expand_rounds.specs.declared.trail.Trail.{Trail}
 use Rattle.yv_expand_rounds.specs.InnerState.{count_left}
 use Rattle.yv_expand_rounds.specs.InnerPendingPaths.{IsTrail}
-use Rattle.yv_expand_rounds.proofs.Resuming.{Resumes, resumes_none, resumes_more, resumes_all, resumes_waiting, fewer_or}
+use Rattle.yv_expand_rounds.proofs.PendingPaths.{Resumes, resumes_none, resumes_more, resumes_all, resumes_waiting, fewer_or}
 use Rattle.yv_expand_rounds.proofs.augmentation.Augmentation.round.Goals as goal
 
 pub loop-index-init : goal.loop-index-init

@@ -3,7 +3,7 @@ use Rattle.yv_expand_rounds.specs.declared.label.Label.{Label}
 use Rattle.yv_expand_rounds.specs.Turns.{State}
 use Rattle.yv_expand_rounds.specs.InnerState.{IsAugmentation, count_left}
 use Rattle.yv_expand_rounds.specs.InnerPendingPaths.{AreWaiting}
-use Rattle.yv_expand_rounds.proofs.Resuming.{Resumes}
+use Rattle.yv_expand_rounds.proofs.PendingPaths.{Resumes}
 use Rattle.yv_expand_rounds.proofs.augmentation.Augmentation.round.Given as goal
 
 abbrev pub invariant-loop-index : goal.invariant-loop-index

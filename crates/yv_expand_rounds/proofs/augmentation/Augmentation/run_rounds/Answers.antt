@@ -1,7 +1,7 @@
 use Rattle.std.proofs.Common.{◌≡◌, ℕ, List, false, length, map, replicate, sym, ◌∙◌, ap, arith, refl}
 use Rattle.yv_expand_rounds.specs.Turns.{State}
 use Rattle.yv_expand_rounds.specs.Rounds.{rounds}
-use Rattle.yv_expand_rounds.proofs.Resuming.{Runs, are_new, runs_none, runs_more, runs_done}
+use Rattle.yv_expand_rounds.proofs.PendingPaths.{Runs, are_new, runs_none, runs_more, runs_done}
 use Rattle.yv_expand_rounds.proofs.augmentation.Augmentation.run_rounds.Goals as goal
 
 pub loop-waiting-init : goal.loop-waiting-init

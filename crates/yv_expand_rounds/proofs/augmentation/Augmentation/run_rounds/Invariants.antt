@@ -2,7 +2,7 @@ use Rattle.std.proofs.Common.{◌≡◌, List, length, map}
 use Rattle.yv_expand_rounds.specs.declared.label.Label.{Label}
 use Rattle.yv_expand_rounds.specs.Turns.{State}
 use Rattle.yv_expand_rounds.specs.InnerState.{IsAugmentation, count_left}
-use Rattle.yv_expand_rounds.proofs.Resuming.{Runs}
+use Rattle.yv_expand_rounds.proofs.PendingPaths.{Runs}
 use Rattle.yv_expand_rounds.proofs.augmentation.Augmentation.run_rounds.Given as goal
 
 abbrev pub invariant-loop-waiting : goal.invariant-loop-waiting

@@ -6,7 +6,7 @@ use Rattle.yv_expand_rounds.specs.Paths.{path_end}
 use Rattle.yv_expand_rounds.specs.Turns.{resolve}
 use Rattle.yv_expand_rounds.specs.InnerHiddenNodes.{Updates}
 use Rattle.yv_expand_rounds.specs.InnerPendingPaths.{StillLead}
-use Rattle.yv_expand_rounds.proofs.Resuming.{still_lead}
+use Rattle.yv_expand_rounds.proofs.PendingPaths.{still_lead}
 use Rattle.yv_expand_rounds.proofs.augmentation.Augmentation.turn_from_top.Goals as goal
 
 pub returns-clause-others : goal.returns-clause-others

@@ -1,7 +1,7 @@
 use Rattle.std.proofs.Common.{◌++◌, ◌∷◌, [], ◌+◌, ℕ, List, ap, arith, sym, subst, ◌∙◌}
 use Rattle.yv_base_tables.specs.Fronts.{HaveFronts}
 use Rattle.yv_expand_rounds.specs.declared.arrivals.Arrival.{Arrival}
-use Rattle.yv_expand_rounds.proofs.Arriving.{AreClosed, IsDeep, all_arrive, closed_all, closed_deepest, deep_first, deep_more, root}
+use Rattle.yv_expand_rounds.proofs.PathArrivals.{AreClosed, IsDeep, all_arrive, closed_all, closed_deepest, deep_first, deep_more, root}
 use Rattle.yv_expand_rounds.proofs.augmentation.Augmentation.walk_all.Goals as goal
 use Rattle.yv_expand_rounds.proofs.augmentation.Augmentation.walk_all.Goals.{else-loop-test, then-loop-test+then-followed-len}
 

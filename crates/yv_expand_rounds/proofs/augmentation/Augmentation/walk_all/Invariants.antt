@@ -3,7 +3,7 @@ use Rattle.yv_base_tables.specs.InnerTree.{IsPathTree}
 use Rattle.yv_expand_rounds.specs.declared.label.Label.{Label}
 use Rattle.yv_expand_rounds.specs.InnerState.{IsAugmentation}
 use Rattle.yv_expand_rounds.specs.Turns.{State}
-use Rattle.yv_expand_rounds.proofs.Arriving.{IsDeep}
+use Rattle.yv_expand_rounds.proofs.PathArrivals.{IsDeep}
 use Rattle.yv_expand_rounds.proofs.augmentation.Augmentation.walk_all.Given as goal
 
 abbrev pub invariant-loop : goal.invariant-loop

@@ -1,5 +1,5 @@
 use Rattle.yv_expand_rounds.proofs.FirstNodeLemmas.{are_first_more, are_first_still}
-use Rattle.yv_expand_rounds.proofs.Grouped.{on_err}
+use Rattle.yv_expand_rounds.proofs.GroupMembers.{on_err}
 use Rattle.yv_expand_rounds.proofs.first_nodes.FirstNodes.note.Goals as goal
 
 pub returns-in_err-note_item-clause-keeps : goal.returns-in_err-note_item-clause-keeps

@@ -1,7 +1,7 @@
 use Rattle.std.proofs.Common.{◌≡◌, ◌-◌, ◌≤◌, ℕ, List, Some, drop, length, take, ap, sym, ◌∙◌, subst, arith}
 use Rattle.std.specs.List.{slice_get}
 use Rattle.std.proofs.lemmas.List.{length-drop, take_all}
-use Rattle.yv_expand_rounds.proofs.Descending.{behind_place}
+use Rattle.yv_expand_rounds.proofs.DescendingMembers.{behind_place}
 use Rattle.yv_expand_rounds.proofs.group.Group.few.Goals as goal
 
 pub returns : goal.returns

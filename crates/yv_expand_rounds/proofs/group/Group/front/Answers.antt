@@ -1,7 +1,7 @@
 use Rattle.std.proofs.Common.{◌≡◌, ◌-◌, ℕ, Some, ◌∙◌, ap, sym, refl, arith}
 use Rattle.std.specs.List.{slice_get}
 use Rattle.std.proofs.lemmas.Option.{slice_get_read}
-use Rattle.yv_expand_rounds.proofs.Descending.{front_behind}
+use Rattle.yv_expand_rounds.proofs.DescendingMembers.{front_behind}
 use Rattle.yv_expand_rounds.proofs.group.Group.front.Goals as goal
 
 pub returns-else-index-limit-clause-behind : goal.returns-else-index-limit-clause-behind

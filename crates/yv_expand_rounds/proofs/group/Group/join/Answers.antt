@@ -1,8 +1,8 @@
 use Rattle.std.proofs.Common.{◌≤◌, ℕ, List, ◌++◌, ◌∷◌, [], take, get_or, Option, append-nil, inl, ap, length, subst, sym, ◌∙◌, arith}
 use Rattle.std.proofs.lemmas.List.{take_all}
 use Rattle.yv_expand_rounds.specs.InnerGroups.{IsGroup, Keep, KeepBut, firsts}
-use Rattle.yv_expand_rounds.proofs.Grouped.{joined_more}
-use Rattle.yv_expand_rounds.proofs.Hiding.{keep_none, keep_one}
+use Rattle.yv_expand_rounds.proofs.GroupMembers.{joined_more}
+use Rattle.yv_expand_rounds.proofs.DisplacedNodes.{keep_none, keep_one}
 use Rattle.yv_expand_rounds.proofs.group.Group.join.Goals as goal
 use Rattle.yv_expand_rounds.proofs.group.Group.join.Goals.{in_default, in-Some+in_ok-push}
 

@@ -1,5 +1,5 @@
 use Rattle.std.proofs.Common.{◌≡◌, ℕ, List, ◌++◌, ◌∷◌, [], ◌∙◌, ap, sym, subst}
-use Rattle.yv_expand_rounds.proofs.Descending.{descend_more}
+use Rattle.yv_expand_rounds.proofs.DescendingMembers.{descend_more}
 use Rattle.yv_expand_rounds.specs.InnerGroups.{Descend, IsBelowLast}
 use Rattle.yv_expand_rounds.proofs.group.Group.push.Goals as goal
 

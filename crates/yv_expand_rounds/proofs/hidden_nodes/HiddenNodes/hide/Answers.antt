@@ -1,5 +1,5 @@
 use Rattle.std.proofs.Common.{refl, sym}
-use Rattle.yv_expand_rounds.proofs.Hiding.{hides_one}
+use Rattle.yv_expand_rounds.proofs.DisplacedNodes.{hides_one}
 use Rattle.yv_expand_rounds.proofs.hidden_nodes.HiddenNodes.hide.Goals as goal
 
 pub returns-in_ok-push-clause-hides : goal.returns-in_ok-push-clause-hides

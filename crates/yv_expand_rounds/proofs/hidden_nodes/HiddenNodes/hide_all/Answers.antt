@@ -2,7 +2,7 @@ use Rattle.std.proofs.Common.{◌≡◌, ◌<◌, true, get_or, length, inl, inr
 use Rattle.std.proofs.lemmas.Bool.{cases_eq}
 use Rattle.std.proofs.lemmas.Option.{get_or_from_slice_get, slice_get_within}
 use Rattle.yv_expand_rounds.specs.InnerHiddenNodes.{is_hidden}
-use Rattle.yv_expand_rounds.proofs.Hiding.{hides_then}
+use Rattle.yv_expand_rounds.proofs.DisplacedNodes.{hides_then}
 use Rattle.yv_expand_rounds.proofs.hidden_nodes.HiddenNodes.hide_all.Goals as goal
 
 pub loop-item-preserved : goal.loop-item-preserved

@@ -1,7 +1,7 @@
 use Rattle.std.proofs.Common.{◌≡◌, ◌<◌, ◌≤◌, Some, length, refl, arith}
 use Rattle.std.specs.List.{slice_get}
 use Rattle.std.proofs.lemmas.Option.{slice_get_read}
-use Rattle.yv_expand_rounds.proofs.Hiding.{spreading_all, spreading_more}
+use Rattle.yv_expand_rounds.proofs.DisplacedNodes.{spreading_all, spreading_more}
 use Rattle.yv_expand_rounds.proofs.hidden_nodes.HiddenNodes.hide_below.Goals as goal
 
 pub loop-place-preserved : goal.loop-place-preserved

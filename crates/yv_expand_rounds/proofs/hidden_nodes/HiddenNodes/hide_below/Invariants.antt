@@ -3,7 +3,7 @@ use Rattle.yv_expand_rounds.specs.declared.label.Label.{Label}
 use Rattle.yv_expand_rounds.specs.Groups.{Groups}
 use Rattle.yv_expand_rounds.specs.InnerGroups.{ArePlaces}
 use Rattle.yv_expand_rounds.specs.InnerHiddenNodes.{count_shown}
-use Rattle.yv_expand_rounds.proofs.Hiding.{Spreading}
+use Rattle.yv_expand_rounds.proofs.DisplacedNodes.{Spreading}
 use Rattle.yv_expand_rounds.proofs.hidden_nodes.HiddenNodes.hide_below.Given as goal
 
 abbrev pub invariant-loop-place : goal.invariant-loop-place

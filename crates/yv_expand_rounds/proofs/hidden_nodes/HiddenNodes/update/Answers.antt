@@ -1,4 +1,4 @@
-use Rattle.yv_expand_rounds.proofs.Hiding.{updated}
+use Rattle.yv_expand_rounds.proofs.DisplacedNodes.{updated}
 use Rattle.yv_expand_rounds.proofs.hidden_nodes.HiddenNodes.update.Goals as goal
 
 pub returns : goal.returns

@@ -2,7 +2,7 @@ use Rattle.std.proofs.Common.{ℕ, ◌≡◌, Some, ap, sym, subst, ◌∙◌}
 use Rattle.std.proofs.lemmas.Option.{none-some, same_Some}
 use Rattle.yv_base_tables.specs.Fronts.{GoesOn}
 use Rattle.yv_expand_rounds.specs.Paths.{step_end}
-use Rattle.yv_expand_rounds.proofs.Arriving.{one_arrival}
+use Rattle.yv_expand_rounds.proofs.PathArrivals.{one_arrival}
 use Rattle.yv_expand_rounds.proofs.places.ItemPlaces.branch.Goals as goal
 
 pub returns-in_err-end-clause-all : goal.returns-in_err-end-clause-all

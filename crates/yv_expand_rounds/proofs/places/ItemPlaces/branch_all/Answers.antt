@@ -3,7 +3,7 @@ use Rattle.std.specs.List.{slice_get}
 use Rattle.std.proofs.lemmas.Option.{none-some, same_Some, slice_get-get_or, slice_get_within}
 use Rattle.yv_expand_rounds.specs.declared.arrivals.Arrival.{Arrival}
 use Rattle.yv_expand_rounds.specs.InnerArrivals.{Follows, Gains, Branches}
-use Rattle.yv_expand_rounds.proofs.Arriving.{gains_more, gains_weaker, branches_split}
+use Rattle.yv_expand_rounds.proofs.PathArrivals.{gains_more, gains_weaker, branches_split}
 use Rattle.yv_expand_rounds.proofs.places.ItemPlaces.branch_all.Goals as goal
 use Rattle.yv_expand_rounds.proofs.places.ItemPlaces.branch_all.Goals.{in_Some-next+in_ok-push, in_default-next}
 

@@ -3,7 +3,7 @@ use Rattle.std.specs.List.{slice_get}
 use Rattle.std.proofs.lemmas.Option.{slice_get_read}
 use Rattle.yv_expand_rounds.specs.declared.arrivals.Arrival.{Arrival}
 use Rattle.yv_expand_rounds.specs.InnerArrivals.{Follows, FollowsSome, Gains}
-use Rattle.yv_expand_rounds.proofs.Arriving.{follows_split, gains_sounder, gains_then, gains_weaker, stood}
+use Rattle.yv_expand_rounds.proofs.PathArrivals.{follows_split, gains_sounder, gains_then, gains_weaker, stood}
 use Rattle.yv_expand_rounds.proofs.places.ItemPlaces.deepen.Goals as goal
 
 pub index-from-requires : goal.index-from-requires

@@ -1,5 +1,5 @@
 use Rattle.std.proofs.Common.{◌∷◌, [], ◌∙◌, arith}
-use Rattle.yv_expand_rounds.proofs.Grouped.{on_err, other_items, same_items}
+use Rattle.yv_expand_rounds.proofs.GroupMembers.{on_err, other_items, same_items}
 use Rattle.yv_expand_rounds.proofs.places.ItemPlaces.enter.Goals as goal
 
 pub returns-in_err-push-clause-keeps : goal.returns-in_err-push-clause-keeps

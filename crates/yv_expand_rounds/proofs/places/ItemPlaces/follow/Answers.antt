@@ -1,6 +1,6 @@
 use Rattle.std.proofs.Common.{◌≡◌, ◌<◌, length, sym, ap, ◌∙◌, arith}
 use Rattle.yv_expand_rounds.specs.InnerPendingPaths.{last_end}
-use Rattle.yv_expand_rounds.proofs.Following.{follows_all, follows_more, follows_none, follows_step, last_pushed}
+use Rattle.yv_expand_rounds.proofs.FollowedPaths.{follows_all, follows_more, follows_none, follows_step, last_pushed}
 use Rattle.yv_expand_rounds.proofs.places.ItemPlaces.follow.Goals as goal
 
 pub loop-end-init : goal.loop-end-init

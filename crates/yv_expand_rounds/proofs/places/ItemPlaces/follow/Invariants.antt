@@ -3,7 +3,7 @@ use Rattle.yv_expand_rounds.specs.declared.label.Label.{Label}
 use Rattle.yv_expand_rounds.specs.Groups.{Groups}
 use Rattle.yv_expand_rounds.specs.InnerGroups.{ArePlaces}
 use Rattle.yv_expand_rounds.specs.InnerPendingPaths.{Lead, last_end}
-use Rattle.yv_expand_rounds.proofs.Following.{Follows}
+use Rattle.yv_expand_rounds.proofs.FollowedPaths.{Follows}
 use Rattle.yv_expand_rounds.proofs.places.ItemPlaces.follow.Given as goal
 
 abbrev pub invariant-loop-end : goal.invariant-loop-end

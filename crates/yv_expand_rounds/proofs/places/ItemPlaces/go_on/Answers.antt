@@ -1,7 +1,7 @@
 use Rattle.std.proofs.Common.{List, sym, subst, ℕ, [], ◌∷◌}
 use Rattle.yv_expand_rounds.specs.declared.end.End.{End}
 use Rattle.yv_expand_rounds.specs.InnerArrivals.{AreMet}
-use Rattle.yv_expand_rounds.proofs.Arriving.{gains_weaker, meets_any, on_ok}
+use Rattle.yv_expand_rounds.proofs.PathArrivals.{gains_weaker, meets_any, on_ok}
 use Rattle.yv_expand_rounds.proofs.Meeting.{met_from_case}
 use Rattle.yv_expand_rounds.proofs.places.ItemPlaces.go_on.Goals as goal
 

@@ -8,7 +8,7 @@ use Rattle.yv_expand_rounds.specs.declared.label.Label.{Label}
 use Rattle.yv_expand_rounds.specs.Groups.{Groups}
 use Rattle.yv_expand_rounds.specs.Paths.{step_end}
 use Rattle.yv_expand_rounds.specs.InnerArrivals.{is_at}
-use Rattle.yv_expand_rounds.proofs.Arriving.{one_arrival}
+use Rattle.yv_expand_rounds.proofs.PathArrivals.{one_arrival}
 use Rattle.yv_expand_rounds.proofs.Meeting.{met_name}
 use Rattle.yv_expand_rounds.proofs.places.ItemPlaces.meet.Goals as goal
 

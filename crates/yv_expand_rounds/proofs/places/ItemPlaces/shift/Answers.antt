@@ -1,8 +1,8 @@
 use Rattle.std.proofs.Common.{[], sym, ◌∙◌, ap, subst}
 use Rattle.yv_expand_rounds.specs.declared.group.Group.{Group}
 use Rattle.yv_expand_rounds.specs.InnerGroups.{IsGroup}
-use Rattle.yv_expand_rounds.proofs.Grouped.{shifted_by}
-use Rattle.yv_expand_rounds.proofs.Following.{moved_keeps_first}
+use Rattle.yv_expand_rounds.proofs.GroupMembers.{shifted_by}
+use Rattle.yv_expand_rounds.proofs.FollowedPaths.{moved_keeps_first}
 use Rattle.yv_expand_rounds.proofs.places.ItemPlaces.shift.Goals as goal
 
 pub returns-clause-state : goal.returns-clause-state

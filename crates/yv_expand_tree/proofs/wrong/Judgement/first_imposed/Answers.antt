@@ -10,7 +10,7 @@ use Rattle.yv_node_properties.specs.Marks.{is_mandatory}
 use Rattle.yv_node_properties.specs.declared.properties.StatedProperties.{StatedProperties}
 use Rattle.yv_expand_changes.specs.Properties.{said_of_all, told_of}
 use Rattle.yv_expand_tree.specs.Final.{said_of, spots_of}
-use Rattle.yv_expand_tree.proofs.Judging.{imposed_same, none_imposed}
+use Rattle.yv_expand_tree.proofs.TreeJudgements.{imposed_same, none_imposed}
 use Rattle.yv_expand_tree.proofs.wrong.Judgement.first_imposed.Goals as goal
 
 pub returns : goal.returns

@@ -1,7 +1,7 @@
 use Rattle.std.proofs.Common.{◌∙◌}
 use Rattle.yv_link_scopes.specs.Views.{lent_in}
 use Rattle.yv_expand_refines.specs.Targets.{all_meant}
-use Rattle.yv_expand_tree.proofs.Judging.{deep_same, least_standing, misplaced_same, refines_same, untargeted_same}
+use Rattle.yv_expand_tree.proofs.TreeJudgements.{deep_same, least_standing, misplaced_same, refines_same, untargeted_same}
 use Rattle.yv_expand_tree.proofs.wrong.Judgement.first_wrong.Goals as goal
 
 pub returns : goal.returns

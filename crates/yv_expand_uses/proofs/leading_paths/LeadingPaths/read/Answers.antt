@@ -4,7 +4,7 @@ use Rattle.std.proofs.lemmas.Option.{slice_get-get_or}
 use Rattle.yv_expand_rounds.specs.declared.arrivals.Arrival.{Arrival}
 use Rattle.yv_expand_uses.specs.InnerLeadingPaths.{paths_of, targets_of}
 use Rattle.yv_expand_uses.specs.RefineTargets.{node_at}
-use Rattle.yv_expand_uses.proofs.Leading.{are_led, taken_more}
+use Rattle.yv_expand_uses.proofs.NodePaths.{are_led, taken_more}
 use Rattle.yv_expand_uses.proofs.leading_paths.LeadingPaths.read.Goals as goal
 
 pub loop-arrival-preserved : goal.loop-arrival-preserved

@@ -7,7 +7,7 @@ use Rattle.std.proofs.lemmas.Option.{slice_get-get_or}
 use Rattle.yv_expand_uses.specs.Paths.{path_in}
 use Rattle.yv_expand_uses.specs.Spots.{Whole, own_module_file}
 use Rattle.yv_expand_uses.specs.InnerPlan.{whole_in}
-use Rattle.yv_expand_uses.proofs.Reading.{mapped_all, mapped_more}
+use Rattle.yv_expand_uses.proofs.StatementLists.{mapped_all, mapped_more}
 use Rattle.yv_expand_uses.proofs.plan.Plan.module_paths.Goals as goal
 
 pub loop-augment-preserved : goal.loop-augment-preserved

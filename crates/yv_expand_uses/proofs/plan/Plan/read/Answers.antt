@@ -10,7 +10,7 @@ use Rattle.yv_expand.specs.StatementBlocks.{is_augment}
 use Rattle.yv_expand.specs.StatementBlocks.{is_refine}
 use Rattle.yv_expand_uses.specs.RefineTargets.{refine_places}
 use Rattle.yv_expand_uses.specs.AugmentOrder.{augment_places}
-use Rattle.yv_expand_uses.proofs.Counting.{giving_long, giving_within, passing_within}
+use Rattle.yv_expand_uses.proofs.PlaceNumbers.{giving_long, giving_within, passing_within}
 use Rattle.yv_expand_uses.proofs.plan.Plan.read.Goals as goal
 
 pub ordinals-requires : goal.ordinals-requires

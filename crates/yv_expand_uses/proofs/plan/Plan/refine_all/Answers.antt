@@ -18,8 +18,8 @@ use Rattle.yv_expand_uses.specs.Spots.{Whole}
 use Rattle.yv_expand_uses.specs.declared.refine_targets.UsesTargets.{UsesTargets}
 use Rattle.yv_expand_uses.specs.declared.refine_targets.RefineTargets.{RefineTargets}
 use Rattle.yv_expand_uses.specs.declared.leading_paths.LeadingPaths.{LeadingPaths}
-use Rattle.yv_expand_uses.proofs.Aiming.{all_refined, meant_told}
-use Rattle.yv_expand_uses.proofs.Keeping.{none_failed, same_meant, targets_stay, where_fine}
+use Rattle.yv_expand_uses.proofs.RefineAims.{all_refined, meant_told}
+use Rattle.yv_expand_uses.proofs.NotedAims.{none_failed, same_meant, targets_stay, where_fine}
 use Rattle.yv_expand_uses.proofs.plan.Plan.refine_all.Goals as goal
 
 pub returns-in_err-make_room-clause-aims : goal.returns-in_err-make_room-clause-aims

@@ -3,7 +3,7 @@ use Rattle.std.proofs.lemmas.Bool.{cases_lt}
 use Rattle.yv_link_scopes.specs.Views.{rows_in}
 use Rattle.yv_base_tables.specs.Families.{by_place, numbers_at}
 use Rattle.yv_expand_uses.specs.RefineTargets.{refine_places}
-use Rattle.yv_expand_uses.proofs.Counting.{by_place_past, none_past}
+use Rattle.yv_expand_uses.proofs.PlaceNumbers.{by_place_past, none_past}
 use Rattle.yv_expand_uses.proofs.plan.Plan.refines_in.Goals as goal
 
 pub returns : goal.returns

@@ -6,7 +6,7 @@ use Rattle.yv_expand_uses.specs.Paths.{path_in}
 use Rattle.yv_expand_uses.specs.InnerPlan.{whole_in}
 use Rattle.yv_expand_uses.specs.RefineTargets.{refines_in}
 use Rattle.yv_expand_uses.specs.Spots.{Whole}
-use Rattle.yv_expand_uses.proofs.Aiming.{aimed_more, aims_more}
+use Rattle.yv_expand_uses.proofs.RefineAims.{aimed_more, aims_more}
 use Rattle.yv_expand_uses.proofs.plan.Plan.targets_of_uses.Goals as goal
 
 pub loop-refine-init : goal.loop-refine-init

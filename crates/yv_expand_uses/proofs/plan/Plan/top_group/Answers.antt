@@ -7,8 +7,8 @@ use Rattle.yv_link_scopes.specs.declared.entry.Entry.{Entry}
 use Rattle.yv_expand_uses.specs.AugmentOrder.{place_of}
 use Rattle.yv_expand_uses.specs.Spots.{Whole, top_group_of, top_group}
 use Rattle.yv_expand_uses.specs.InnerPlan.{whole_in}
-use Rattle.yv_expand_uses.proofs.Counting.{place_within}
-use Rattle.yv_expand_uses.proofs.Reading.{row_read}
+use Rattle.yv_expand_uses.proofs.PlaceNumbers.{place_within}
+use Rattle.yv_expand_uses.proofs.StatementLists.{row_read}
 use Rattle.yv_expand_uses.proofs.plan.Plan.top_group.Goals as goal
 
 pub module_place-requires-clause-within : goal.module_place-requires-clause-within

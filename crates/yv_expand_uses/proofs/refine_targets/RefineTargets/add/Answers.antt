@@ -5,9 +5,9 @@ use Rattle.yv_expand_uses.specs.declared.refine_targets.KeptTargets.{KeptTargets
 use Rattle.yv_expand_uses.specs.declared.refine_targets.RefineTargets.{RefineTargets}
 use Rattle.yv_expand_uses.specs.declared.refine_targets.UsesTargets.{UsesTargets}
 use Rattle.std.specs.declared.option.Option.{Option}
-use Rattle.yv_expand_uses.proofs.Aiming.{exact_key, known_more}
-use Rattle.yv_expand_uses.proofs.Keeping.{kept_before, number_before}
-use Rattle.yv_expand_uses.proofs.Pushing.{get_last}
+use Rattle.yv_expand_uses.proofs.RefineAims.{exact_key, known_more}
+use Rattle.yv_expand_uses.proofs.NotedAims.{kept_before, number_before}
+use Rattle.yv_expand_uses.proofs.ListGrowth.{get_last}
 use Rattle.yv_expand_uses.proofs.refine_targets.RefineTargets.add.Goals as goal
 
 pub returns-clause-number : goal.returns-clause-number

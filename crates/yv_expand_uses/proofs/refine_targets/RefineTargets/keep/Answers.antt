@@ -6,9 +6,9 @@ use Rattle.yv_expand_refines.specs.Targets.{meant_from}
 use Rattle.yv_expand_uses.specs.InnerRefineTargets.{IsPlaced}
 use Rattle.yv_expand_uses.specs.declared.refine_targets.RefineTargets.{RefineTargets}
 use Rattle.yv_expand_uses.specs.declared.refine_targets.KeptTargets.{KeptTargets}
-use Rattle.yv_expand_uses.proofs.Aiming.{within_more}
-use Rattle.yv_expand_uses.proofs.Keeping.{long, placed_before, placed_last}
-use Rattle.yv_expand_uses.proofs.Pushing.{set_at}
+use Rattle.yv_expand_uses.proofs.RefineAims.{within_more}
+use Rattle.yv_expand_uses.proofs.NotedAims.{long, placed_before, placed_last}
+use Rattle.yv_expand_uses.proofs.ListGrowth.{set_at}
 use Rattle.yv_expand_uses.proofs.refine_targets.RefineTargets.keep.Goals as goal
 
 pub returns-clause-aims : goal.returns-clause-aims

@@ -3,7 +3,7 @@ use Rattle.yv_expand_refines.proofs.Meaning.{meant_from_more}
 use Rattle.yv_expand_refines.specs.Targets.{meant_from}
 use Rattle.yv_expand_refines.specs.declared.targets.RefinedUses.{RefinedUses}
 use Rattle.yv_expand_uses.specs.InnerRefineTargets.{StandWithin}
-use Rattle.yv_expand_uses.proofs.Aiming.{within_push}
+use Rattle.yv_expand_uses.proofs.RefineAims.{within_push}
 use Rattle.yv_expand_uses.proofs.refine_targets.RefineTargets.note.Goals as goal
 
 pub returns-clause-aims : goal.returns-clause-aims

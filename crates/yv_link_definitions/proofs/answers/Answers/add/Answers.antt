@@ -4,8 +4,8 @@ use Rattle.std.proofs.lemmas.Option.{slice_get_within}
 use Rattle.yv_link_scopes.specs.Files.{Briefs}
 use Rattle.yv_link_scopes.specs.Rows.{Row, row}
 use Rattle.yv_link_scopes.specs.Views.{files_in, rows_in}
-use Rattle.yv_link_definitions.proofs.Joining.{longer}
-use Rattle.yv_link_definitions.proofs.Knowing.{meant_fits, meant_more}
+use Rattle.yv_link_definitions.proofs.DefinitionGraph.{longer}
+use Rattle.yv_link_definitions.proofs.ReaderAnswers.{meant_fits, meant_more}
 use Rattle.yv_link_definitions.proofs.answers.Answers.add.Goals as goal
 
 fits : (rows : List Row) (k : ℕ) (r : Row) → slice_get rows k ≡ Some r → length rows ≤ 4294967293 → k < 4294967296

@@ -1,6 +1,6 @@
 use Rattle.std.proofs.Common.{Option, refl, subst}
-use Rattle.yv_statement.specs.Order.{IsLeast}
-use Rattle.yv_statement.specs.declared.refusal.Refusal.{Refusal}
+use Rattle.yv_text_statement.specs.Order.{IsLeast}
+use Rattle.yv_text_statement.specs.declared.refusal.Refusal.{Refusal}
 use Rattle.yv_link_definitions.specs.Refusals.{BadIn}
 use Rattle.yv_link_scopes.specs.Views.{files_in, rows_in}
 use Rattle.yv_link_definitions.proofs.Faulty.{cycles_read, clear_cycle}

@@ -1,6 +1,6 @@
 use Rattle.std.proofs.Common.{◌≡◌, ◌≤◌, List, Some, length, sym, ◌∙◌, arith}
 use Rattle.std.specs.List.{slice_get}
-use Rattle.yv_statement.proofs.Least.{least_more}
+use Rattle.yv_text_statement.proofs.Least.{least_more}
 use Rattle.yv_link_scopes.specs.Files.{Briefs}
 use Rattle.yv_link_scopes.specs.Rows.{Row, row}
 use Rattle.yv_link_scopes.specs.Views.{files_in, rows_in}

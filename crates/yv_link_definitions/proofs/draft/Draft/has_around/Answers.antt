@@ -6,7 +6,7 @@ use Rattle.yv_link_scopes.specs.Rows.{Row, row}
 use Rattle.yv_link_scopes.specs.Views.{lent_in, rows_in}
 use Rattle.yv_link_scopes.specs.Scopes.{Means}
 use Rattle.yv_link_definitions.proofs.Words.{row_read}
-use Rattle.yv_link_definitions.proofs.Taking.{around_means, around_root}
+use Rattle.yv_link_definitions.proofs.TakenNames.{around_means, around_root}
 use Rattle.yv_link_definitions.proofs.draft.Draft.has_around.Goals as goal
 
 pub returns-then-block-entry : goal.returns-then-block-entry

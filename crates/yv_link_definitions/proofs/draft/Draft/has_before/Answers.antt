@@ -1,7 +1,7 @@
 use Rattle.std.proofs.Common.{List, Some, None, sym, ◌∙◌}
 use Rattle.yv_link_scopes.specs.Rows.{Row, row, name_in}
 use Rattle.yv_link_scopes.specs.Views.{rows_in}
-use Rattle.yv_link_definitions.proofs.Taking.{before_none, before_some, looked_up}
+use Rattle.yv_link_definitions.proofs.TakenNames.{before_none, before_some, looked_up}
 use Rattle.yv_link_definitions.proofs.draft.Draft.has_before.Goals as goal
 
 pub returns-in-Some : goal.returns-in-Some

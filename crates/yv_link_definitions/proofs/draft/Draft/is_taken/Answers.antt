@@ -6,7 +6,7 @@ use Rattle.yv_link_scopes.specs.declared.kind.NameKind.TheVariants.{Typedef}
 use Rattle.yv_link_definitions.specs.BuiltIn.{is_built_in}
 use Rattle.yv_link_definitions.specs.Duplicates.{is_scoped}
 use Rattle.yv_link_definitions.specs.InnerDuplicates.{HasAround}
-use Rattle.yv_link_definitions.proofs.Taking.{taken_by}
+use Rattle.yv_link_definitions.proofs.TakenNames.{taken_by}
 use Rattle.yv_link_definitions.proofs.draft.Draft.is_taken.Goals as goal
 use Rattle.yv_link_definitions.proofs.draft.Draft.is_taken.Goals.{then-is_scoped, else-is_scoped, then-is_typedef, else-is_typedef}
 

@@ -2,8 +2,8 @@ use Rattle.std.proofs.Common.{◌≡◌, ◌∙◌, ap, refl, subst, Some, Optio
 use Rattle.yv_base_graph.specs.Graph.{Graph, IsOrder}
 use Rattle.yv_base_graph.specs.Ranks.{IfRanks}
 use Rattle.yv_base_graph.specs.declared.cycles.Ranking.{Ranking}
-use Rattle.yv_statement.specs.Order.{IsLeast}
-use Rattle.yv_statement.specs.declared.refusal.Refusal.{Refusal}
+use Rattle.yv_text_statement.specs.Order.{IsLeast}
+use Rattle.yv_text_statement.specs.declared.refusal.Refusal.{Refusal}
 use Rattle.yv_link_definitions.specs.Refusals.{BadIn}
 use Rattle.yv_link_scopes.specs.Views.{files_in, rows_in}
 use Rattle.yv_link_definitions.proofs.Faulty.{cycle_read, none_marked, order_of, ranks_read, steps_read}

@@ -5,7 +5,7 @@ use Rattle.yv_link_scopes.specs.Rows.{Row, row}
 use Rattle.yv_link_scopes.specs.Views.{lent_in, rows_in}
 use Rattle.yv_link_definitions.specs.Duplicates.{is_of}
 use Rattle.yv_link_definitions.proofs.Words.{row_read}
-use Rattle.yv_link_definitions.proofs.Owning.{both_ways, counts_further, counts_here, counts_none, counts_root}
+use Rattle.yv_link_definitions.proofs.DefinitionOwners.{both_ways, counts_further, counts_here, counts_none, counts_root}
 use Rattle.yv_link_definitions.proofs.draft.Draft.owner.Goals as goal
 
 pub returns-in_default : goal.returns-in_default

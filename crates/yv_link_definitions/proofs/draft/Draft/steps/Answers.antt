@@ -3,7 +3,7 @@ use Rattle.yv_link_scopes.specs.Rows.{Row, row}
 use Rattle.yv_link_scopes.specs.Files.{Briefs}
 use Rattle.yv_link_scopes.specs.Views.{files_in, rows_in}
 use Rattle.yv_link_definitions.proofs.Words.{row_read, rows_count}
-use Rattle.yv_link_definitions.proofs.Joining.{GivesPair, joins_within, pairing_all, pairing_none, pairing_other, pairing_pair}
+use Rattle.yv_link_definitions.proofs.DefinitionGraph.{GivesPair, joins_within, pairing_all, pairing_none, pairing_other, pairing_pair}
 use Rattle.yv_link_definitions.proofs.draft.Draft.steps.Goals as goal
 use Rattle.yv_link_definitions.proofs.draft.Draft.steps.Goals.{in-Some+in_ok-push, in_default}
 

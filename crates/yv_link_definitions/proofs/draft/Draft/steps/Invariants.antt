@@ -1,5 +1,5 @@
 use Rattle.yv_link_scopes.specs.Views.{files_in, rows_in}
-use Rattle.yv_link_definitions.proofs.Joining.{Pairing}
+use Rattle.yv_link_definitions.proofs.DefinitionGraph.{Pairing}
 use Rattle.yv_link_definitions.proofs.draft.Draft.steps.Given as goal
 
 abbrev pub invariant-loop-number : goal.invariant-loop-number

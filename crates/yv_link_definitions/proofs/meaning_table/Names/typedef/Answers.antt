@@ -1,5 +1,5 @@
 use Rattle.std.proofs.Common.{codes, sym, ◌∙◌}
-use Rattle.yv_link_definitions.proofs.Knowing.{told}
+use Rattle.yv_link_definitions.proofs.ReaderAnswers.{told}
 use Rattle.yv_link_definitions.proofs.meaning_table.Names.typedef.Goals as goal
 
 pub returns : goal.returns

@@ -1,6 +1,6 @@
 use Rattle.std.proofs.Common.{◌∙◌, ap}
 use Rattle.yv_link_definitions.specs.Lookups.{lookup_in}
-use Rattle.yv_link_definitions.proofs.Placing.{kept}
+use Rattle.yv_link_definitions.proofs.FirstStatements.{kept}
 use Rattle.yv_link_definitions.proofs.place_list.PlaceList.add.Goals as goal
 
 pub returns : goal.returns

@@ -3,11 +3,11 @@ use Rattle.yv_link_scopes.specs.Files.{brief_of}
 use Rattle.yv_link_scopes.specs.RowList.{rows_of}
 use Rattle.yv_link_scopes.specs.Views.{lent_in}
 use Rattle.yv_link_scopes.specs.Tables.{Table}
-use Rattle.yv_text_if_feature.proofs.Spelled.{spelled_by}
+use Rattle.yv_text_if_feature.proofs.ConditionSpelling.{spelled_by}
 use Rattle.yv_link_features.specs.Meaning.{looked_up}
 use Rattle.yv_link_features.specs.Features.{AreFeatures, from_marks, meaning_in, truth_of}
 use Rattle.yv_link_features.specs.Value.{HasValue}
-use Rattle.yv_link_features.proofs.Agreeing.{told_by}
+use Rattle.yv_link_features.proofs.AssignmentAgreement.{told_by}
 use Rattle.yv_link_features.proofs.features.Features.holds.Goals as goal
 
 pub returns-clause-truth : goal.returns-clause-truth

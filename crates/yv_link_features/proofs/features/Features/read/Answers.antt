@@ -1,8 +1,8 @@
 use Rattle.std.proofs.Common.{◌≡◌, ℕ, true, None, Some, Err, length, ap, subst}
 use Rattle.std.specs.List.{slice_get}
-use Rattle.yv_statement.specs.Order.{Among, IsLeast}
-use Rattle.yv_statement.specs.declared.refusal.Stop.TheVariants.{Fault}
-use Rattle.yv_statement.specs.Selection.{selected_of}
+use Rattle.yv_text_statement.specs.Order.{Among, IsLeast}
+use Rattle.yv_text_statement.specs.declared.refusal.Stop.TheVariants.{Fault}
+use Rattle.yv_text_statement.specs.Selection.{selected_of}
 use Rattle.yv_link_scopes.specs.Views.{files_in, rows_in}
 use Rattle.yv_link_scopes.specs.Rows.{Row}
 use Rattle.yv_link_scopes.specs.Tables.{Table}

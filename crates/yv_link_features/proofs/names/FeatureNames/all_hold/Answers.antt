@@ -6,7 +6,7 @@ use Rattle.yv_link_scopes.specs.Views.{rows_in}
 use Rattle.yv_link_features.specs.Features.{from_marks}
 use Rattle.yv_link_features.specs.InnerGraph.{AllTrue, IsTrueAt}
 use Rattle.yv_link_features.specs.InnerNames.{means_in}
-use Rattle.yv_link_features.proofs.Agreeing.{all_more}
+use Rattle.yv_link_features.proofs.AssignmentAgreement.{all_more}
 use Rattle.yv_link_features.proofs.names.FeatureNames.all_hold.Goals as goal
 
 pub loop-number-preserved : goal.loop-number-preserved

@@ -2,7 +2,7 @@ use Rattle.std.proofs.Common.{◌≡◌, [], ◌∷◌, ◌++◌, ◌&&◌, appe
 use Rattle.yv_text_if_feature.specs.WordTokens.{token_shown, tokens_left}
 use Rattle.yv_text_if_feature.specs.Tokens.{tokens}
 use Rattle.yv_link_features.specs.InnerNames.{is_settled, means_in}
-use Rattle.yv_link_features.proofs.Reading.{all_known, known_more}
+use Rattle.yv_link_features.proofs.FeatureWords.{all_known, known_more}
 use Rattle.yv_link_features.proofs.names.FeatureNames.are_known.Goals as goal
 
 pub loop-word-init : goal.loop-word-init

@@ -2,7 +2,7 @@ use Rattle.std.proofs.Common.{◌≡◌, List, ◌++◌}
 use Rattle.yv_text_if_feature.specs.WordTokens.{tokens_left}
 use Rattle.yv_text_if_feature.specs.Tokens.{Token, tokens}
 use Rattle.yv_link_features.specs.InnerNames.{means_in}
-use Rattle.yv_link_features.proofs.Reading.{all_known}
+use Rattle.yv_link_features.proofs.FeatureWords.{all_known}
 use Rattle.yv_link_features.proofs.names.FeatureNames.are_known.Given as goal
 
 abbrev pub invariant-loop-word : goal.invariant-loop-word

@@ -1,4 +1,4 @@
-use Rattle.yv_statement.specs.Order.{Among, IsLeast}
+use Rattle.yv_text_statement.specs.Order.{Among, IsLeast}
 use Rattle.yv_link_scopes.specs.Views.{rows_in}
 use Rattle.yv_link_features.specs.Refusals.{BadRow}
 use Rattle.yv_link_features.specs.InnerNames.{means_in}

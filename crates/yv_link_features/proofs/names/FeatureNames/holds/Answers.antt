@@ -4,7 +4,7 @@ use Rattle.yv_link_scopes.specs.Rows.{Row, row}
 use Rattle.yv_link_features.specs.Features.{from_marks}
 use Rattle.yv_link_features.specs.InnerNames.{means_in}
 use Rattle.yv_link_features.specs.Value.{HasValue}
-use Rattle.yv_link_features.proofs.Agreeing.{true_at}
+use Rattle.yv_link_features.proofs.AssignmentAgreement.{true_at}
 use Rattle.yv_link_features.proofs.names.FeatureNames.holds.Goals as goal
 
 pub returns-in-Some : goal.returns-in-Some

@@ -1,11 +1,11 @@
 use Rattle.std.proofs.Common.{◌↔◌, ◌<◌, IsTrue, List, ℕ, length, ◌∙◌, subst, arith}
-use Rattle.yv_statement.specs.Selection.{selected_of}
+use Rattle.yv_text_statement.specs.Selection.{selected_of}
 use Rattle.yv_link_scopes.specs.Views.{files_in, rows_in}
 use Rattle.yv_link_scopes.specs.Rows.{row}
 use Rattle.yv_link_features.specs.Features.{from_marks}
 use Rattle.yv_link_features.specs.InnerGraph.{AllTrue}
 use Rattle.yv_link_features.specs.InnerNames.{means_in}
-use Rattle.yv_link_features.proofs.Agreeing.{on_told}
+use Rattle.yv_link_features.proofs.AssignmentAgreement.{on_told}
 use Rattle.yv_link_features.proofs.Lists.{mapped_at, mapped_len, numbers_read}
 use Rattle.yv_link_features.proofs.names.FeatureNames.is_on.Goals as goal
 

@@ -1,6 +1,6 @@
 use Rattle.std.proofs.Common.{◌≡◌, true, sym, ◌∙◌, subst}
-use Rattle.yv_statement.specs.Order.{IsLeast, Stands, refusal_at}
-use Rattle.yv_statement.specs.declared.refusal.Code.TheVariants as code
+use Rattle.yv_text_statement.specs.Order.{IsLeast, Stands, refusal_at}
+use Rattle.yv_text_statement.specs.declared.refusal.Code.TheVariants as code
 use Rattle.yv_link_scopes.specs.Views.{rows_in}
 use Rattle.yv_link_scopes.specs.Rows.{row}
 use Rattle.yv_link_features.specs.Depends.{LeadsTo}

@@ -1,13 +1,13 @@
 use Rattle.std.proofs.Common.{◌≡◌, ◌↔◌, true, List, Bool, Some, IsTrue, get_or, subst, arith}
 use Rattle.std.specs.List.{slice_get}
-use Rattle.yv_statement.specs.Selection.{selected_of}
+use Rattle.yv_text_statement.specs.Selection.{selected_of}
 use Rattle.yv_link_scopes.specs.Views.{files_in, rows_in}
 use Rattle.yv_link_scopes.specs.Rows.{Row}
 use Rattle.yv_link_features.specs.Meaning.{is_feature}
 use Rattle.yv_link_features.specs.Features.{from_marks}
 use Rattle.yv_link_features.specs.On.{AllHold, has_support}
 use Rattle.yv_link_features.specs.InnerNames.{means_in}
-use Rattle.yv_link_features.proofs.Ordered.{marked_more, marked_end}
+use Rattle.yv_link_features.proofs.FeatureOrder.{marked_more, marked_end}
 use Rattle.yv_link_features.proofs.names.FeatureNames.truths.Goals as goal
 
 pub loop-number-preserved : goal.loop-number-preserved

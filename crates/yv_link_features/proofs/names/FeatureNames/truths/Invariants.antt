@@ -1,7 +1,7 @@
-use Rattle.yv_statement.specs.Selection.{selected_of}
+use Rattle.yv_text_statement.specs.Selection.{selected_of}
 use Rattle.yv_link_scopes.specs.Views.{files_in, rows_in}
 use Rattle.yv_link_features.specs.InnerNames.{means_in}
-use Rattle.yv_link_features.proofs.Ordered.{MarkedUpTo}
+use Rattle.yv_link_features.proofs.FeatureOrder.{MarkedUpTo}
 use Rattle.yv_link_features.proofs.names.FeatureNames.truths.Given as goal
 
 abbrev pub invariant-loop-number : goal.invariant-loop-number

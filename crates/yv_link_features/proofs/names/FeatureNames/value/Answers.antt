@@ -5,7 +5,7 @@ use Rattle.yv_text_if_feature.specs.Tokens.{tokens}
 use Rattle.yv_link_features.specs.Features.{from_marks}
 use Rattle.yv_link_features.specs.InnerNames.{is_settled, means_in}
 use Rattle.yv_link_features.specs.Value.{is_on}
-use Rattle.yv_link_features.proofs.Reading.{agrees, all_known, known_more, names_on, valued}
+use Rattle.yv_link_features.proofs.FeatureWords.{agrees, all_known, known_more, names_on, valued}
 use Rattle.yv_link_features.proofs.names.FeatureNames.value.Goals as goal
 
 pub loop-word-init : goal.loop-word-init

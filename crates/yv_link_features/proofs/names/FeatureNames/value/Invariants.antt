@@ -4,7 +4,7 @@ use Rattle.yv_text_if_feature.specs.WordTokens.{tokens_left}
 use Rattle.yv_text_if_feature.specs.Tokens.{Token, tokens}
 use Rattle.yv_link_features.specs.Features.{from_marks}
 use Rattle.yv_link_features.specs.InnerNames.{means_in}
-use Rattle.yv_link_features.proofs.Reading.{all_known, names_on}
+use Rattle.yv_link_features.proofs.FeatureWords.{all_known, names_on}
 use Rattle.yv_link_features.proofs.names.FeatureNames.value.Given as goal
 
 abbrev pub invariant-loop-word : goal.invariant-loop-word

@@ -2,7 +2,7 @@ use Rattle.std.proofs.Common.{List, ℕ}
 use Rattle.yv_link_scopes.specs.Files.{Briefs}
 use Rattle.yv_link_scopes.specs.Rows.{Row, row, name_in}
 use Rattle.yv_link_scopes.specs.Views.{files_in, rows_in}
-use Rattle.yv_link_identities.proofs.Deriving.{meaning_found, meaning_named}
+use Rattle.yv_link_identities.proofs.DerivationWays.{meaning_found, meaning_named}
 use Rattle.yv_link_identities.proofs.draft.Draft.meaning.Goals as goal
 
 pub returns : goal.returns

@@ -1,7 +1,7 @@
 use Rattle.std.proofs.Common.{◌≡◌, ◌<◌, ◌∙◌, length, get_or}
 use Rattle.std.proofs.lemmas.Bool.{false≢true}
 use Rattle.std.proofs.lemmas.Grind.{get_or_default_zero}
-use Rattle.yv_link_identities.proofs.Finding.{derived_ranked, finding_none, finding_more, finding_all, node_within, least_rises}
+use Rattle.yv_link_identities.proofs.DerivationRanks.{derived_ranked, finding_none, finding_more, finding_all, node_within, least_rises}
 use Rattle.yv_link_identities.proofs.Sets.{all_above, no_keys}
 use Rattle.yv_link_identities.proofs.hierarchy.Hierarchy.below.Goals as goal
 

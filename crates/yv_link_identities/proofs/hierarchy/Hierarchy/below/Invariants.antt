@@ -1,5 +1,5 @@
 use Rattle.std.proofs.Common.{length, ◌-◌}
-use Rattle.yv_link_identities.proofs.Finding.{Finding}
+use Rattle.yv_link_identities.proofs.DerivationRanks.{Finding}
 use Rattle.yv_link_identities.proofs.Sets.{least_or}
 use Rattle.yv_link_identities.proofs.hierarchy.Hierarchy.below.Given as goal
 

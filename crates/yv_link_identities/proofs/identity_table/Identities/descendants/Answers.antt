@@ -4,7 +4,7 @@ use Rattle.std.proofs.lemmas.Map.Iter.{iter_end}
 use Rattle.std.proofs.lemmas.Option.{slice_get_read}
 use Rattle.std.specs.List.{slice_get}
 use Rattle.yv_link_identities.specs.declared.references.IdentityRef.{IdentityRef}
-use Rattle.yv_link_identities.proofs.Looking.{picking_more, descendants_found}
+use Rattle.yv_link_identities.proofs.MeantIdentities.{picking_more, descendants_found}
 use Rattle.yv_link_identities.proofs.identity_table.Identities.descendants.Goals as goal
 
 pub loop-node-preserved-in-Continue-branch-2 : goal.loop-node-preserved-in-Continue-branch-2

@@ -1,4 +1,4 @@
-use Rattle.yv_link_identities.proofs.Looking.{Picking}
+use Rattle.yv_link_identities.proofs.MeantIdentities.{Picking}
 use Rattle.yv_link_identities.proofs.identity_table.Identities.descendants.Given as goal
 
 abbrev pub invariant-loop-node : goal.invariant-loop-node

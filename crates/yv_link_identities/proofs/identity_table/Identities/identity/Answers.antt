@@ -6,9 +6,9 @@ use Rattle.yv_link_scopes.specs.Files.{Briefs}
 use Rattle.yv_link_scopes.specs.Rows.{Row, row}
 use Rattle.yv_link_scopes.specs.Views.{files_in, rows_in}
 use Rattle.yv_link_identities.specs.References.{ref_of}
-use Rattle.yv_link_identities.proofs.Deriving.{meaning_found}
+use Rattle.yv_link_identities.proofs.DerivationWays.{meaning_found}
 use Rattle.yv_link_identities.proofs.Numbering.{row_read, rows_count}
-use Rattle.yv_link_identities.proofs.Looking.{reference_none, reference_some}
+use Rattle.yv_link_identities.proofs.MeantIdentities.{reference_none, reference_some}
 use Rattle.yv_link_identities.proofs.identity_table.Identities.identity.Goals as goal
 
 pub returns-in_err-number : goal.returns-in_err-number

@@ -1,5 +1,5 @@
 use Rattle.std.proofs.Common.{arith}
-use Rattle.yv_link_identities.proofs.Looking.{derived_both}
+use Rattle.yv_link_identities.proofs.MeantIdentities.{derived_both}
 use Rattle.yv_link_identities.proofs.identity_table.Identities.is_derived.Goals as goal
 
 pub returns : goal.returns

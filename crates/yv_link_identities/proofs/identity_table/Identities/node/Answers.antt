@@ -2,7 +2,7 @@ use Rattle.std.proofs.Common.{◌≡◌, ◌<◌, None, Some, ◌∙◌, ap, ari
 use Rattle.std.specs.Option.{option_map}
 use Rattle.yv_link_scopes.specs.RowList.{rows_of}
 use Rattle.yv_link_identities.specs.InnerIdentityNumbers.{number_at, count_of}
-use Rattle.yv_link_identities.proofs.Looking.{node_meant, node_count}
+use Rattle.yv_link_identities.proofs.MeantIdentities.{node_meant, node_count}
 use Rattle.yv_link_identities.proofs.identity_table.Identities.node.Goals as goal
 
 pub returns-in_err-node-clause-means : goal.returns-in_err-node-clause-means

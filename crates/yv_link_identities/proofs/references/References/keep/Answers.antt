@@ -1,5 +1,5 @@
 use Rattle.std.proofs.Common.{◌≡◌, sym, ◌∙◌, None, rules}
-use Rattle.yv_link_identities.proofs.Placing.{kept_new}
+use Rattle.yv_link_identities.proofs.FirstIdentities.{kept_new}
 use Rattle.yv_link_identities.proofs.references.References.keep.Goals as goal
 
 pub returns-in_ok-insert : goal.returns-in_ok-insert

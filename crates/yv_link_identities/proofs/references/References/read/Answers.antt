@@ -1,5 +1,5 @@
 use Rattle.std.proofs.lemmas.List.{get_or_default}
-use Rattle.yv_link_identities.proofs.Placing.{places_more}
+use Rattle.yv_link_identities.proofs.FirstIdentities.{places_more}
 use Rattle.yv_link_identities.proofs.references.References.read.Goals as goal
 
 pub loop-node-preserved : goal.loop-node-preserved

@@ -1,6 +1,6 @@
 use Rattle.std.proofs.Common.{◌≤◌, List, length, ap, arith}
 use Rattle.std.proofs.lemmas.List.{length-map}
-use Rattle.yv_statement.proofs.Least.{least_more}
+use Rattle.yv_text_statement.proofs.Least.{least_more}
 use Rattle.yv_link_scopes.specs.Files.{Briefs, brief}
 use Rattle.yv_link_scopes.specs.Rows.{Row}
 use Rattle.yv_link_scopes.specs.Views.{files_in, rows_in}

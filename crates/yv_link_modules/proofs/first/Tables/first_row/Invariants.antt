@@ -1,4 +1,4 @@
-use Rattle.yv_statement.specs.Order.{IsLeast, Among}
+use Rattle.yv_text_statement.specs.Order.{IsLeast, Among}
 use Rattle.yv_link_scopes.specs.Views.{files_in, rows_in}
 use Rattle.yv_link_modules.specs.Modules.{BadRow}
 use Rattle.yv_link_modules.proofs.first.Tables.first_row.Given as goal

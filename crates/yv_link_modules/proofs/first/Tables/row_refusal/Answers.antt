@@ -1,7 +1,7 @@
 use Rattle.std.proofs.Common.{◌≡◌, ◌<◌, ℕ, sym, ◌∙◌, ap, ◌||◌, true, List, length, Some}
-use Rattle.yv_statement.specs.Order.{refusal_at}
-use Rattle.yv_statement.specs.declared.refusal.Code.TheVariants as code
-use Rattle.yv_statement.proofs.Least.{least_lesser}
+use Rattle.yv_text_statement.specs.Order.{refusal_at}
+use Rattle.yv_text_statement.specs.declared.refusal.Code.TheVariants as code
+use Rattle.yv_text_statement.proofs.Least.{least_lesser}
 use Rattle.yv_link_scopes.specs.Files.{Briefs, file_named}
 use Rattle.yv_link_scopes.specs.Rows.{Row, row, name_in}
 use Rattle.yv_link_scopes.specs.Tables.{first_of}
@@ -15,7 +15,7 @@ use Rattle.yv_link_modules.specs.InnerDates.{is_other_date}
 use Rattle.yv_link_modules.specs.InnerImports.{is_import_cycle}
 use Rattle.yv_link_modules.proofs.Flags.{flagged, decided, none_last, none_wrong}
 use Rattle.yv_link_modules.proofs.Latest.{dated_named, other_to, other_from}
-use Rattle.yv_link_modules.proofs.Leading.{cyclic_to, cyclic_from, imported_named}
+use Rattle.yv_link_modules.proofs.ImportWays.{cyclic_to, cyclic_from, imported_named}
 use Rattle.yv_link_modules.proofs.first.Tables.row_refusal.Goals as goal
 
 pub returns-then-not-any : goal.returns-then-not-any

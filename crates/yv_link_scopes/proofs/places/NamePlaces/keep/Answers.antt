@@ -1,5 +1,5 @@
 use Rattle.std.proofs.Common.{sym, ◌∙◌}
-use Rattle.yv_link_scopes.proofs.Keeping.{kept_back, kept_new}
+use Rattle.yv_link_scopes.proofs.TableGrowth.{kept_back, kept_new}
 use Rattle.yv_link_scopes.proofs.places.NamePlaces.keep.Goals as goal
 
 pub returns-in_default : goal.returns-in_default

@@ -1,4 +1,4 @@
-use Rattle.yv_node_keys.proofs.Telling.{told_new}
+use Rattle.yv_node_keys.proofs.NamedChildren.{told_new}
 use Rattle.yv_node_keys.proofs.names.ChildNames.keep.Goals as goal
 
 pub returns : goal.returns

@@ -2,24 +2,24 @@ use Rattle.std.proofs.Common.{◌≡◌, ℕ, arith, true, Some, Option, IfSome,
 use Rattle.std.specs.List.{slice_get}
 use Rattle.std.proofs.lemmas.List.{length-map}
 use Rattle.std.proofs.lemmas.Option.{slice_get-get_or}
-use Rattle.yv_statement.specs.declared.refusal.Code.TheVariants as code
-use Rattle.yv_statement.specs.declared.refusal.Refusal.{Refusal}
-use Rattle.yv_statement.specs.Order.{Stands}
-use Rattle.yv_statement.proofs.Least.{least_lesser}
+use Rattle.yv_text_statement.specs.declared.refusal.Code.TheVariants as code
+use Rattle.yv_text_statement.specs.declared.refusal.Refusal.{Refusal}
+use Rattle.yv_text_statement.specs.Order.{Stands}
+use Rattle.yv_text_statement.proofs.Least.{least_lesser}
 use Rattle.yv_nodes.specs.declared.node.NodeId.{NodeId}
 use Rattle.yv_nodes.specs.Tree.{Label}
 use Rattle.yv_nodes.specs.Rows.{Row, blank_row}
 use Rattle.yv_nodes.specs.Refusals.{refusal_of}
-use Rattle.yv_node_definition.specs.Steps.{Step}
+use Rattle.yv_node_content.specs.Steps.{Step}
 use Rattle.yv_node_keys.specs.Numbers.{key_leaf_at, tree_in, unique_leaf_at}
 use Rattle.yv_node_keys.specs.Refusals.{is_bad_key, is_bad_unique}
 use Rattle.yv_nodes.specs.Alike.{untyped_at}
-use Rattle.yv_node_definition.specs.Definition.{Definition, paths_in}
+use Rattle.yv_node_content.specs.Definition.{Definition, paths_in}
 use Rattle.yv_node_keys.specs.InnerNamesakes.{HaveNames, NamesDefault}
 use Rattle.yv_node_keys.specs.InnerTargets.{lists_at, cases_at}
 use Rattle.yv_node_keys.proofs.Namesakes.{case_called, has_both, leafs_called, leafs_known, uniques_known}
-use Rattle.yv_node_keys.proofs.Keeping.{IsBoth, both}
-use Rattle.yv_node_keys.proofs.Refusing.{both_none, label_at, least_here, not_refused, same_not, there}
+use Rattle.yv_node_keys.proofs.NumberTables.{IsBoth, both}
+use Rattle.yv_node_keys.proofs.ListRefusals.{both_none, label_at, least_here, not_refused, same_not, there}
 use Rattle.yv_node_keys.proofs.targets.LeafTargets.meet.Goals as goal
 
 pub returns-clause-keeps : goal.returns-clause-keeps

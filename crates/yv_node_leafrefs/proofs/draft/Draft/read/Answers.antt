@@ -1,4 +1,4 @@
-use Rattle.yv_node_leafrefs.proofs.Finding.{draft_of}
+use Rattle.yv_node_leafrefs.proofs.KeyLookup.{draft_of}
 use Rattle.yv_node_leafrefs.proofs.draft.Draft.read.Goals as goal
 
 pub returns : goal.returns

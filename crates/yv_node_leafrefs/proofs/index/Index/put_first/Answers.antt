@@ -1,5 +1,5 @@
 use Rattle.std.proofs.Common.{sym, ◌∙◌}
-use Rattle.yv_node_leafrefs.proofs.Keying.{put_new}
+use Rattle.yv_node_leafrefs.proofs.FirstKeyNodes.{put_new}
 use Rattle.yv_node_leafrefs.proofs.index.Index.put_first.Goals as goal
 
 pub returns-in_ok-insert : goal.returns-in_ok-insert

@@ -5,7 +5,7 @@ use Rattle.std.specs.List.{slice_get, slice_index_or}
 use Rattle.std.specs.Option.{option_map}
 use Rattle.yv_nodes.specs.declared.node.NodeId.{NodeId}
 use Rattle.yv_node_leafrefs.specs.Targets.{HasTypesOf}
-use Rattle.yv_node_leafrefs.proofs.Edging.{types_within, at_index}
+use Rattle.yv_node_leafrefs.proofs.LeafrefGraph.{types_within, at_index}
 use Rattle.yv_node_leafrefs.proofs.Faulty.{clear_cycle}
 use Rattle.yv_node_leafrefs.proofs.leafrefs.Leafrefs.origins.Goals as goal
 

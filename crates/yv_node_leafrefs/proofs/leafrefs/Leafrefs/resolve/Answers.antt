@@ -1,7 +1,7 @@
 use Rattle.std.proofs.Common.{◌≡◌, ◌<◌, ℕ, List, length, Option, Some, None, slice_get, slice_index_or, sym, ap, subst, ◌∙◌, arith}
 use Rattle.std.proofs.lemmas.Option.{slice_get-get_or}
-use Rattle.yv_statement.specs.Order.{IsLeast}
-use Rattle.yv_statement.specs.declared.refusal.Refusal.{Refusal}
+use Rattle.yv_text_statement.specs.Order.{IsLeast}
+use Rattle.yv_text_statement.specs.declared.refusal.Refusal.{Refusal}
 use Rattle.yv_nodes.specs.declared.node.NodeId.{NodeId}
 use Rattle.yv_nodes.specs.Rows.{Row}
 use Rattle.yv_nodes.specs.Tree.{Forest}
@@ -10,7 +10,7 @@ use Rattle.yv_node_leafrefs.specs.Schema.{Schema}
 use Rattle.yv_node_leafrefs.specs.Targets.{HasTypesOf}
 use Rattle.yv_node_leafrefs.specs.Bad.{BadLeafrefs}
 use Rattle.yv_node_leafrefs.specs.Resolution.{with_targets, with_refusal}
-use Rattle.yv_node_leafrefs.proofs.Resolving.{origin_within, resolved_by, rows_by}
+use Rattle.yv_node_leafrefs.proofs.RetypedTrees.{origin_within, resolved_by, rows_by}
 use Rattle.yv_node_leafrefs.proofs.leafrefs.Leafrefs.resolve.Goals as goal
 
 pub returns-in-Some-clause-types : goal.returns-in-Some-clause-types

@@ -1,6 +1,6 @@
 use Rattle.std.proofs.Common.{◌≡◌, ◌∙◌, ap, None, rules}
 use Rattle.yv_node_leafrefs.specs.InnerNames.{told_of, keep_first}
-use Rattle.yv_node_leafrefs.proofs.Naming.{kept_new}
+use Rattle.yv_node_leafrefs.proofs.NameNumbers.{kept_new}
 use Rattle.yv_node_leafrefs.proofs.names.NameTable.keep.Goals as goal
 
 pub returns-clause-tells : goal.returns-clause-tells

@@ -1,5 +1,5 @@
 use Rattle.std.proofs.Common.{◌≡◌, ◌++◌, List, None, Option, sym, ap, ◌∙◌, append_assoc}
-use Rattle.yv_node_definition.specs.Steps.{Step}
+use Rattle.yv_node_content.specs.Steps.{Step}
 use Rattle.yv_node_paths.specs.Steps.{names_of}
 use Rattle.yv_node_paths.specs.InnerFirstWord.{first_word, name_in}
 use Rattle.yv_node_paths.proofs.Cuts.{names_cut, names_whole}

@@ -2,7 +2,7 @@ use Rattle.std.proofs.Common.{map, ◌∙◌, ap}
 use Rattle.std.specs.Option.{option_map}
 use Rattle.std.proofs.lemmas.Option.{slice_get-map, slice_get-get_or}
 use Rattle.yv_node_paths.specs.Referral.{piece_of}
-use Rattle.yv_link_scopes.proofs.Reading.{mapped_more}
+use Rattle.yv_link_scopes.proofs.MappedLists.{mapped_more}
 use Rattle.yv_node_paths.proofs.steps.PathReader.pieces_in.Goals as goal
 
 pub loop-text-preserved : goal.loop-text-preserved

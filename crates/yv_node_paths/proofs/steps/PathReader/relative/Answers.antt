@@ -1,6 +1,6 @@
 use Rattle.std.proofs.Common.{map, ◌∙◌, ap}
 use Rattle.yv_node_paths.specs.Steps.{step_of}
-use Rattle.yv_node_paths.proofs.Referring.{names_left}
+use Rattle.yv_node_paths.proofs.PathPieces.{names_left}
 use Rattle.yv_node_paths.proofs.steps.PathReader.relative.Goals as goal
 
 pub returns-clause-steps : goal.returns-clause-steps

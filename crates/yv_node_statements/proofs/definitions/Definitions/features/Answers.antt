@@ -1,12 +1,12 @@
 use Rattle.std.proofs.Common.{◌+◌, List, ℕ, drop, get_or, string_bytes, sym, ap, ◌∙◌}
 use Rattle.std.proofs.lemmas.List.{at_drop_more}
 use Rattle.std.proofs.lemmas.Result.{IfOk-weaker}
-use Rattle.yv_statement.specs.Tree.{trees}
+use Rattle.yv_text_statement.specs.Tree.{trees}
 use Rattle.yv_node_statements.specs.Features.{all_expressions, expressions, with_expressions}
 use Rattle.yv_node_properties.specs.Statements.{statement_at}
 use Rattle.yv_node_statements.specs.Context.{files_in}
 use Rattle.yv_node_statements.proofs.Expressions.{no_expressions_at_all}
-use Rattle.yv_node_statements.proofs.Separating.{expressions_more, separated_one}
+use Rattle.yv_node_statements.proofs.CommaLists.{expressions_more, separated_one}
 use Rattle.yv_node_statements.proofs.definitions.Definitions.features.Goals as goal
 
 pub returns-then-not-gives_features : goal.returns-then-not-gives_features

@@ -6,7 +6,7 @@ use Rattle.yv_types.specs.Scopes.{AreScopes}
 use Rattle.yv_node_statements.specs.Definitions.{definition_of, refined_definition}
 use Rattle.yv_node_statements.specs.Context.{files_in, typing_in}
 use Rattle.yv_node_statements.proofs.Later.{default_stays, kept_is, types_stay, valued_is}
-use Rattle.yv_node_statements.proofs.Shared.{by_type_stays}
+use Rattle.yv_node_statements.proofs.SharedDefaults.{by_type_stays}
 use Rattle.yv_node_statements.proofs.definitions.Definitions.more.Goals.{then-is_moved+in_ok-changed-inside, else-is_moved}
 use Rattle.yv_node_statements.proofs.definitions.Definitions.more.Goals as goal
 

@@ -1,6 +1,6 @@
 use Rattle.std.proofs.Common.{map, sym, ap, ◌∙◌}
 use Rattle.yv_node_paths.specs.Steps.{step_of}
-use Rattle.yv_node_definition.specs.Definition.{paths_in}
+use Rattle.yv_node_content.specs.Definition.{paths_in}
 use Rattle.yv_node_statements.proofs.Listing.{no_words}
 use Rattle.yv_node_statements.proofs.keys.BlockPaths.none.Goals as goal
 

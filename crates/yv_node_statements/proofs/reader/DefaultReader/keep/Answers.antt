@@ -1,6 +1,6 @@
 use Rattle.std.proofs.Common.{refl}
 use Rattle.yv_types.specs.Scopes.{AreScopes}
-use Rattle.yv_node_statements.proofs.Shared.{are_values, shared_more}
+use Rattle.yv_node_statements.proofs.SharedDefaults.{are_values, shared_more}
 use Rattle.yv_node_statements.proofs.reader.DefaultReader.keep.Goals as goal
 
 pub returns : goal.returns

@@ -1,5 +1,5 @@
 use Rattle.yv_link_scopes.specs.Views.{lent_in}
-use Rattle.yv_node_statements.proofs.Shared.{shared_none}
+use Rattle.yv_node_statements.proofs.SharedDefaults.{shared_none}
 use Rattle.yv_node_statements.proofs.reader.DefaultReader.read.Goals as goal
 
 pub loop-number-init : goal.loop-number-init

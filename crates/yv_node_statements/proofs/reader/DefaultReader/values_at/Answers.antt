@@ -3,7 +3,7 @@ use Rattle.std.specs.Option.{option_copied}
 use Rattle.yv_link_scopes.specs.Views.{lent_in}
 use Rattle.yv_types.specs.Types.{sharing_at}
 use Rattle.yv_node_properties.specs.Statements.{file_at, statement_at}
-use Rattle.yv_node_statements.proofs.Shared.{at_type, if_some}
+use Rattle.yv_node_statements.proofs.SharedDefaults.{at_type, if_some}
 use Rattle.yv_node_statements.proofs.reader.DefaultReader.values_at.Goals as goal
 
 pub returns : goal.returns

@@ -2,7 +2,7 @@ use Rattle.std.proofs.Common.{◌≡◌, ℕ, List, ◌++◌, ap, ◌∙◌, sub
 use Rattle.std.specs.Prelude.{IfOk}
 use Rattle.yv_node_statements.specs.Definitions.{refined_definition}
 use Rattle.yv_node_statements.specs.RefinedContext.{files_of, typing_of}
-use Rattle.yv_node_statements.proofs.Following.{from_none, read}
+use Rattle.yv_node_statements.proofs.RefineRuns.{from_none, read}
 use Rattle.yv_node_statements.proofs.refined_definitions.RefinedDefinitions.apply_chain.Goals as goal
 
 pub returns : goal.returns

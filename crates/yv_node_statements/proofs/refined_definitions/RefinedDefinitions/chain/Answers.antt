@@ -1,7 +1,7 @@
 use Rattle.std.proofs.Common.{ℕ, List, [], ◌++◌, Option, Some, ap, ◌∙◌}
 use Rattle.yv_expand_refines.specs.Changes.{sequence_at}
 use Rattle.yv_node_statements.specs.RefinedContext.{sequences_of}
-use Rattle.yv_node_statements.proofs.Following.{one_more}
+use Rattle.yv_node_statements.proofs.RefineRuns.{one_more}
 use Rattle.yv_node_statements.proofs.refined_definitions.RefinedDefinitions.chain.Goals as goal
 
 pub returns-in_default : goal.returns-in_default

@@ -4,7 +4,7 @@ use Rattle.std.specs.Map.{lookup}
 use Rattle.yv_node_statements.specs.InnerRefinedStore.{IsRefined, key_cmp}
 use Rattle.yv_node_statements.specs.RefinedContext.{files_of, sequences_of, typing_of}
 use Rattle.yv_node_statements.specs.declared.refined_definitions.RefinedNode.{RefinedNode}
-use Rattle.yv_node_statements.proofs.Keeping.{either, found}
+use Rattle.yv_node_statements.proofs.StoreGrowth.{either, found}
 use Rattle.yv_node_statements.proofs.refined_definitions.RefinedDefinitions.keep_definition.Goals as goal
 
 pub invariant_of-self : goal.invariant_of-self

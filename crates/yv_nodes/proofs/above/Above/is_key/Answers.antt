@@ -1,9 +1,9 @@
 use Rattle.std.proofs.Common.{◌≡◌, ℕ, List, Bool, true, false, ◌==◌, ◌||◌, ◌&&◌, Option, Some, None, sym, ap, ◌∙◌}
-use Rattle.yv_node_definition.specs.Kinds.{is_leaf}
-use Rattle.yv_node_definition.specs.Steps.{has_step}
+use Rattle.yv_node_content.specs.Kinds.{is_leaf}
+use Rattle.yv_node_content.specs.Steps.{has_step}
 use Rattle.yv_nodes.specs.Labels.{has_key_called}
 use Rattle.yv_nodes.specs.Above.{View, nearest_module_file, nearest_keys}
-use Rattle.yv_nodes.proofs.Keyed.{keyed}
+use Rattle.yv_nodes.proofs.KeyNames.{keyed}
 use Rattle.yv_nodes.proofs.above.Above.is_key.Goals as goal
 
 pub returns-then-has_bare_key : goal.returns-then-has_bare_key

@@ -7,7 +7,7 @@ use Rattle.yv_nodes.specs.NodeTypes.{typed_rows, types_at, types_from}
 use Rattle.yv_nodes.specs.InnerTypes.{with_own_types, types_in}
 use Rattle.yv_nodes.proofs.Behind.{retyped_behind}
 use Rattle.yv_nodes.proofs.Firsts.{retyped_firsts}
-use Rattle.yv_nodes.proofs.Retyping.{by_number, told_by}
+use Rattle.yv_nodes.proofs.RowTypes.{by_number, told_by}
 use Rattle.yv_nodes.proofs.nodes.Nodes.resolve.Goals as goal
 
 pub returns-clause-rows : goal.returns-clause-rows

@@ -3,7 +3,7 @@ use Rattle.std.specs.List.{slice_index_or}
 use Rattle.std.proofs.lemmas.Grind.{common_steps}
 use Rattle.yv_expand_refines.specs.Changes.{ChangesView, each, sequence_at}
 use Rattle.yv_expand_tree.specs.FinalTree.{FinalTreeView}
-use Rattle.yv_schema_build.proofs.Telling.{same_said}
+use Rattle.yv_schema_build.proofs.ContextBasis.{same_said}
 use Rattle.yv_schema_build.proofs.context.Context.are_copies.Goals as goal
 
 pub returns-then-eq : goal.returns-then-eq

@@ -2,7 +2,7 @@ use Rattle.std.proofs.Common.{◌≡◌, ℕ, List, [], Option, sym, ap, subst, 
 use Rattle.std.specs.Prelude.{IfOk, slice_index_or}
 use Rattle.yv_expand.specs.Tree.{Item}
 use Rattle.yv_node_statements.specs.Definitions.{refined_definition}
-use Rattle.yv_node_definition.specs.Definition.{Definition}
+use Rattle.yv_node_content.specs.Definition.{Definition}
 use Rattle.yv_expand_refines.specs.Changes.{ChangesView, each, sequence_at}
 use Rattle.yv_node_statements.specs.RefinedContext.{files_of, sequences_of, typing_of}
 use Rattle.yv_expand_tree.specs.Final.{Final, changes_of}

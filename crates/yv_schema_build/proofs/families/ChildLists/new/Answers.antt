@@ -1,5 +1,5 @@
 use Rattle.std.proofs.Common.{◌≡◌, ℕ, [], replicate, ap, ◌∙◌, arith}
-use Rattle.yv_schema_build.proofs.Hanging.{empty_lists}
+use Rattle.yv_schema_build.proofs.ChildPlacement.{empty_lists}
 use Rattle.yv_schema_build.proofs.families.ChildLists.new.Goals as goal
 
 pub returns-clause-below : goal.returns-clause-below

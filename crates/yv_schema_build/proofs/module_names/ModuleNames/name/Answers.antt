@@ -1,5 +1,5 @@
 use Rattle.std.proofs.Common.{◌∙◌, sym}
-use Rattle.yv_schema_build.proofs.Called.{matched, named_here, named_past}
+use Rattle.yv_schema_build.proofs.ImplementedModules.{matched, named_here, named_past}
 use Rattle.yv_schema_build.proofs.module_names.ModuleNames.name.Goals as goal
 
 pub returns-in-Some : goal.returns-in-Some

@@ -11,7 +11,7 @@ use Rattle.yv_nodes.specs.Above.{View, seen_of}
 use Rattle.yv_schema_build.specs.InnerBasis.{label_at}
 use Rattle.yv_schema_build.specs.InnerRows.{AreSeen, IsWithin, line_at, line_of, no_node, numbers_at, parent_of, row_of, rows_of_items}
 use Rattle.yv_schema_build.proofs.Numbering.{rank_within}
-use Rattle.yv_schema_build.proofs.Rowing.{key_is, kept_more, kept_none, shared, within_more}
+use Rattle.yv_schema_build.proofs.SchemaTreeRows.{key_is, kept_more, kept_none, shared, within_more}
 use Rattle.yv_schema_build.proofs.tree.Builder.add_nodes.Goals as goal
 
 above_first : (xs : List Node) (place : ℕ) → ((k : ℕ) (x : Node) → slice_get xs k ≡ Some x → IsWithin x.parent k) → place < length xs → IsWithin (get_or xs place no_node).parent place

@@ -3,7 +3,7 @@ use Rattle.yv_schema_build.specs.Families.{lists_of}
 use Rattle.yv_schema_build.specs.InnerContext.{Tells}
 use Rattle.yv_schema_build.specs.InnerModuleNames.{AreModuleNames}
 use Rattle.yv_schema_build.specs.InnerBasis.{NumberedBasis}
-use Rattle.yv_schema_build.proofs.Rowing.{Kept}
+use Rattle.yv_schema_build.proofs.SchemaTreeRows.{Kept}
 use Rattle.yv_schema_build.proofs.tree.Builder.add_nodes.Given as goal
 
 -- with the rows of the items behind, they are all

@@ -2,12 +2,12 @@ use Rattle.std.proofs.Common.{◌≡◌, ◌∙◌, List, ℕ, Bool, ap, subst, 
 use Rattle.std.specs.Option.{IfSome}
 use Rattle.std.specs.Rc.{rc_str_bytes}
 use Rattle.yv_nodes.specs.Labels.{label_of}
-use Rattle.yv_node_definition.specs.Definition.{Definition}
+use Rattle.yv_node_content.specs.Definition.{Definition}
 use Rattle.yv_nodes.specs.Rows.{Row}
 use Rattle.yv_nodes.specs.Tree.{Label}
 use Rattle.yv_schema_build.specs.Module.{module_name}
 use Rattle.yv_schema_build.specs.InnerBasis.{module_file_of, label_at}
-use Rattle.yv_schema_build.proofs.Rowing.{row_is, seen_below}
+use Rattle.yv_schema_build.proofs.SchemaTreeRows.{row_is, seen_below}
 use Rattle.yv_schema_build.proofs.tree.Builder.node.Goals as goal
 
 pub returns-clause-node : goal.returns-clause-node

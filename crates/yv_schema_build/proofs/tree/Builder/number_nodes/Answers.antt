@@ -4,8 +4,8 @@ use Rattle.yv_nodes.specs.Rows.{Row}
 use Rattle.yv_schema_build.specs.Families.{below_from, lists_of}
 use Rattle.yv_schema_build.specs.InnerRows.{numbers_at, rows_of_items}
 use Rattle.yv_schema_build.proofs.Numbering.{AllBefore, below_before, each_before, numbers_before, parents_first}
-use Rattle.yv_schema_build.proofs.Parenting.{length_listed}
-use Rattle.yv_schema_build.proofs.Rowing.{rows_whole, top_whole}
+use Rattle.yv_schema_build.proofs.ParentNodes.{length_listed}
+use Rattle.yv_schema_build.proofs.SchemaTreeRows.{rows_whole, top_whole}
 use Rattle.yv_schema_build.proofs.tree.Builder.number_nodes.Goals as goal
 
 pub add_nodes-requires-clause-few : goal.add_nodes-requires-clause-few

@@ -4,7 +4,7 @@ use Rattle.yv_nodes.specs.declared.node.NodeId.{NodeId}
 use Rattle.yv_nodes.specs.Rows.{Row, blank_row}
 use Rattle.std.specs.List.{slice_index_or}
 use Rattle.yv_schema_tables.specs.InnerSits.{inner_of}
-use Rattle.yv_schema_tables.proofs.Sitting.{IsStep, left_of, left_start, opening_all, opening_first, opening_more, step}
+use Rattle.yv_schema_tables.proofs.PickedTrees.{IsStep, left_of, left_start, opening_all, opening_first, opening_more, step}
 use Rattle.yv_schema_tables.proofs.data_children.DataChildren.+add.Goals as goal
 
 pub loop-number-init : goal.loop-number-init

@@ -1,4 +1,4 @@
-use Rattle.yv_schema_tables.proofs.Sitting.{IsOpening, left_of}
+use Rattle.yv_schema_tables.proofs.PickedTrees.{IsOpening, left_of}
 use Rattle.yv_schema_tables.proofs.data_children.DataChildren.+add.Given as goal
 
 -- the nodes behind

@@ -2,8 +2,8 @@ use Rattle.std.proofs.Common.{◌≡◌, ◌∙◌, ℕ, List, refl, sym, ap, su
 use Rattle.std.specs.Rc.{rc_str_bytes}
 use Rattle.std.specs.Str.{bytes_eq}
 use Rattle.yv_schema_tables.specs.InnerNames.{HaveNumbers, get_by_name, number_in}
-use Rattle.yv_schema_tables.proofs.Named.{put_name}
-use Rattle.yv_schema_tables.proofs.Naming.{number_new, numbered_more, with_new, with_old}
+use Rattle.yv_schema_tables.proofs.SharedNameTables.{put_name}
+use Rattle.yv_schema_tables.proofs.NameNumbers.{number_new, numbered_more, with_new, with_old}
 use Rattle.yv_schema_tables.proofs.names.NameTable.add.Goals as goal
 
 pub returns-in-Some-clause-names : goal.returns-in-Some-clause-names

@@ -2,10 +2,10 @@ use Rattle.std.proofs.Common.{◌≡◌, ◌∙◌, ℕ, List, Some, is_some, re
 use Rattle.std.proofs.lemmas.Bool.Decides.{nat_tests}
 use Rattle.std.proofs.lemmas.Option.{slice_get_read}
 use Rattle.std.specs.List.{slice_get}
-use Rattle.yv_node_definition.specs.Definition.{Definition}
+use Rattle.yv_node_content.specs.Definition.{Definition}
 use Rattle.yv_nodes.specs.Alike.{untyped_at}
 use Rattle.yv_schema_tables.specs.InnerNames.{HaveNumbers, number_in}
-use Rattle.yv_schema_tables.proofs.Naming.{with_old}
+use Rattle.yv_schema_tables.proofs.NameNumbers.{with_old}
 use Rattle.yv_schema_tables.proofs.names.NameTable.number_next.Goals as goal
 
 pub returns-in-Some-clause-names : goal.returns-in-Some-clause-names

@@ -7,7 +7,7 @@ use Rattle.yv_nodes.specs.Rows.{Row, below, forest, rank, row_at}
 use Rattle.yv_schema_tables.specs.Sound.{IsChild}
 use Rattle.yv_schema_tables.specs.InnerPassage.{beside, one_of, passage_of}
 use Rattle.yv_schema_tables.specs.declared.measures.Passage.{Passage}
-use Rattle.yv_schema_tables.proofs.Measuring.{IsSplit, child_rank, is_split, few_measured, measured_all, measured_first, measured_more}
+use Rattle.yv_schema_tables.proofs.SchemaMeasures.{IsSplit, child_rank, is_split, few_measured, measured_all, measured_first, measured_more}
 use Rattle.yv_schema_tables.proofs.schema.Schema.+passage.Goals as goal
 
 pub loop-child-init : goal.loop-child-init

@@ -1,6 +1,6 @@
 use Rattle.std.proofs.Common.{◌-◌, drop, length}
 use Rattle.yv_nodes.specs.Rows.{below, forest, rank}
-use Rattle.yv_schema_tables.proofs.Measuring.{IsMeasured}
+use Rattle.yv_schema_tables.proofs.SchemaMeasures.{IsMeasured}
 use Rattle.yv_schema_tables.proofs.schema.Schema.+passage.Given as goal
 
 -- the nodes behind

@@ -1,6 +1,6 @@
 use Rattle.std.proofs.Common.{ap, ◌∙◌}
 use Rattle.std.specs.Prelude.{is_some}
-use Rattle.yv_schema_tables.proofs.Finding.{inside_named, known_is}
+use Rattle.yv_schema_tables.proofs.ChildLookup.{inside_named, known_is}
 use Rattle.yv_schema_tables.proofs.schema.Schema.find.Goals as goal
 
 pub returns-clause-child : goal.returns-clause-child

@@ -1,12 +1,12 @@
 use Rattle.std.proofs.Common.{◌≡◌, ◌≤◌, refl, length, Option, Some, None, subst, arith}
-use Rattle.yv_statement.specs.declared.refusal.Refusal.{Refusal}
-use Rattle.yv_statement.specs.Order.{IsLeast}
+use Rattle.yv_text_statement.specs.declared.refusal.Refusal.{Refusal}
+use Rattle.yv_text_statement.specs.Order.{IsLeast}
 use Rattle.yv_node_keys.specs.LeafTargets.{AreLeafTargets}
 use Rattle.yv_nodes.specs.Rows.{WithinLimit}
 use Rattle.yv_schema_tables.specs.DuplicateNodes.{HasDuplicate}
 use Rattle.yv_schema_tables.specs.Bad.{BadRows}
-use Rattle.yv_schema_tables.proofs.Clearing.{both_none}
-use Rattle.yv_schema_tables.proofs.Kept.{built_bad, built_duplicate, built_of, built_rows, built_top, kept_made, whole_made}
+use Rattle.yv_schema_tables.proofs.RefusalAbsence.{both_none}
+use Rattle.yv_schema_tables.proofs.SchemaFromNodes.{built_bad, built_duplicate, built_of, built_rows, built_top, kept_made, whole_made}
 use Rattle.yv_schema_tables.proofs.schema.Schema.number_nodes.Goals as goal
 
 pub of-requires : goal.of-requires

@@ -1,6 +1,6 @@
 use Rattle.std.proofs.Common.{◌≡◌, List, IfOk, true, false, sym, ap, ◌∙◌, subst}
-use Rattle.yv_statement.specs.Order.{IsLeast}
-use Rattle.yv_node_definition.specs.Kinds.{is_case, is_choice}
+use Rattle.yv_text_statement.specs.Order.{IsLeast}
+use Rattle.yv_node_content.specs.Kinds.{is_case, is_choice}
 use Rattle.yv_nodes.specs.declared.node.NodeId.{NodeId}
 use Rattle.yv_nodes.specs.Tree.{Label}
 use Rattle.yv_schema_tables.specs.DuplicateNodes.{names_that_differ}

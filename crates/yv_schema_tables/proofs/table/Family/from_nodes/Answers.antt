@@ -5,7 +5,7 @@ use Rattle.yv_nodes.specs.Rows.{Row}
 use Rattle.yv_nodes.specs.Tree.{Label}
 use Rattle.yv_schema_tables.specs.InnerNames.{names_of, number_in}
 use Rattle.yv_schema_tables.specs.InnerTables.{held_at}
-use Rattle.yv_schema_tables.proofs.Keeping.{keeps_end, keeps_more}
+use Rattle.yv_schema_tables.proofs.ChildDirectories.{keeps_end, keeps_more}
 use Rattle.yv_schema_tables.proofs.table.Family.from_nodes.Goals as goal
 
 pub loop-child-preserved : goal.loop-child-preserved

@@ -1,5 +1,5 @@
 use Rattle.std.proofs.Common.{List, IfOk, sym, ap, ◌∙◌, subst}
-use Rattle.yv_statement.specs.Order.{IsLeast}
+use Rattle.yv_text_statement.specs.Order.{IsLeast}
 use Rattle.yv_nodes.specs.Tree.{Label}
 use Rattle.yv_nodes.specs.declared.node.NodeId.{NodeId}
 use Rattle.yv_schema_tables.specs.InnerTables.{IsDirectory, Namesakes, labels_at}

@@ -1,9 +1,9 @@
 use Rattle.std.proofs.Common.{List, IfOk, sym, ap, ◌∙◌, subst}
-use Rattle.yv_statement.specs.Order.{IsLeast}
+use Rattle.yv_text_statement.specs.Order.{IsLeast}
 use Rattle.yv_nodes.specs.Tree.{Label}
 use Rattle.yv_nodes.specs.declared.node.NodeId.{NodeId}
 use Rattle.yv_schema_tables.specs.InnerTables.{Namesakes, labels_at}
-use Rattle.yv_schema_tables.proofs.Keeping.{same_nodes}
+use Rattle.yv_schema_tables.proofs.ChildDirectories.{same_nodes}
 use Rattle.yv_schema_tables.proofs.Members.{inside_within, told_labels, told_within}
 use Rattle.yv_schema_tables.proofs.table.Family.of_opened_nodes.Goals as goal
 

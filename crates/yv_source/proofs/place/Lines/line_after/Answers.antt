@@ -1,7 +1,7 @@
 use Rattle.std.proofs.Common.{◌==◌, ap, ◌∙◌}
 use Rattle.std.specs.Prelude.{count_by}
 use Rattle.std.proofs.lemmas.List.{take_rest}
-use Rattle.yv_source.proofs.Counting.{line_on, all_counted}
+use Rattle.yv_source.proofs.LineCounts.{line_on, all_counted}
 use Rattle.yv_source.proofs.place.Lines.line_after.Goals as goal
 
 pub returns-clause-line : goal.returns-clause-line

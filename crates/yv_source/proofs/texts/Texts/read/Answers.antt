@@ -2,7 +2,7 @@ use Rattle.std.proofs.Common.{◌≡◌, ◌∙◌, arith, map, refl, subst, Lis
 use Rattle.std.specs.List.{slice_get}
 use Rattle.yv_source.specs.Answer.{IsBadFile}
 use Rattle.yv_source.specs.Legal.{IsLegalFile}
-use Rattle.yv_streams.specs.Files.{File, file_of}
+use Rattle.yv_base_streams.specs.Files.{File, file_of}
 use Rattle.yv_source.proofs.FileReading.{get_view, texts_end, texts_more}
 use Rattle.yv_source.proofs.texts.Texts.read.Goals as goal
 

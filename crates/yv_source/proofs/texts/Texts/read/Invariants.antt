@@ -1,6 +1,6 @@
 use Rattle.std.proofs.Common.{◌≡◌, length, map, take}
 use Rattle.std.specs.List.{AllZip}
-use Rattle.yv_streams.specs.Files.{file_of}
+use Rattle.yv_base_streams.specs.Files.{file_of}
 use Rattle.yv_source.specs.Texts.{IsText}
 use Rattle.yv_source.proofs.texts.Texts.read.Given as goal
 

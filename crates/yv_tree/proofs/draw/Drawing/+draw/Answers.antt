@@ -6,8 +6,8 @@ use Rattle.yv_schema_tables.specs.Sound.{IsChild}
 use Rattle.yv_tree.specs.InnerDraw.{trees_text}
 use Rattle.yv_tree.specs.InnerMargin.{margin_text}
 use Rattle.yv_tree.specs.Lines.{has_line}
-use Rattle.yv_tree.proofs.Drawn.{lost}
-use Rattle.yv_tree.proofs.Waiting.{adds_parts, end_step, hidden_step, line_and_below, shown_step}
+use Rattle.yv_tree.proofs.TextRemainder.{lost}
+use Rattle.yv_tree.proofs.PendingLines.{adds_parts, end_step, hidden_step, line_and_below, shown_step}
 use Rattle.yv_tree.proofs.draw.Drawing.+draw.Goals as goal
 use Rattle.yv_tree.proofs.draw.Drawing.+draw.Goals.{nodes-then-has_line, nodes-else-has_line}
 

@@ -1,6 +1,6 @@
 use Rattle.std.proofs.Common.{take}
 use Rattle.std.specs.List.{flat_map}
-use Rattle.yv_streams.specs.Pages.{Adds}
+use Rattle.yv_base_streams.specs.Pages.{Adds}
 use Rattle.yv_tree.specs.Diagram.{augment_section, text_of}
 use Rattle.yv_tree.proofs.draw.Drawing.augments.Given as goal
 

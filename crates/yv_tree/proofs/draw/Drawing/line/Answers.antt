@@ -1,6 +1,6 @@
 use Rattle.std.proofs.Common.{◌++◌, codes, subst}
 use Rattle.yv_nodes.specs.Rows.{Row, row_at}
-use Rattle.yv_streams.specs.Pages.{Adds}
+use Rattle.yv_base_streams.specs.Pages.{Adds}
 use Rattle.yv_tree.specs.InnerMargin.{margin_text}
 use Rattle.yv_tree.specs.Lines.{line}
 use Rattle.yv_tree.proofs.Parts.{adds_both}

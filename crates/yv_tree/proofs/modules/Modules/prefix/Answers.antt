@@ -1,7 +1,7 @@
 use Rattle.std.proofs.Common.{◌∙◌, List, Some, None, sym, ap, arith}
 use Rattle.yv_nodes.specs.Rows.{Module}
 use Rattle.yv_tree.specs.Lines.{prefix_in}
-use Rattle.yv_tree.proofs.Placing.{leads_by}
+use Rattle.yv_tree.proofs.ModulePlaces.{leads_by}
 use Rattle.yv_tree.proofs.modules.Modules.prefix.Goals as goal
 
 pub bounds-self-inside-place : goal.bounds-self-inside-place

@@ -1,6 +1,6 @@
 use Rattle.std.proofs.Common.{◌≡◌, [], sym, ◌∙◌, false}
-use Rattle.yv_streams.specs.Stream.{has_failed, stream_failures, stream_inner}
-use Rattle.yv_streams.proofs.Paging.{all_written, front_written, none_written, not_failed, not_failed_yet, once_written}
+use Rattle.yv_base_streams.specs.Stream.{has_failed, stream_failures, stream_inner}
+use Rattle.yv_base_streams.proofs.PageWrites.{all_written, front_written, none_written, not_failed, not_failed_yet, once_written}
 use Rattle.yv_tree.proofs.tree_diagram.TreeDiagram.write.Goals as goal
 
 pub returns-clause-done : goal.returns-clause-done

@@ -6,9 +6,9 @@ use Rattle.yv_link_scopes.specs.Views.{files_in, rows_in}
 use Rattle.yv_type_chains.specs.Types.{RestsOn}
 use Rattle.yv_type_chains.specs.InnerCounts.{IsCount}
 use Rattle.yv_type_chains.specs.InnerTables.{at}
-use Rattle.yv_type_chains.proofs.Basing.{no_number}
-use Rattle.yv_type_chains.proofs.Counting.{count_type}
-use Rattle.yv_type_chains.proofs.Walking.{keep_empty, order_within, walk_more, walk_types}
+use Rattle.yv_type_chains.proofs.TypeBases.{no_number}
+use Rattle.yv_type_chains.proofs.PlainTypeCounts.{count_type}
+use Rattle.yv_type_chains.proofs.TableWalk.{keep_empty, order_within, walk_more, walk_types}
 use Rattle.yv_type_chains.proofs.draft.Draft.counts.Goals as goal
 
 pub loop-number-preserved : goal.loop-number-preserved

@@ -1,10 +1,10 @@
 use Rattle.std.proofs.Common.{◌≤◌, List, length, arith}
-use Rattle.yv_statement.proofs.Least.{least_more}
+use Rattle.yv_text_statement.proofs.Least.{least_more}
 use Rattle.yv_link_scopes.specs.Files.{Briefs}
 use Rattle.yv_link_scopes.specs.Rows.{Row, row}
 use Rattle.yv_link_scopes.specs.Views.{files_in, rows_in}
 use Rattle.yv_type_chains.specs.Refusals.{BadRow}
-use Rattle.yv_type_chains.proofs.Judging.{least_all}
+use Rattle.yv_type_chains.proofs.TypeFaults.{least_all}
 use Rattle.yv_type_chains.proofs.Words.{row_read, rows_count}
 use Rattle.yv_type_chains.proofs.draft.Draft.first_refusal.Goals as goal
 

@@ -1,7 +1,7 @@
 use Rattle.std.proofs.Common.{ap}
 use Rattle.std.specs.Option.{option_map}
 use Rattle.yv_link_scopes.specs.Views.{files_in, rows_in}
-use Rattle.yv_type_chains.proofs.Fitting.{foreign_none, foreign_some}
+use Rattle.yv_type_chains.proofs.MisfitSubstatements.{foreign_none, foreign_some}
 use Rattle.yv_type_chains.proofs.draft.Draft.is_foreign.Goals as goal
 
 pub returns-in-Some : goal.returns-in-Some

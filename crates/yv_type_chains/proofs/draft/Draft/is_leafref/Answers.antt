@@ -1,7 +1,7 @@
 use Rattle.std.proofs.Common.{codes, ap}
 use Rattle.std.specs.Option.{option_map}
 use Rattle.yv_link_scopes.specs.Views.{files_in, rows_in}
-use Rattle.yv_type_chains.proofs.Fitting.{kind_is, kind_none}
+use Rattle.yv_type_chains.proofs.MisfitSubstatements.{kind_is, kind_none}
 use Rattle.yv_type_chains.proofs.draft.Draft.is_leafref.Goals as goal
 
 pub returns-in-Some : goal.returns-in-Some

@@ -3,7 +3,7 @@ use Rattle.std.proofs.lemmas.Bool.{false≢true}
 use Rattle.yv_link_scopes.specs.Files.{Briefs}
 use Rattle.yv_link_scopes.specs.Rows.{Row, row}
 use Rattle.yv_link_scopes.specs.Views.{files_in, rows_in}
-use Rattle.yv_type_chains.proofs.Fitting.{misfit_by, misfit_of}
+use Rattle.yv_type_chains.proofs.MisfitSubstatements.{misfit_by, misfit_of}
 use Rattle.yv_type_chains.proofs.draft.Draft.is_misfit.Goals as goal
 
 pub returns-then-inherited : goal.returns-then-inherited

@@ -4,7 +4,7 @@ use Rattle.yv_link_scopes.specs.Rows.{Row, row}
 use Rattle.yv_link_scopes.specs.Views.{rows_in}
 use Rattle.yv_link_definitions.specs.Refers.{is_type}
 use Rattle.yv_type_chains.proofs.Words.{row_read, rows_count}
-use Rattle.yv_type_chains.proofs.Fitting.{passes_here, passes_past}
+use Rattle.yv_type_chains.proofs.MisfitSubstatements.{passes_here, passes_past}
 use Rattle.yv_type_chains.proofs.draft.Draft.is_type_at.Goals as goal
 
 pub returns-in-Some : goal.returns-in-Some

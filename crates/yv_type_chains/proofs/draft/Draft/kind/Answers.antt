@@ -2,7 +2,7 @@ use Rattle.std.proofs.Common.{sym, ◌∙◌}
 use Rattle.yv_link_scopes.specs.Rows.{row}
 use Rattle.yv_link_scopes.specs.Views.{files_in, rows_in}
 use Rattle.yv_type_chains.proofs.Words.{row_read}
-use Rattle.yv_type_chains.proofs.Fitting.{kind_some}
+use Rattle.yv_type_chains.proofs.MisfitSubstatements.{kind_some}
 use Rattle.yv_type_chains.proofs.draft.Draft.kind.Goals as goal
 
 pub returns : goal.returns

@@ -1,7 +1,7 @@
 use Rattle.std.proofs.Common.{◌≡◌, length}
 use Rattle.yv_link_scopes.specs.Views.{rows_in}
 use Rattle.yv_type_chains.specs.InnerMarks.{Meets}
-use Rattle.yv_type_chains.proofs.Marking.{MarkedUpTo}
+use Rattle.yv_type_chains.proofs.BlockMarks.{MarkedUpTo}
 use Rattle.yv_type_chains.proofs.draft.Draft.mark_satisfied.Given as goal
 
 abbrev pub invariant-loop-entry : goal.invariant-loop-entry

@@ -4,7 +4,7 @@ use Rattle.yv_link_scopes.specs.Rows.{Row, row, name_in}
 use Rattle.yv_link_scopes.specs.Views.{rows_in}
 use Rattle.yv_type_chains.specs.Kinds.{needs}
 use Rattle.yv_type_chains.proofs.Words.{row_read, rows_count}
-use Rattle.yv_type_chains.proofs.Fitting.{passes_here, passes_past}
+use Rattle.yv_type_chains.proofs.MisfitSubstatements.{passes_here, passes_past}
 use Rattle.yv_type_chains.proofs.draft.Draft.meets.Goals as goal
 
 pub returns-in-Some : goal.returns-in-Some

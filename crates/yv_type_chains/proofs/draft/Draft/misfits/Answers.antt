@@ -6,7 +6,7 @@ use Rattle.yv_link_scopes.specs.Rows.{Row, row}
 use Rattle.yv_link_scopes.specs.Views.{files_in, lent_in, rows_in}
 use Rattle.yv_type_chains.specs.Refusals.{IsMisfit}
 use Rattle.yv_type_chains.proofs.Words.{row_read, rows_count}
-use Rattle.yv_type_chains.proofs.Marking.{marked_all, marked_more, marked_other}
+use Rattle.yv_type_chains.proofs.BlockMarks.{marked_all, marked_more, marked_other}
 use Rattle.yv_type_chains.proofs.draft.Draft.misfits.Goals as goal
 use Rattle.yv_type_chains.proofs.draft.Draft.misfits.Goals.{then-is_misfit, else-is_misfit}
 

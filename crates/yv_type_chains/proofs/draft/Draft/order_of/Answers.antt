@@ -5,7 +5,7 @@ use Rattle.yv_link_scopes.specs.Views.{files_in, rows_in}
 use Rattle.yv_base_graph.specs.Graph.{IsOrder, IsFirstOnCycle}
 use Rattle.yv_base_graph.specs.Ranks.{IfCycle, IfRanks}
 use Rattle.yv_base_graph.specs.declared.cycles.Ranking.{Ranking}
-use Rattle.yv_type_chains.proofs.Ordering.{no_cycle, order_of}
+use Rattle.yv_type_chains.proofs.TypeOrder.{no_cycle, order_of}
 use Rattle.yv_type_chains.proofs.draft.Draft.order_of.Goals as goal
 
 pub returns-in-Ranks : goal.returns-in-Ranks

@@ -1,13 +1,13 @@
 use Rattle.std.proofs.Common.{List}
-use Rattle.yv_statement.specs.Order.{refusal_at}
-use Rattle.yv_statement.specs.declared.refusal.Code.TheVariants as code
-use Rattle.yv_statement.proofs.Least.{least_lesser}
+use Rattle.yv_text_statement.specs.Order.{refusal_at}
+use Rattle.yv_text_statement.specs.declared.refusal.Code.TheVariants as code
+use Rattle.yv_text_statement.proofs.Least.{least_lesser}
 use Rattle.yv_link_scopes.specs.Files.{Briefs}
 use Rattle.yv_link_scopes.specs.Rows.{Row, row}
 use Rattle.yv_link_scopes.specs.Views.{files_in, rows_in}
 use Rattle.yv_type_chains.specs.Counts.{HasTooMany}
 use Rattle.yv_type_chains.specs.Refusals.{IsBadType}
-use Rattle.yv_type_chains.proofs.Judging.{decided}
+use Rattle.yv_type_chains.proofs.TypeFaults.{decided}
 use Rattle.yv_type_chains.proofs.draft.Draft.row_refusal.Goals as goal
 
 pub returns : goal.returns

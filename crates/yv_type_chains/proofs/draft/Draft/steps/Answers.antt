@@ -3,7 +3,7 @@ use Rattle.std.specs.List.{slice_get}
 use Rattle.yv_link_scopes.specs.Rows.{Row, row}
 use Rattle.yv_link_scopes.specs.Views.{rows_in}
 use Rattle.yv_type_chains.proofs.Words.{longer, row_read, rows_count}
-use Rattle.yv_type_chains.proofs.Stepping.{edges_more, steps_all}
+use Rattle.yv_type_chains.proofs.TypeGraph.{edges_more, steps_all}
 use Rattle.yv_type_chains.proofs.draft.Draft.steps.Goals as goal
 
 pub edges-requires : goal.edges-requires

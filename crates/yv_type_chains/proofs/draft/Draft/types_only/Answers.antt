@@ -4,7 +4,7 @@ use Rattle.std.specs.List.{slice_index}
 use Rattle.yv_link_scopes.specs.Files.{Briefs}
 use Rattle.yv_link_scopes.specs.Rows.{Row}
 use Rattle.yv_link_scopes.specs.Views.{files_in, rows_in}
-use Rattle.yv_type_chains.proofs.Sifting.{sifted_all, sifted_more, sifted_none, sifted_other}
+use Rattle.yv_type_chains.proofs.TypeSubsequence.{sifted_all, sifted_more, sifted_none, sifted_other}
 use Rattle.yv_type_chains.proofs.draft.Draft.types_only.Goals as goal
 use Rattle.yv_type_chains.proofs.draft.Draft.types_only.Goals.{then-is_type_at+in_ok-push, else-is_type_at}
 

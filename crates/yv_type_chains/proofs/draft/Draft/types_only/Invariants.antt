@@ -1,6 +1,6 @@
 use Rattle.yv_link_scopes.specs.Views.{files_in, rows_in}
 use Rattle.yv_type_chains.specs.InnerOrder.{IsOrderOfAll}
-use Rattle.yv_type_chains.proofs.Sifting.{AreSifted}
+use Rattle.yv_type_chains.proofs.TypeSubsequence.{AreSifted}
 use Rattle.yv_type_chains.proofs.draft.Draft.types_only.Given as goal
 
 abbrev pub invariant-loop-number : goal.invariant-loop-number

@@ -3,7 +3,7 @@ use Rattle.std.specs.Str.{bytes_eq}
 use Rattle.yv_link.specs.LinkedFiles.{truth_in}
 use Rattle.yv_type_enums.specs.InnerEntries.{counts, borrow}
 use Rattle.yv_type_enums.specs.Values.{has}
-use Rattle.yv_type_enums.proofs.Adding.{value_more, value_same, lent_at}
+use Rattle.yv_type_enums.proofs.NextValueName.{value_more, value_same, lent_at}
 use Rattle.yv_type_enums.proofs.if_features.IfFeatures.values.Goals as goal
 use Rattle.yv_type_enums.proofs.if_features.IfFeatures.values.Goals.{then-is_value+in_ok-add, else-is_value}
 

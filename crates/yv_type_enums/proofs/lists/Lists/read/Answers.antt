@@ -12,7 +12,7 @@ use Rattle.yv_type_enums.specs.TypeNames.{told_at, told_of}
 use Rattle.yv_type_enums.specs.Lists.{AreLists}
 use Rattle.yv_type_enums.specs.InnerSteps.{AreKnown, IsFollowed, IsStep}
 use Rattle.yv_type_enums.specs.declared.lists.Lists.{Lists}
-use Rattle.yv_type_enums.proofs.Walking.{item_in, least_all, least_next, told_all, told_next}
+use Rattle.yv_type_enums.proofs.TableWalk.{item_in, least_all, least_next, told_all, told_next}
 use Rattle.yv_type_enums.proofs.lists.Lists.read.Goals as goal
 
 pub loop-number-preserved : goal.loop-number-preserved

@@ -2,7 +2,7 @@ use Rattle.std.proofs.Common.{◌≡◌, ◌∙◌, ap, subst, sym, ℕ, ◌==�
 use Rattle.std.specs.Prelude.{IfOk}
 use Rattle.std.proofs.lemmas.Result.{IfOk-weaker}
 use Rattle.yv_link.specs.LinkedFiles.{truth_in}
-use Rattle.yv_statement.specs.Tree.{Tree}
+use Rattle.yv_text_statement.specs.Tree.{Tree}
 use Rattle.yv_base_numbers.specs.Numberings.{keep_numbers, is_wrong_in, IsFirstWrong}
 use Rattle.yv_type_enums.specs.Entries.{entry_of, is_on_among}
 use Rattle.yv_type_enums.specs.InnerEntries.{entries_in, refusal_of_entry, borrow}

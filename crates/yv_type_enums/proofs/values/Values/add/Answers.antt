@@ -2,7 +2,7 @@ use Rattle.std.proofs.Common.{◌∙◌, ap, cond, true}
 use Rattle.std.specs.Str.{bytes_eq}
 use Rattle.std.proofs.lemmas.Map.Text.{is_eq-slice_cmp}
 use Rattle.yv_type_enums.specs.Values.{has}
-use Rattle.yv_type_enums.proofs.Adding.{joined}
+use Rattle.yv_type_enums.proofs.NextValueName.{joined}
 use Rattle.yv_type_enums.proofs.values.Values.add.Goals as goal
 
 pub returns : goal.returns

@@ -3,7 +3,7 @@ use Rattle.std.proofs.lemmas.Result.{IfOk-weaker}
 use Rattle.yv_values.specs.NameOrder.{is_named}
 use Rattle.yv_values.specs.Values.{texts}
 use Rattle.yv_type_enums.specs.Values.{has}
-use Rattle.yv_type_enums.proofs.Adding.{named_keys}
+use Rattle.yv_type_enums.proofs.NextValueName.{named_keys}
 use Rattle.yv_type_enums.proofs.values.Values.names.Goals as goal
 
 pub returns : goal.returns

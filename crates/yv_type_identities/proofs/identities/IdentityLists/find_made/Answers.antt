@@ -1,4 +1,4 @@
-use Rattle.yv_type_identities.proofs.Kept.{again_found}
+use Rattle.yv_type_identities.proofs.KeyLists.{again_found}
 use Rattle.yv_type_identities.proofs.identities.IdentityLists.find_made.Goals as goal
 
 pub returns-in_ok-copy-clause-right : goal.returns-in_ok-copy-clause-right

@@ -1,4 +1,4 @@
-use Rattle.yv_type_identities.proofs.Kept.{one_found}
+use Rattle.yv_type_identities.proofs.KeyLists.{one_found}
 use Rattle.yv_type_identities.proofs.identities.IdentityLists.keep.Goals as goal
 
 pub returns-in_err-insert : goal.returns-in_err-insert

@@ -8,8 +8,8 @@ use Rattle.yv_values.specs.Identities.{Id}
 use Rattle.yv_type_identities.specs.InnerBases.{bases_at}
 use Rattle.yv_type_identities.specs.InnerSets.{is_key}
 use Rattle.yv_type_identities.specs.Identities.{IsFound}
-use Rattle.yv_type_identities.proofs.Keyed.{type_values, through}
-use Rattle.yv_type_identities.proofs.Kept.{new_found}
+use Rattle.yv_type_identities.proofs.ValuesByKey.{type_values, through}
+use Rattle.yv_type_identities.proofs.KeyLists.{new_found}
 use Rattle.yv_type_identities.proofs.identities.IdentityLists.of.Goals as goal
 
 pub returns-in-Some-clause-same : goal.returns-in-Some-clause-same

@@ -1,6 +1,6 @@
 use Rattle.std.proofs.Common.{◌∙◌, Some, ap, cond}
 use Rattle.yv_type_identities.specs.InnerRuns.{number_at}
-use Rattle.yv_type_identities.proofs.Placing.{test_is}
+use Rattle.yv_type_identities.proofs.PlaceSets.{test_is}
 use Rattle.yv_type_identities.proofs.identity_places.IdentityPlaces.keep.Goals as goal
 
 pub returns-clause-keeps : goal.returns-clause-keeps

@@ -5,7 +5,7 @@ use Rattle.yv_link_scopes.specs.Rows.{row}
 use Rattle.yv_link_identities.specs.References.{is_at}
 use Rattle.yv_type_identities.specs.InnerRuns.{number_at}
 use Rattle.yv_type_identities.proofs.Numbering.{places_all, places_more, places_none, places_other}
-use Rattle.yv_type_identities.proofs.Reading.{row_read, rows_count}
+use Rattle.yv_type_identities.proofs.RowLoop.{row_read, rows_count}
 use Rattle.yv_type_identities.proofs.identity_places.IdentityPlaces.read.Goals as goal
 use Rattle.yv_type_identities.proofs.identity_places.IdentityPlaces.read.Goals.{else-is_identity-via-then-is_identity+in_ok-keep+else-not-branch, else-is_identity-via-else-is_identity}
 

@@ -4,7 +4,7 @@ use Rattle.std.specs.declared.alloc.Global.{Global}
 use Rattle.std.proofs.lemmas.Grind.{common_steps}
 use Rattle.std.proofs.lemmas.Result.{IfOk-weaker}
 use Rattle.yv_type_identities.specs.InnerPlaces.{is_kept}
-use Rattle.yv_type_identities.proofs.Placed.{chosen_in, chosen_all}
+use Rattle.yv_type_identities.proofs.NumbersByPlace.{chosen_in, chosen_all}
 use Rattle.yv_type_identities.proofs.lists.Candidates.choose.Goals as goal
 
 pub returns-in_ok-keys-in-Some : goal.returns-in_ok-keys-in-Some

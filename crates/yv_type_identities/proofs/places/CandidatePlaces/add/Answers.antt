@@ -4,7 +4,7 @@ use Rattle.std.specs.BTreeMap.Entry.{map_with_value}
 use Rattle.std.specs.Option.{unwrap_or}
 use Rattle.std.specs.declared.alloc.Global.{Global}
 use Rattle.yv_type_identities.specs.InnerPlaces.{numbers_at}
-use Rattle.yv_type_identities.proofs.Placed.{order, kept_more, first_items}
+use Rattle.yv_type_identities.proofs.NumbersByPlace.{order, kept_more, first_items}
 use Rattle.yv_type_identities.proofs.places.CandidatePlaces.add.Goals as goal
 
 pub returns : goal.returns

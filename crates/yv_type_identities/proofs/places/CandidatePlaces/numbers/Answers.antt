@@ -1,4 +1,4 @@
-use Rattle.yv_type_identities.proofs.Placed.{numbers_more}
+use Rattle.yv_type_identities.proofs.NumbersByPlace.{numbers_more}
 use Rattle.yv_type_identities.proofs.places.CandidatePlaces.numbers.Goals as goal
 
 pub loop-key-preserved : goal.loop-key-preserved

@@ -1,6 +1,6 @@
 use Rattle.std.proofs.Common.{length, refl, arith}
 use Rattle.std.proofs.lemmas.Option.{slice_get_read}
-use Rattle.yv_type_identities.proofs.Placed.{placed_none, placed_more, placed_all}
+use Rattle.yv_type_identities.proofs.NumbersByPlace.{placed_none, placed_more, placed_all}
 use Rattle.yv_type_identities.proofs.places.CandidatePlaces.read.Goals as goal
 
 pub loop-number-init : goal.loop-number-init

@@ -1,4 +1,4 @@
-use Rattle.yv_type_identities.proofs.Placed.{PlacedFirst}
+use Rattle.yv_type_identities.proofs.NumbersByPlace.{PlacedFirst}
 use Rattle.yv_type_identities.proofs.places.CandidatePlaces.read.Given as goal
 
 abbrev pub invariant-loop-number : goal.invariant-loop-number

@@ -1,4 +1,4 @@
-use Rattle.yv_type_identities.proofs.Placing.{added}
+use Rattle.yv_type_identities.proofs.PlaceSets.{added}
 use Rattle.yv_type_identities.proofs.sets.References.add.Goals as goal
 
 pub returns : goal.returns

@@ -3,7 +3,7 @@ use Rattle.std.specs.List.{list_any}
 use Rattle.std.specs.declared.alloc.Global.{Global}
 use Rattle.std.proofs.lemmas.Result.{IfOk-weaker}
 use Rattle.yv_type_identities.specs.InnerSets.{is_key}
-use Rattle.yv_type_identities.proofs.Placing.{keys_in}
+use Rattle.yv_type_identities.proofs.PlaceSets.{keys_in}
 use Rattle.yv_type_identities.proofs.sets.References.key.Goals as goal
 
 pub returns : goal.returns

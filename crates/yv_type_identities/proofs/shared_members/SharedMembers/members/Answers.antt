@@ -1,4 +1,4 @@
-use Rattle.yv_type_identities.proofs.Sharing.{part_found}
+use Rattle.yv_type_identities.proofs.SharedMemberList.{part_found}
 use Rattle.yv_type_identities.proofs.shared_members.SharedMembers.members.Goals as goal
 
 pub returns-in_ok-between-in-Some-clause-right : goal.returns-in_ok-between-in-Some-clause-right

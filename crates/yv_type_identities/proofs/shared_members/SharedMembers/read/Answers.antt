@@ -4,7 +4,7 @@ use Rattle.std.specs.Prelude.{IfSome}
 use Rattle.yv_base_graph.specs.Graph.{Graph, AreRanks, ArePlaces}
 use Rattle.yv_base_graph.specs.Ranks.{IfRanks}
 use Rattle.yv_base_graph.specs.declared.cycles.Ranking.{Ranking}
-use Rattle.yv_statement.specs.Selection.{ModuleChoice}
+use Rattle.yv_text_statement.specs.Selection.{ModuleChoice}
 use Rattle.yv_link_scopes.specs.Files.{Files, brief_of}
 use Rattle.yv_link_scopes.specs.RowList.{rows_of}
 use Rattle.yv_link.specs.LinkedFiles.{AreLinked}
@@ -12,7 +12,7 @@ use Rattle.yv_values.specs.Identities.{NumberedId, numbered_of}
 use Rattle.yv_type_identities.specs.InnerRuns.{AreIdentityPlaces, AreRuns, numbered_by}
 use Rattle.yv_type_identities.specs.declared.identity_places.IdentityPlaces.{IdentityPlaces}
 use Rattle.yv_type_identities.specs.declared.runs.Run.{Run}
-use Rattle.yv_type_identities.proofs.Sharing.{run_below}
+use Rattle.yv_type_identities.proofs.SharedMemberList.{run_below}
 use Rattle.yv_type_identities.proofs.shared_members.SharedMembers.read.Goals as goal
 
 pub returns : goal.returns

@@ -12,8 +12,8 @@ use Rattle.yv_type_restrictions.specs.PlainTypes.{AreFaceted}
 use Rattle.yv_type_restrictions.specs.InnerSteps.{AreKnown, IsFollowed, IsStep}
 use Rattle.yv_type_restrictions.specs.InnerTables.{plain_at}
 use Rattle.yv_type_restrictions.specs.declared.plain_types.PlainTypes.{PlainTypes}
-use Rattle.yv_type_restrictions.proofs.Stepping.{HaveRows}
-use Rattle.yv_type_restrictions.proofs.Walking.{item_in, least_all, least_next, told_all, told_next}
+use Rattle.yv_type_restrictions.proofs.TypeStatementStep.{HaveRows}
+use Rattle.yv_type_restrictions.proofs.TableWalk.{item_in, least_all, least_next, told_all, told_next}
 use Rattle.yv_type_restrictions.proofs.plain_types.PlainTypes.read.Goals as goal
 
 pub loop-number-preserved : goal.loop-number-preserved

@@ -1,5 +1,5 @@
 use Rattle.std.proofs.Common.{take}
-use Rattle.yv_statement.specs.Order.{IsLeast}
+use Rattle.yv_text_statement.specs.Order.{IsLeast}
 use Rattle.yv_link_scopes.specs.Views.{lent_in}
 use Rattle.yv_type_chains.specs.Bases.{AreBases}
 use Rattle.yv_type_restrictions.specs.InnerSteps.{AreTold, BadAmong}

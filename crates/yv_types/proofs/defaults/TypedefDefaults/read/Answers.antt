@@ -8,13 +8,13 @@ use Rattle.yv_link_definitions.specs.Meanings.{AreNames}
 use Rattle.yv_type_chains.specs.InnerTables.{at}
 use Rattle.yv_type_chains.specs.Bases.{AreBases}
 use Rattle.yv_type_chains.specs.Types.{IsOrderOfTypes, IsTypeAt}
-use Rattle.yv_statement.specs.TextInFile.{TextInFile}
-use Rattle.yv_statement.specs.declared.written_text.WrittenText.{WrittenText}
+use Rattle.yv_text_statement.specs.TextInFile.{TextInFile}
+use Rattle.yv_text_statement.specs.declared.written_text.WrittenText.{WrittenText}
 use Rattle.yv_types.specs.Defaults.{HasDefault}
 use Rattle.yv_types.specs.InnerDefaultTables.{AreFound, IsFollowed, text_from}
 use Rattle.yv_types.specs.TypeDefaults.{AreDefaults}
 use Rattle.yv_types.specs.declared.defaults.TypedefDefaults.{TypedefDefaults}
-use Rattle.yv_types.proofs.Keeping.{kept_text}
+use Rattle.yv_types.proofs.KeptDefaults.{kept_text}
 use Rattle.yv_types.proofs.DefaultFinding.{blank_more, found_all, found_for, found_more, item_in}
 use Rattle.yv_types.proofs.defaults.TypedefDefaults.read.Goals as goal
 

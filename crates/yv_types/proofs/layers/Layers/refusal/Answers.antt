@@ -1,5 +1,5 @@
 use Rattle.std.proofs.Common.{◌⊎◌}
-use Rattle.yv_statement.proofs.Least.{least_lesser}
+use Rattle.yv_text_statement.proofs.Least.{least_lesser}
 use Rattle.yv_type_chains.specs.Refusals.{BadKinds}
 use Rattle.yv_type_restrictions.specs.Refusals.{BadFaceted}
 use Rattle.yv_type_enums.specs.Refusals.{BadLists}

@@ -5,8 +5,8 @@ use Rattle.yv_type_chains.specs.Types.{Follows}
 use Rattle.yv_type_enums.specs.Types.{Truth}
 use Rattle.yv_link.specs.LinkedFiles.{truth_in}
 use Rattle.yv_values.specs.Types.{plain_of}
-use Rattle.yv_types.proofs.Stepping.{if_ok}
-use Rattle.yv_types.proofs.Unrestricted.{followed_space, some_of}
+use Rattle.yv_types.proofs.TypeStatementStep.{if_ok}
+use Rattle.yv_types.proofs.UnrestrictedTypes.{followed_space, some_of}
 use Rattle.yv_types.proofs.layers.Layers.shared_types.Goals as goal
 
 pub returns-in-Some-clause-space : goal.returns-in-Some-clause-space

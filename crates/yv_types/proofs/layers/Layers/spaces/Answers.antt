@@ -3,7 +3,7 @@ use Rattle.std.specs.List.{Contains, slice_index, slice_index_or}
 use Rattle.std.specs.Option.{option_map}
 use Rattle.std.proofs.lemmas.Bool.{cases_eq}
 use Rattle.std.proofs.lemmas.List.{take_all}
-use Rattle.yv_statement.specs.Selection.{ModuleChoice}
+use Rattle.yv_text_statement.specs.Selection.{ModuleChoice}
 use Rattle.yv_link_scopes.specs.Files.{Files, brief_of}
 use Rattle.yv_link_scopes.specs.RowList.{rows_of}
 use Rattle.yv_type_chains.specs.Types.{IsOrderOfTypes, RestsOn, types_in}
@@ -13,7 +13,7 @@ use Rattle.yv_types.specs.Spaces.{Space}
 use Rattle.yv_types.specs.Types.{AreLayers}
 use Rattle.yv_types.specs.InnerTables.{AreKnown, IsNewOrThere, IsSpace, plains, plains_at}
 use Rattle.yv_types.proofs.Numbering.{below_more, numbered_more}
-use Rattle.yv_types.proofs.Walking.{walk_more}
+use Rattle.yv_types.proofs.TableWalk.{walk_more}
 use Rattle.yv_types.proofs.layers.Layers.spaces.Goals as goal
 
 pub loop-number-preserved : goal.loop-number-preserved

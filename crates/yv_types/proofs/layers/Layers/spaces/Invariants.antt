@@ -1,6 +1,6 @@
 use Rattle.std.proofs.Common.{◌≡◌, ℕ, List, Some, take}
 use Rattle.std.specs.List.{Contains}
-use Rattle.yv_statement.specs.Selection.{ModuleChoice}
+use Rattle.yv_text_statement.specs.Selection.{ModuleChoice}
 use Rattle.yv_link_scopes.specs.Files.{Files}
 use Rattle.yv_link.specs.LinkedFiles.{AreLinked, truth_in}
 use Rattle.yv_type_identities.specs.Identities.{AreIdentities}

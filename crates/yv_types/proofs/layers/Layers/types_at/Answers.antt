@@ -13,7 +13,7 @@ use Rattle.yv_link.specs.LinkedFiles.{truth_in}
 use Rattle.yv_values.specs.Types.{plain_of}
 use Rattle.yv_types.specs.Spaces.{plain_type, names_type, of_kind}
 use Rattle.yv_types.specs.InnerTables.{FollowsNone, IsBare, IsListed, IsSpace, entry_of, plains}
-use Rattle.yv_types.proofs.Stepping.{bare_by, has_followed, has_out, has_some, if_ok, no_number, row_past, row_read}
+use Rattle.yv_types.proofs.TypeStatementStep.{bare_by, has_followed, has_out, has_some, if_ok, no_number, row_past, row_read}
 use Rattle.yv_types.proofs.layers.Layers.types_at.Goals as goal
 
 pub returns-in-Some-clause-space : goal.returns-in-Some-clause-space

@@ -3,7 +3,7 @@ use Rattle.std.specs.Option.{option_map, option_copied}
 use Rattle.std.proofs.lemmas.Option.{same_Some}
 use Rattle.yv_link_scopes.specs.RowList.{rows_of}
 use Rattle.yv_types.specs.InnerTables.{plains, plains_at}
-use Rattle.yv_types.proofs.Placing.{type_there}
+use Rattle.yv_types.proofs.TypeStatementPlace.{type_there}
 use Rattle.yv_types.proofs.type_table.Types.plain.Goals as goal
 
 pub returns-in_err-get-clause-none : goal.returns-in_err-get-clause-none

@@ -1,6 +1,6 @@
 use Rattle.std.proofs.Common.{rules, ◌≡◌, Some, sym, ◌∙◌}
 use Rattle.yv_types.specs.Types.{sharing_at}
-use Rattle.yv_types.proofs.Shared.{same_at}
+use Rattle.yv_types.proofs.SharedTypeNumbers.{same_at}
 use Rattle.yv_types.proofs.type_table.Types.sharing_at.Goals as goal
 
 pub returns-clause-same : goal.returns-clause-same

@@ -1,5 +1,5 @@
 use Rattle.std.proofs.Common.{◌≡◌, ℕ, Some, refl}
-use Rattle.yv_validate.proofs.Noted.{noted_more}
+use Rattle.yv_validate.proofs.NoteGrowth.{noted_more}
 use Rattle.yv_validate.proofs.notes.Notes.keep.Goals as goal
 
 pub returns : goal.returns

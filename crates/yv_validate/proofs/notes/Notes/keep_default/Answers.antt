@@ -3,7 +3,7 @@ use Rattle.yv_values.specs.Values.{Val}
 use Rattle.yv_nodes.specs.Defaults.{defaults_of}
 use Rattle.yv_nodes.specs.Rows.{row_at}
 use Rattle.yv_validate.specs.InnerNotes.{default_value}
-use Rattle.yv_validate.proofs.Noted.{last_wins, noted_more}
+use Rattle.yv_validate.proofs.NoteGrowth.{last_wins, noted_more}
 use Rattle.yv_validate.proofs.notes.Notes.keep_default.Goals as goal
 
 pub returns : goal.returns

@@ -2,8 +2,8 @@ use Rattle.std.proofs.Common.{sym, ◌∙◌}
 use Rattle.yv_nodes.specs.declared.node.NodeId.{NodeId}
 use Rattle.yv_validate.specs.InnerNotes.{noted_at}
 use Rattle.yv_validate.specs.Values.{all_values}
-use Rattle.yv_validate.proofs.Noted.{parts_step, parts_stop}
-use Rattle.yv_quiet_nodes.proofs.Leafs.{named_leafs}
+use Rattle.yv_validate.proofs.NoteGrowth.{parts_step, parts_stop}
+use Rattle.yv_data_quiet.proofs.Leafs.{named_leafs}
 use Rattle.yv_validate.proofs.notes.Notes.values.Goals as goal
 
 pub returns-in-None : goal.returns-in-None

@@ -1,8 +1,8 @@
 use Rattle.std.proofs.Common.{◌≡◌, drop}
 use Rattle.yv_validate.specs.InnerNotes.{noted_at}
 use Rattle.yv_validate.specs.Values.{all_values}
-use Rattle.yv_validate.proofs.Noted.{behind}
-use Rattle.yv_quiet_nodes.proofs.Leafs.{named_leafs}
+use Rattle.yv_validate.proofs.NoteGrowth.{behind}
+use Rattle.yv_data_quiet.proofs.Leafs.{named_leafs}
 use Rattle.yv_validate.proofs.notes.Notes.values.Given as goal
 
 -- the values so far, and those of the leafs that are left

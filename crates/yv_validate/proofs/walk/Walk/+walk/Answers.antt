@@ -5,8 +5,8 @@ use Rattle.serde_json.specs.Data.{Data, Members, array, object}
 use Rattle.serde_json.specs.declared.value.Value.{Value}
 use Rattle.serde_json.proofs.Views.{view-Array, view-Object}
 use Rattle.serde_json.specs.View.{view, items_view, members_view}
-use Rattle.yv_node_definition.specs.Kinds.{is_data, is_operation_or_notification}
-use Rattle.yv_node_definition.specs.declared.kind.NodeKind.TheVariants as kind
+use Rattle.yv_node_content.specs.Kinds.{is_data, is_operation_or_notification}
+use Rattle.yv_node_content.specs.declared.kind.NodeKind.TheVariants as kind
 use Rattle.yv_values.specs.Values.{Val}
 use Rattle.yv_nodes.specs.declared.node.NodeId.{NodeId}
 use Rattle.yv_nodes.specs.Rows.{below, rank, row_at, tree_of}
@@ -15,34 +15,34 @@ use Rattle.yv_walk.specs.Context.{members_of}
 use Rattle.yv_walk.specs.Existence.{any, is_there, passes, existence_of, tree_standing}
 use Rattle.yv_walk.specs.declared.existence.Existence.{Existence}
 use Rattle.yv_node_keys.specs.Numbers.{default_case_at}
-use Rattle.yv_leafref_values.specs.Findings.{open_object}
-use Rattle.yv_leafref_values.specs.InUse.{case_scope, in_use, is_number, scope_in}
-use Rattle.yv_leafref_values.specs.Meetings.{at, count_entered, entry_met, found_of, in_container, in_no_object, Meeting, at_node, object_met, Spot, top}
-use Rattle.yv_leafref_values.specs.Place.{Place, step_name}
-use Rattle.yv_leafref_values.specs.declared.scope.RuleScope.{RuleScope}
-use Rattle.yv_leafref_values.specs.declared.scope.RuleScope.TheVariants.{Always, InCase, InDefault}
-use Rattle.yv_faults.specs.declared.fault.FaultKind.TheVariants.{State}
+use Rattle.yv_data_leafrefs.specs.Findings.{open_object}
+use Rattle.yv_data_leafrefs.specs.InUse.{case_scope, in_use, is_number, scope_in}
+use Rattle.yv_data_leafrefs.specs.Meetings.{at, count_entered, entry_met, found_of, in_container, in_no_object, Meeting, at_node, object_met, Spot, top}
+use Rattle.yv_data_leafrefs.specs.Place.{Place, step_name}
+use Rattle.yv_data_leafrefs.specs.declared.scope.RuleScope.{RuleScope}
+use Rattle.yv_data_leafrefs.specs.declared.scope.RuleScope.TheVariants.{Always, InCase, InDefault}
+use Rattle.yv_data_faults.specs.declared.fault.FaultKind.TheVariants.{State}
 use Rattle.yv_validate.specs.Faults.{array_faults, count_faults, end_faults, flaw_if, leafs_of, state_faults, unique_faults}
 use Rattle.yv_validate.specs.InnerMemory.{Remembers, RemembersEach}
-use Rattle.yv_quiet_nodes.specs.NamedLeafs.{is_named, keys_at, uniques_at}
+use Rattle.yv_data_quiet.specs.NamedLeafs.{is_named, keys_at, uniques_at}
 use Rattle.yv_validate.specs.InnerNotes.{GainsBy, list_tuple, noted_at, tuple_in}
-use Rattle.yv_quiet_nodes.specs.Quiet.{IsEmptied}
-use Rattle.yv_faults.specs.Trails.{places}
+use Rattle.yv_data_quiet.specs.Quiet.{IsEmptied}
+use Rattle.yv_data_faults.specs.Trails.{places}
 use Rattle.yv_validate.specs.InnerWalk.{cases_met, children_met, Closes, container_at, data_met, entries_at, Grows, GrowsWith, inside_at, leaf_at, list_at, next_of, node_at, object_at, one_met, ones_met, plain_at, scope_at, spot_at, ProgressView, progress_view, with_node}
 use Rattle.yv_validate.specs.Repeats.{repeat_of}
 use Rattle.yv_validate.specs.Values.{leaf_in}
 use Rattle.yv_validate.specs.Work.{tuple_work, uniques_work}
 use Rattle.yv_validate.proofs.Beneath.{AreKids, ones_drop, ones_start, other_kind}
-use Rattle.yv_quiet_nodes.proofs.Children.{rank_is, split_at}
-use Rattle.yv_validate.proofs.Closed.{arm_closes, at_case, at_choice, at_data, at_operation, at_other, choice_closes, data_absent, data_asked, data_left, data_nothing, no_default, other_closes, state_closes}
-use Rattle.yv_validate.proofs.Entered.{container_none, container_open, container_some, object_grows}
-use Rattle.yv_validate.proofs.Grown.{grows_alone, grows_as, grows_nothing, grows_only, grows_with, in_use_other, in_use_unasked, next_behind, not_fewer, turn, visited}
+use Rattle.yv_data_quiet.proofs.Children.{rank_is, split_at}
+use Rattle.yv_validate.proofs.NodeKinds.{arm_closes, at_case, at_choice, at_data, at_operation, at_other, choice_closes, data_absent, data_asked, data_left, data_nothing, no_default, other_closes, state_closes}
+use Rattle.yv_validate.proofs.ObjectEntry.{container_none, container_open, container_some, object_grows}
+use Rattle.yv_validate.proofs.WalkGrowth.{grows_alone, grows_as, grows_nothing, grows_only, grows_with, in_use_other, in_use_unasked, next_behind, not_fewer, turn, visited}
 use Rattle.yv_validate.proofs.Items.{end_told, ends, entries_split, entry_grows, many_before, one_more}
 use Rattle.yv_validate.proofs.Meeting.{choice_passes, meets_child, meets_object, scope_is}
-use Rattle.yv_quiet_nodes.proofs.Asked.{by_key, by_unique}
-use Rattle.yv_validate.proofs.Noted.{noted_fresh, same_tuple}
+use Rattle.yv_data_quiet.proofs.ListLeafs.{by_key, by_unique}
+use Rattle.yv_validate.proofs.NoteGrowth.{noted_fresh, same_tuple}
 use Rattle.yv_validate.proofs.Own.{gains_array, gains_behind, gains_met, gains_none, notes_done, notes_start, notes_turn}
-use Rattle.yv_validate.proofs.Passing.{past_notes, past_turn}
+use Rattle.yv_validate.proofs.PassedNodes.{past_notes, past_turn}
 use Rattle.yv_validate.proofs.Silent.{emptied_says, one_says, quiet_gains, quiet_grows}
 use Rattle.yv_validate.proofs.Steps.{steps_both}
 use Rattle.yv_validate.proofs.walk.Walk.+walk.Goals as goal

@@ -2,13 +2,13 @@ use Rattle.std.proofs.Common.{◌<◌, ℕ, ◌+◌, ◌*◌, ◌-◌, List, [],
 use Rattle.serde_json.specs.View.{view, items_view}
 use Rattle.yv_nodes.specs.Rows.{below, rank, row_at}
 use Rattle.yv_walk.specs.Context.{members_of}
-use Rattle.yv_leafref_values.specs.InUse.{case_scope}
-use Rattle.yv_leafref_values.specs.Meetings.{Spot}
+use Rattle.yv_data_leafrefs.specs.InUse.{case_scope}
+use Rattle.yv_data_leafrefs.specs.Meetings.{Spot}
 use Rattle.yv_validate.specs.InnerMemory.{Remembers, RemembersEach}
-use Rattle.yv_quiet_nodes.specs.NamedLeafs.{uniques_at}
+use Rattle.yv_data_quiet.specs.NamedLeafs.{uniques_at}
 use Rattle.yv_validate.specs.InnerNotes.{list_tuple}
 use Rattle.yv_validate.specs.InnerWalk.{cases_met, children_met, entries_at, Grows, next_of, ones_met, spot_at, ProgressView, progress_view}
-use Rattle.yv_quiet_nodes.specs.NamedLeafs.{key_leafs}
+use Rattle.yv_data_quiet.specs.NamedLeafs.{key_leafs}
 use Rattle.yv_validate.proofs.Own.{NotesLeft}
 use Rattle.yv_validate.proofs.walk.Walk.+walk.Given as goal
 

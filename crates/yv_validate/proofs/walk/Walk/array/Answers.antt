@@ -4,10 +4,10 @@ use Rattle.serde_json.specs.Data.{array, Data}
 use Rattle.serde_json.proofs.Views.{view-Array}
 use Rattle.serde_json.specs.View.{items_view, view}
 use Rattle.serde_json.specs.declared.value.Value.{Value}
-use Rattle.yv_leafref_values.specs.Meetings.{Spot}
+use Rattle.yv_data_leafrefs.specs.Meetings.{Spot}
 use Rattle.yv_validate.specs.Faults.{array_faults, count_faults}
 use Rattle.yv_validate.specs.InnerWalk.{GrowsWith, leaf_list_at, next_of, plain_at, spot_at, ProgressView, progress_view}
-use Rattle.yv_validate.proofs.Grown.{grows_only, grows_with}
+use Rattle.yv_validate.proofs.WalkGrowth.{grows_only, grows_with}
 use Rattle.yv_validate.proofs.walk.Walk.array.Goals as goal
 
 pub returns-in-None : goal.returns-in-None

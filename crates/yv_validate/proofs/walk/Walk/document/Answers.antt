@@ -3,14 +3,14 @@ use Rattle.std.specs.List.{flat_map}
 use Rattle.serde_json.specs.Data.{object}
 use Rattle.serde_json.specs.View.{members_view}
 use Rattle.yv_nodes.specs.Link.{link_in}
-use Rattle.yv_leafref_values.specs.Meetings.{all_met}
-use Rattle.yv_leafref_values.specs.Place.{Place}
-use Rattle.yv_leafref_values.specs.References.{lookups_at}
+use Rattle.yv_data_leafrefs.specs.Meetings.{all_met}
+use Rattle.yv_data_leafrefs.specs.Place.{Place}
+use Rattle.yv_data_leafrefs.specs.References.{lookups_at}
 use Rattle.yv_validate.specs.Faults.{faults_at, reference_faults}
-use Rattle.yv_faults.specs.Flaw.{Flaw}
+use Rattle.yv_data_faults.specs.Flaw.{Flaw}
 use Rattle.yv_validate.specs.InnerWalk.{progress_view}
 use Rattle.yv_validate.specs.Work.{work_at}
-use Rattle.yv_validate.proofs.Grown.{all_grown}
+use Rattle.yv_validate.proofs.WalkGrowth.{all_grown}
 use Rattle.yv_validate.proofs.Steps.{sum_of_both}
 use Rattle.yv_validate.proofs.walk.Walk.document.Goals as goal
 

@@ -5,14 +5,14 @@ use Rattle.yv_values.specs.Values.{Val}
 use Rattle.yv_nodes.specs.declared.node.NodeId.{NodeId}
 use Rattle.yv_validate.specs.Faults.{unique_faults, unique_if}
 use Rattle.yv_validate.specs.InnerMemory.{Remembers}
-use Rattle.yv_quiet_nodes.specs.NamedLeafs.{uniques_at}
+use Rattle.yv_data_quiet.specs.NamedLeafs.{uniques_at}
 use Rattle.yv_validate.specs.InnerNotes.{HasTuple, list_tuple, tuple_in}
-use Rattle.yv_faults.specs.Trails.{places}
+use Rattle.yv_data_faults.specs.Trails.{places}
 use Rattle.yv_validate.specs.Repeats.{repeat_of}
 use Rattle.yv_validate.specs.Work.{tuple_work, uniques_work}
 use Rattle.yv_validate.proofs.Each.{all_done, any_default, at_turn, none_done, some_step, unique_drop, work_drop}
-use Rattle.yv_quiet_nodes.proofs.Leafs.{get_map}
-use Rattle.yv_quiet_nodes.proofs.Leafs.{named_leafs}
+use Rattle.yv_data_quiet.proofs.Leafs.{get_map}
+use Rattle.yv_data_quiet.proofs.Leafs.{named_leafs}
 use Rattle.yv_validate.proofs.Steps.{joins, steps_on}
 use Rattle.yv_validate.proofs.walk.Walk.end_uniques.Goals as goal
 

@@ -3,9 +3,9 @@ use Rattle.serde_json.specs.Data.{Data}
 use Rattle.serde_json.specs.View.{view}
 use Rattle.yv_values.specs.Count.{count_up}
 use Rattle.yv_validate.specs.Faults.{unique_faults}
-use Rattle.yv_quiet_nodes.specs.NamedLeafs.{uniques_at}
+use Rattle.yv_data_quiet.specs.NamedLeafs.{uniques_at}
 use Rattle.yv_validate.specs.InnerNotes.{HasTuples, list_tuple}
-use Rattle.yv_faults.specs.Trails.{places}
+use Rattle.yv_data_faults.specs.Trails.{places}
 use Rattle.yv_validate.specs.Work.{uniques_work}
 use Rattle.yv_validate.proofs.Each.{RemembersSome}
 use Rattle.yv_validate.proofs.walk.Walk.end_uniques.Given as goal

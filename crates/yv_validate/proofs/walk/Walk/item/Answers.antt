@@ -4,18 +4,18 @@ use Rattle.std.proofs.lemmas.Result.{on_ok_weaker}
 use Rattle.serde_json.specs.View.{view}
 use Rattle.yv_values.specs.Values.{Val}
 use Rattle.yv_nodes.specs.Rows.{row_at}
-use Rattle.yv_leafref_values.specs.Findings.{Finds}
-use Rattle.yv_leafref_values.specs.InUse.{value_of}
-use Rattle.yv_leafref_values.specs.Place.{Place, step_name}
-use Rattle.yv_faults.specs.declared.fault.FaultKind.TheVariants.{Duplicate, Value as Unread}
+use Rattle.yv_data_leafrefs.specs.Findings.{Finds}
+use Rattle.yv_data_leafrefs.specs.InUse.{value_of}
+use Rattle.yv_data_leafrefs.specs.Place.{Place, step_name}
+use Rattle.yv_data_faults.specs.declared.fault.FaultKind.TheVariants.{Duplicate, Value as Unread}
 use Rattle.yv_validate.specs.Faults.{flaw, item_tuple, repeat_faults}
-use Rattle.yv_faults.specs.Flaw.{Flaw}
-use Rattle.yv_faults.specs.Trails.{places}
+use Rattle.yv_data_faults.specs.Flaw.{Flaw}
+use Rattle.yv_data_faults.specs.Trails.{places}
 use Rattle.yv_validate.specs.InnerWalk.{spot_at, ProgressView, progress_view, value_found, written_at}
 use Rattle.yv_validate.specs.Repeats.{repeat_of}
 use Rattle.yv_validate.specs.Work.{tuple_work, value_work}
 use Rattle.yv_validate.proofs.Items.{read_told, unread_told, writes}
-use Rattle.yv_validate.proofs.Reading.{alone_is}
+use Rattle.yv_validate.proofs.LeafValues.{alone_is}
 use Rattle.yv_validate.proofs.Steps.{steps_both}
 use Rattle.yv_validate.proofs.walk.Walk.item.Goals as goal
 

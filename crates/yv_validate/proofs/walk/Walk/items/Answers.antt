@@ -4,11 +4,11 @@ use Rattle.serde_json.specs.Data.{Data}
 use Rattle.serde_json.specs.View.{view, items_view}
 use Rattle.serde_json.specs.declared.value.Value.{Value}
 use Rattle.yv_nodes.specs.Rows.{row_at}
-use Rattle.yv_leafref_values.specs.Meetings.{Meeting, Spot, at_value}
+use Rattle.yv_data_leafrefs.specs.Meetings.{Meeting, Spot, at_value}
 use Rattle.yv_validate.specs.Faults.{item_tuple}
 use Rattle.yv_validate.specs.InnerMemory.{Remembers}
 use Rattle.yv_validate.specs.InnerWalk.{Grows, items_at, next_of, spot_at, ProgressView, progress_view, written_at}
-use Rattle.yv_validate.proofs.Grown.{grows_nothing, turn}
+use Rattle.yv_validate.proofs.WalkGrowth.{grows_nothing, turn}
 use Rattle.yv_validate.proofs.Items.{items_split, one_more}
 use Rattle.yv_validate.proofs.walk.Walk.items.Goals as goal
 

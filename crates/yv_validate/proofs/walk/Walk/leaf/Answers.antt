@@ -3,11 +3,11 @@ use Rattle.std.proofs.lemmas.Result.{on_ok_weaker}
 use Rattle.serde_json.specs.Data.{Data}
 use Rattle.serde_json.specs.View.{view}
 use Rattle.serde_json.specs.declared.value.Value.{Value}
-use Rattle.yv_leafref_values.specs.Meetings.{at_node, Spot}
+use Rattle.yv_data_leafrefs.specs.Meetings.{at_node, Spot}
 use Rattle.yv_validate.specs.InnerNotes.{own_value}
 use Rattle.yv_validate.specs.InnerWalk.{Closes, leaf_at, next_of, node_at, spot_at, ProgressView, progress_view}
-use Rattle.yv_validate.proofs.Closed.{absent_closes, written_closes}
-use Rattle.yv_validate.proofs.Noted.{gains_as}
+use Rattle.yv_validate.proofs.NodeKinds.{absent_closes, written_closes}
+use Rattle.yv_validate.proofs.NoteGrowth.{gains_as}
 use Rattle.yv_validate.proofs.Own.{own_default, own_written}
 use Rattle.yv_validate.proofs.walk.Walk.leaf.Goals as goal
 

@@ -2,9 +2,9 @@ use Rattle.std.proofs.Common.{Bor, option_map, sym, ◌∙◌}
 use Rattle.std.proofs.lemmas.Result.{on_ok_weaker}
 use Rattle.serde_json.specs.View.{view}
 use Rattle.serde_json.specs.declared.value.Value.{Value}
-use Rattle.yv_leafref_values.specs.Meetings.{Spot}
+use Rattle.yv_data_leafrefs.specs.Meetings.{Spot}
 use Rattle.yv_validate.specs.InnerWalk.{next_of, spot_at, ProgressView, progress_view}
-use Rattle.yv_validate.proofs.Closed.{empty_closes, items_close}
+use Rattle.yv_validate.proofs.NodeKinds.{empty_closes, items_close}
 use Rattle.yv_validate.proofs.walk.Walk.leaf_list.Goals as goal
 
 pub returns-then-takes_defaults : goal.returns-then-takes_defaults

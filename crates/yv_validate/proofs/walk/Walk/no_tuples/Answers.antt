@@ -1,6 +1,6 @@
 use Rattle.std.proofs.Common.{◌≡◌, length, sym, ap, ◌∙◌, arith}
 use Rattle.std.proofs.lemmas.List.{length-map}
-use Rattle.yv_quiet_nodes.specs.NamedLeafs.{uniques_at}
+use Rattle.yv_data_quiet.specs.NamedLeafs.{uniques_at}
 use Rattle.yv_validate.specs.InnerNotes.{list_tuple}
 use Rattle.yv_validate.proofs.Each.{each_nothing}
 use Rattle.yv_validate.proofs.walk.Walk.no_tuples.Goals as goal

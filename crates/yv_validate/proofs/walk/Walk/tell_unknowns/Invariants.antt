@@ -1,8 +1,8 @@
 use Rattle.std.proofs.Common.{◌≡◌, ◌++◌, map, take}
 use Rattle.yv_validate.specs.Faults.{flaw}
-use Rattle.yv_leafref_values.specs.Place.{under}
-use Rattle.yv_faults.specs.Trails.{places}
-use Rattle.yv_faults.specs.declared.fault.FaultKind.TheVariants.{Unknown}
+use Rattle.yv_data_leafrefs.specs.Place.{under}
+use Rattle.yv_data_faults.specs.Trails.{places}
+use Rattle.yv_data_faults.specs.declared.fault.FaultKind.TheVariants.{Unknown}
 use Rattle.yv_validate.proofs.walk.Walk.tell_unknowns.Given as goal
 
 -- the faults of the names so far

@@ -3,15 +3,15 @@ use Rattle.std.proofs.lemmas.Result.{on_ok_weaker}
 use Rattle.serde_json.specs.View.{view}
 use Rattle.yv_values.specs.Values.{Val}
 use Rattle.yv_nodes.specs.Rows.{row_at}
-use Rattle.yv_leafref_values.specs.InUse.{value_of}
+use Rattle.yv_data_leafrefs.specs.InUse.{value_of}
 use Rattle.yv_validate.specs.InnerWalk.{spot_at, progress_view, written_at}
 use Rattle.yv_validate.proofs.Items.{read_told, unread_told, writes}
-use Rattle.yv_leafref_values.specs.Place.{step_name}
-use Rattle.yv_faults.specs.declared.fault.FaultKind.TheVariants.{Value as Unread}
+use Rattle.yv_data_leafrefs.specs.Place.{step_name}
+use Rattle.yv_data_faults.specs.declared.fault.FaultKind.TheVariants.{Value as Unread}
 use Rattle.yv_validate.specs.Faults.{flaw}
-use Rattle.yv_faults.specs.Trails.{places}
+use Rattle.yv_data_faults.specs.Trails.{places}
 use Rattle.yv_validate.specs.Work.{value_work}
-use Rattle.yv_validate.proofs.Noted.{gains_as, gains_none_at}
+use Rattle.yv_validate.proofs.NoteGrowth.{gains_as, gains_none_at}
 use Rattle.yv_validate.proofs.Steps.{plus_none}
 use Rattle.yv_validate.proofs.walk.Walk.written_leaf.Goals as goal
 

@@ -1,7 +1,7 @@
 use Rattle.std.proofs.Common.{◌≡◌, ◌∙◌, Bool, List, is_some, false, ap, sym, rules}
 use Rattle.std.specs.List.{list_any}
 use Rattle.yv_values.specs.Identities.{Id, NumberedId, is_between, is_identity, numbered_of}
-use Rattle.yv_values.proofs.Numbered.{is_itself, none_left, only_one}
+use Rattle.yv_values.proofs.NumberedIdentities.{is_itself, none_left, only_one}
 use Rattle.yv_values.proofs.members.Members.find.Goals as goal
 
 pub returns-in_err-entry-clause-value : goal.returns-in_err-entry-clause-value

@@ -2,8 +2,8 @@ use Rattle.std.proofs.Common.{◌∙◌, ap, map, sym, subst, List}
 use Rattle.yv_values.specs.declared.numbered_members.NumberedMember.{NumberedMember}
 use Rattle.yv_values.specs.Identities.{Id, NumberedId, RiseById, between, numbered_of}
 use Rattle.yv_values.specs.InnerMembers.{entry_id}
-use Rattle.yv_values.proofs.Numbered.{all_zero, zero_ids}
-use Rattle.yv_values.proofs.Rising.{where_ok}
+use Rattle.yv_values.proofs.NumberedIdentities.{all_zero, zero_ids}
+use Rattle.yv_values.proofs.RisingLists.{where_ok}
 use Rattle.yv_values.proofs.members.Members.from_rising.Goals as goal
 
 pub from_rising-requires : goal.from_rising-requires

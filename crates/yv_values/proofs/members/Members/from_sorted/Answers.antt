@@ -10,8 +10,8 @@ use Rattle.std.proofs.lemmas.Fn.{dedup_same}
 use Rattle.yv_values.specs.declared.members.Member.{Member}
 use Rattle.yv_values.specs.Identities.{Id, RiseById, id_cmp, id_of, identity_in, is_identity}
 use Rattle.yv_values.specs.Values.{identity}
-use Rattle.yv_values.proofs.Found.{compared, either_order, ids_total, same_id}
-use Rattle.yv_values.proofs.Rising.{left_rises, kept_same, where_ok}
+use Rattle.yv_values.proofs.IdentitySearch.{compared, either_order, ids_total, same_id}
+use Rattle.yv_values.proofs.RisingLists.{left_rises, kept_same, where_ok}
 use Rattle.yv_values.proofs.members.Members.from_sorted.Goals as goal
 
 abbrev same : Member → Member → Bool

@@ -1,7 +1,7 @@
 use Rattle.std.proofs.Common.{◌∙◌, Bool, Some, None, cond, ap}
 use Rattle.yv_values.specs.Identities.{id_of, is_identity}
 use Rattle.yv_values.specs.Values.{identity}
-use Rattle.yv_values.proofs.Rising.{moved_same, where_ok}
+use Rattle.yv_values.proofs.RisingLists.{moved_same, where_ok}
 use Rattle.yv_values.proofs.members.Members.new.Goals as goal
 
 pub returns-clause-same : goal.returns-clause-same

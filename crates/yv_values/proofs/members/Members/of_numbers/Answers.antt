@@ -1,5 +1,5 @@
 use Rattle.yv_values.specs.Identities.{NumberedId, is_between}
-use Rattle.yv_values.proofs.Numbered.{part_rises}
+use Rattle.yv_values.proofs.NumberedIdentities.{part_rises}
 use Rattle.yv_values.proofs.members.Members.of_numbers.Goals as goal
 
 pub returns-clause-rises : goal.returns-clause-rises

@@ -1,6 +1,6 @@
 use Rattle.std.proofs.Common.{List, subst}
 use Rattle.yv_values.specs.Identities.{Id, NumberedId, RiseById, is_between}
-use Rattle.yv_values.proofs.Numbered.{part_rises}
+use Rattle.yv_values.proofs.NumberedIdentities.{part_rises}
 use Rattle.yv_values.proofs.members.Members.rise.Goals as goal
 
 pub returns : goal.returns

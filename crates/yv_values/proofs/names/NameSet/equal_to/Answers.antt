@@ -11,7 +11,7 @@ use Rattle.std.proofs.lemmas.List.Sorted.{IsPartitionPoint-from_clause}
 use Rattle.yv_values.specs.InnerNames.{is_below}
 use Rattle.yv_values.specs.Values.{texts}
 use Rattle.yv_values.proofs.Order.{below_parted, upto_parted, run_is, ascends, filter_mapped}
-use Rattle.yv_values.proofs.Rising.{sorted_from_rising}
+use Rattle.yv_values.proofs.RisingLists.{sorted_from_rising}
 use Rattle.yv_values.proofs.names.NameSet.equal_to.Goals as goal
 
 pub returns-clause-names : goal.returns-clause-names

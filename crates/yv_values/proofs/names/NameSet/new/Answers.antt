@@ -11,7 +11,7 @@ use Rattle.std.proofs.lemmas.List.Filters.{dedup_is}
 use Rattle.std.proofs.lemmas.Slice.Eq.{bytes_eq-Decides}
 use Rattle.yv_values.specs.NameOrder.{Rises, is_named}
 use Rattle.yv_values.specs.Values.{texts}
-use Rattle.yv_values.proofs.Rising.{left_rises, left_same}
+use Rattle.yv_values.proofs.RisingLists.{left_rises, left_same}
 use Rattle.yv_values.proofs.names.NameSet.new.Goals as goal
 
 abbrev text_of : RcStr Global → List ℕ

@@ -3,9 +3,9 @@ use Rattle.std.specs.List.{list_any}
 use Rattle.std.specs.Rc.{rc_slice_items}
 use Rattle.yv_values.specs.Identities.{Id, id_cmp, ids_of, is_identity}
 use Rattle.yv_values.specs.InnerMembers.{entry_id}
-use Rattle.yv_values.proofs.Found.{apart, ids_total}
-use Rattle.yv_values.proofs.Numbered.{ids_numbered}
-use Rattle.yv_values.proofs.Rising.{sorted_from_rising}
+use Rattle.yv_values.proofs.IdentitySearch.{apart, ids_total}
+use Rattle.yv_values.proofs.NumberedIdentities.{ids_numbered}
+use Rattle.yv_values.proofs.RisingLists.{sorted_from_rising}
 use Rattle.yv_values.proofs.numbered_members.NumberedMembers.is_absent.Goals as goal
 
 pub returns-then-stands_after : goal.returns-then-stands_after

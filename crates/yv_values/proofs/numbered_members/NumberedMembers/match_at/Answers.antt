@@ -7,8 +7,8 @@ use Rattle.yv_values.specs.declared.members.Member.{Member}
 use Rattle.yv_values.specs.declared.numbered_members.NumberedMember.{NumberedMember}
 use Rattle.yv_values.specs.Identities.{Id, NumberedId, ids_of, is_identity, numbered_of}
 use Rattle.yv_values.specs.InnerMembers.{entry_id}
-use Rattle.yv_values.proofs.Found.{either_order, found_at}
-use Rattle.yv_values.proofs.Numbered.{contains_mapped, ids_numbered}
+use Rattle.yv_values.proofs.IdentitySearch.{either_order, found_at}
+use Rattle.yv_values.proofs.NumberedIdentities.{contains_mapped, ids_numbered}
 use Rattle.yv_values.proofs.numbered_members.NumberedMembers.match_at.Goals as goal
 
 pub returns-in-Some-clause-any : goal.returns-in-Some-clause-any

@@ -1,7 +1,7 @@
 use Rattle.std.proofs.Common.{◌∙◌, ap, List}
 use Rattle.std.specs.List.{list_any}
 use Rattle.yv_values.specs.Identities.{NumberedId, numbered_of}
-use Rattle.yv_values.proofs.Rising.{moved_same, where_ok}
+use Rattle.yv_values.proofs.RisingLists.{moved_same, where_ok}
 use Rattle.yv_values.proofs.Twins.{moved_twins, where_none, where_some}
 use Rattle.yv_values.proofs.numbered_members.NumberedMembers.new.Goals as goal
 

@@ -1,6 +1,6 @@
 use Rattle.std.proofs.Common.{List, sym, subst, ap, ◌∙◌}
 use Rattle.yv_values.specs.Identities.{Id, RiseById, ids_of}
-use Rattle.yv_values.proofs.Numbered.{ids_numbered}
+use Rattle.yv_values.proofs.NumberedIdentities.{ids_numbered}
 use Rattle.yv_values.proofs.numbered_members.NumberedMembers.rise.Goals as goal
 
 pub returns : goal.returns

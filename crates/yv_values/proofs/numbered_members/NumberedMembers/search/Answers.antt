@@ -5,9 +5,9 @@ use Rattle.std.proofs.lemmas.Fn.{always_returns_same}
 use Rattle.yv_values.specs.declared.numbered_members.NumberedMember.{NumberedMember}
 use Rattle.yv_values.specs.Identities.{Id, NumberedId, id_cmp, ids_of, is_identity, numbered_of}
 use Rattle.yv_values.specs.InnerMembers.{entry_id}
-use Rattle.yv_values.proofs.Found.{same_id, found, absent, ids_total}
-use Rattle.yv_values.proofs.Numbered.{contains_mapped, ids_numbered}
-use Rattle.yv_values.proofs.Rising.{sorted_from_rising}
+use Rattle.yv_values.proofs.IdentitySearch.{same_id, found, absent, ids_total}
+use Rattle.yv_values.proofs.NumberedIdentities.{contains_mapped, ids_numbered}
+use Rattle.yv_values.proofs.RisingLists.{sorted_from_rising}
 use Rattle.yv_values.proofs.numbered_members.NumberedMembers.search.Goals as goal
 
 pub returns-in-Ok-clause-value : goal.returns-in-Ok-clause-value

@@ -1,5 +1,5 @@
 use Rattle.std.proofs.Common.{length, get_or, refl, arith}
-use Rattle.yv_values.proofs.Ascending.{within_here, none_within, decided_past}
+use Rattle.yv_values.proofs.PlaceOrder.{within_here, none_within, decided_past}
 use Rattle.yv_values.proofs.places.KeyPlaces.is_within.Goals as goal
 
 pub returns-then-at-places : goal.returns-then-at-places

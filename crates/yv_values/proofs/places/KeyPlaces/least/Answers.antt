@@ -1,4 +1,4 @@
-use Rattle.yv_values.proofs.Ascending.{first_is_least}
+use Rattle.yv_values.proofs.PlaceOrder.{first_is_least}
 use Rattle.yv_values.proofs.places.KeyPlaces.least.Goals as goal
 
 pub returns : goal.returns

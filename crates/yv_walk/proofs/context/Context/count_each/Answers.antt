@@ -5,7 +5,7 @@ use Rattle.yv_nodes.specs.Rows.{AreTrees, children_of, tree_of}
 use Rattle.yv_walk.specs.Context.{members_of, parent_of}
 use Rattle.yv_walk.specs.Existence.{any, stands_in, tree_standing}
 use Rattle.yv_walk.proofs.Above.{rank_within}
-use Rattle.yv_walk.proofs.Counting.{count_all, count_drop, count_of, more_false, more_true}
+use Rattle.yv_walk.proofs.ExistingChildren.{count_all, count_drop, count_of, more_false, more_true}
 use Rattle.yv_walk.proofs.Stands.{inner_stands}
 use Rattle.yv_walk.proofs.context.Context.count_each.Goals as goal
 use Rattle.yv_walk.proofs.context.Context.count_each.Goals.{then-any, else-any}

@@ -2,7 +2,7 @@ use Rattle.std.proofs.Common.{◌≡◌, ◌+◌, ◌≤◌, drop, true}
 use Rattle.yv_nodes.specs.Rows.{children_of}
 use Rattle.yv_walk.specs.Context.{IsContext, members_of, parent_of}
 use Rattle.yv_walk.specs.Existence.{passes, stands_in}
-use Rattle.yv_walk.proofs.Counting.{count_of}
+use Rattle.yv_walk.proofs.ExistingChildren.{count_of}
 use Rattle.yv_walk.proofs.context.Context.count_each.Given as goal
 
 -- with those that are left, all are counted

@@ -4,7 +4,7 @@ use Rattle.yv_nodes.specs.declared.node.NodeId.{NodeId}
 use Rattle.yv_walk.specs.Context.{members_of}
 use Rattle.yv_walk.specs.Existence.{child_exists}
 use Rattle.yv_walk.proofs.Above.{rank_within}
-use Rattle.yv_walk.proofs.Counting.{count_all, count_drop, count_of}
+use Rattle.yv_walk.proofs.ExistingChildren.{count_all, count_drop, count_of}
 use Rattle.yv_walk.proofs.Places.{count_past, none_left, place_small}
 use Rattle.yv_walk.proofs.context.Context.count_existing.Goals as goal
 

@@ -6,7 +6,7 @@ use Rattle.yv_walk.specs.Context.{members_of, parent_of}
 use Rattle.yv_walk.specs.InnerNextExisting.{Ascend}
 use Rattle.yv_walk.specs.Existence.{any, child_exists, stands_in, tree_standing}
 use Rattle.yv_walk.proofs.Above.{rank_within}
-use Rattle.yv_walk.proofs.Ascending.{passed_on}
+use Rattle.yv_walk.proofs.AscendingNodes.{passed_on}
 use Rattle.yv_walk.proofs.Places.{children_ascend, unkept_places}
 use Rattle.yv_walk.proofs.Stands.{inner_stands}
 use Rattle.yv_walk.proofs.context.Context.next_existing.Goals as goal

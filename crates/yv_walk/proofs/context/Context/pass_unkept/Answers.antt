@@ -2,7 +2,7 @@ use Rattle.std.proofs.Common.{◌≡◌, ◌<◌, ◌≤◌, get_or, length, nat
 use Rattle.std.proofs.lemmas.Bool.Decides.{nat_tests}
 use Rattle.std.proofs.lemmas.List.{get_or_read}
 use Rattle.yv_nodes.specs.declared.node.NodeId.{NodeId}
-use Rattle.yv_walk.proofs.Ascending.{from_first, not_before}
+use Rattle.yv_walk.proofs.AscendingNodes.{from_first, not_before}
 use Rattle.yv_walk.proofs.context.Context.pass_unkept.Goals as goal
 
 pub returns-in-Some-next_kept-clause-behind : goal.returns-in-Some-next_kept-clause-behind

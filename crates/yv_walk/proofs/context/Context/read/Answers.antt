@@ -12,9 +12,9 @@ use Rattle.yv_walk.specs.Existence.{both, existence_of}
 use Rattle.yv_walk.specs.WrittenValues.{keep_first, value_at}
 use Rattle.yv_walk.proofs.Joins.{both_none}
 use Rattle.yv_walk.proofs.Keys.{ordered_keys}
-use Rattle.yv_walk.proofs.Kept.{AreHeld, held_at, holds_found, holds_none, holds_unknown}
-use Rattle.yv_walk.proofs.Looked.{counted_more, names_known, names_unknown, none_before}
-use Rattle.yv_walk.proofs.Naming.{are_named, are_unnamed, data_inside, found_in, held_row, is_held}
+use Rattle.yv_walk.proofs.MemberValues.{AreHeld, held_at, holds_found, holds_none, holds_unknown}
+use Rattle.yv_walk.proofs.UnknownMembers.{counted_more, names_known, names_unknown, none_before}
+use Rattle.yv_walk.proofs.MemberNodes.{are_named, are_unnamed, data_inside, found_in, held_row, is_held}
 use Rattle.yv_walk.proofs.Single.{next, nothing, unknown}
 use Rattle.yv_walk.proofs.context.Context.read.Goals as goal
 

@@ -9,7 +9,7 @@ use Rattle.yv_walk.specs.Marks.{mark_at}
 use Rattle.yv_walk.specs.MemberNodes.{AreKeys}
 use Rattle.yv_walk.specs.Existence.{both, passes, existence_of, stands_in}
 use Rattle.yv_walk.specs.WrittenValues.{value_at}
-use Rattle.yv_walk.proofs.Kept.{AreHeld}
+use Rattle.yv_walk.proofs.MemberValues.{AreHeld}
 use Rattle.yv_walk.proofs.context.Context.read.Given as goal
 
 -- with the members that are left, the values, what exists, the unknown names and the steps are

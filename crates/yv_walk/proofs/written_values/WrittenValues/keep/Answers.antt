@@ -1,6 +1,6 @@
 use Rattle.std.proofs.Common.{◌≡◌, None, sym, ◌∙◌, ap, rules}
 use Rattle.std.specs.Option.{option_map}
-use Rattle.yv_walk.proofs.Kept.{kept_new}
+use Rattle.yv_walk.proofs.MemberValues.{kept_new}
 use Rattle.yv_walk.proofs.written_values.WrittenValues.keep.Goals as goal
 
 pub returns-in_ok-insert : goal.returns-in_ok-insert

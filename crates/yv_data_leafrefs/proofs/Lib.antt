@@ -1,0 +1,10 @@
+pub mod RowLabels
+pub mod WalkInduction
+pub mod ValuePlaces
+pub mod IndexAnswers
+pub mod LookupCounts
+pub mod LinkTargets
+pub mod NumberMaps
+pub mod IndexAgreement
+pub mod DocumentReport
+pub mod FindingLemmas

@@ -1,0 +1,45 @@
+-- The sentence on one fault.
+use Rattle.std.specs.Prelude.{◌≡◌, ℕ, ◌==◌, ◌&&◌, List, [], ◌∷◌, ◌++◌, Bool, map, take, nat_le, codes, decimal, if◌then◌else◌}
+use Rattle.yv_data_faults.specs.Line.{kind_name, line_text, places_text}
+use Rattle.yv_data_leafrefs.specs.Place.{Place}
+use Rattle.yv_data_faults.specs.Flaw.{Flaw}
+
+-- a blank, or a visible ASCII character
+abbrev pub is_visible : ℕ → Bool
+is_visible b = nat_le 32 b && nat_le b 126
+
+-- any other byte as a dot
+abbrev pub cleared_byte : ℕ → ℕ
+cleared_byte b = if is_visible b then b else 46
+
+-- what a terminal is given of a text: its first 1,400 bytes
+abbrev pub clear : List ℕ → List ℕ
+clear text = map cleared_byte (take 1400 text)
+
+-- the same as a line
+abbrev pub cleared_line : List ℕ → List ℕ
+cleared_line text = clear text ++ 10 ∷ []
+
+-- the number of a statement, where there is one
+abbrev pub number_text : ℕ → List ℕ
+number_text n = if n == 0 then [] else codes " " ++ decimal n
+
+-- a fault's line with two dots in place of the first steps of its path, of which these are the
+-- others
+abbrev pub shortened_line : Flaw → (others : List Place) → List ℕ
+shortened_line f others =
+    kind_name f.kind ++ codes " .." ++ places_text others ++ number_text f.number
+
+-- how the sentence on a fault begins: as the fault's line on standard output, or, where that is
+-- long, with two dots in place of the first steps
+pub data Begins (f : Flaw) (front : List ℕ) : Type 0 where
+  whole : front ≡ line_text f → Begins f front
+  short : (first others : List Place) → f.path ≡ first ++ others → front ≡ shortened_line f others
+      → Begins f front
+
+-- the line of a sentence: the fault, and after a colon and a blank what is wrong and what to do
+pub record IsSentence (f : Flaw) (line : List ℕ) : Type 0 where
+  pub front : List ℕ
+  pub advice : List ℕ
+  pub begins : Begins f front
+  pub is : line ≡ cleared_line (front ++ codes ": " ++ advice)

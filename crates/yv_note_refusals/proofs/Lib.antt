@@ -1,0 +1,2 @@
+pub mod ClearTexts
+pub mod NoteExtension

@@ -1,0 +1,35 @@
+//! Texts as a terminal may show them.
+ghost use Rattle.std.specs.Prelude.{◌≡◌, ◌<◌, ◌++◌, map, OnOk, string_bytes};
+ghost use Rattle.yv_note_refusals.specs.Clear.{clear_text, cleared_byte, is_clear_byte};
+
+use std::alloc::AllocError;
+
+// Whether a byte is a line feed, a blank or a visible ASCII character.
+fn is_clear(byte: u8) -> bool
+    ensures { result ≡ is_clear_byte byte }
+{
+    byte == b'\n' || b' ' <= byte && byte <= b'~'
+}
+
+// What is shown of a byte.
+fn cleared_char(byte: u8) -> char
+    ensures value { result ≡ cleared_byte byte }
+    ensures ascii { result < 128 }
+{
+    if is_clear(byte) {
+        char::from(byte)
+    } else {
+        '.'
+    }
+}
+
+/// Adds words, with a dot for each byte that could control a terminal.
+pub(crate) fn push_clear(text: &mut String, words: &str) -> Result<(), AllocError>
+    ensures { OnOk result
+        (string_bytes text.new ≡ string_bytes text.old ++ clear_text words.now) }
+{
+    for byte in words.as_bytes() {
+        text.push(cleared_char(*byte))?;
+    }
+    Ok(())
+}

@@ -1,5 +1,0 @@
-pub mod Children
-pub mod Leafs
-pub mod Asked
-pub mod Known
-pub mod Passed

@@ -1,9 +1,0 @@
-use Rattle.std.proofs.Common.{◌≡◌, ℕ}
-use Rattle.std.specs.BTreeSet.{contains}
-use Rattle.std.specs.Ordering.{nat_cmp}
-use Rattle.yv_quiet_nodes.specs.NamedLeafs.{named_before}
-use Rattle.yv_quiet_nodes.proofs.named_leafs.named_leafs.Given as goal
-
--- what the first nodes name
-abbrev pub invariant-loop-index : goal.invariant-loop-index
-invariant-loop-index l = (n : ℕ) → contains nat_cmp l.named n ≡ named_before l.schema l.index n

@@ -1,2 +1,0 @@
-pub mod ClearTexts
-pub mod Speaking

@@ -1,4 +1,0 @@
-use Rattle.yv_refusal_notes.proofs.refusal_text.sentence.Goals as goal
-
-pub returns : goal.returns
-returns c = rw (← c.statement_at.ensures, c.in-Some.is) c.in_ok-push_about.ensures.names

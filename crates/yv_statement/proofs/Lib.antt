@@ -1,4 +1,0 @@
-pub mod Built
-pub mod Least
-pub mod Mapped
-pub mod Written

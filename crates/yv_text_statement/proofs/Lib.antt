@@ -1,0 +1,4 @@
+pub mod ChildAddition
+pub mod Least
+pub mod MappedLists
+pub mod KeywordTexts
