@@ -127,7 +127,7 @@ module _ (w : Whole) (labels : List Label) (s : Spot) (end : ℕ) (st : State) (
   ready_idle number g ready =
       let same = had_same w.rows s from to are.within are.quiet to are.ascend (omega arith) in
       record {
-        grafting = subst (λ (l : List ℕ). IsAugmentation labels (turns_from w labels s s.first l st) g) (sym same) ready.grafting;
+        augmentation = subst (λ (l : List ℕ). IsAugmentation labels (turns_from w labels s s.first l st) g) (sym same) ready.augmentation;
         long = ready.long;
         next = ready.next ∙ ap (λ (l : List ℕ). s.first + length l) (sym same);
         room = ready.room;
@@ -161,7 +161,7 @@ module _ (w : Whole) (labels : List Label) (s : Spot) (end : ℕ) (st : State) (
   ready_giver number next g more long is room h =
       let count = number_more w.rows s place x.augment gives.at gives.gives in
       record {
-        grafting = subst (λ (n : State). IsAugmentation labels n g)
+        augmentation = subst (λ (n : State). IsAugmentation labels n g)
             (ap (λ (n : ℕ). copy_turn w labels s n x.augment (after_turns w labels s place st)) is ∙ after_more w labels s place x.augment st gives.at gives.gives) h;
         long = long;
         next = omega (arith, more, is, count);
@@ -211,7 +211,7 @@ stretch_ascends w statement module_file from to stretch h =
 -- before the first stretch
 pub ready_first : (w : Whole) (labels : List Label) (s : Spot) (st : State) (g : Augmentation) → IsAugmentation labels st g → length labels ≡ w.items
     → s.first + length (augments_giving w.rows s.statement) ≤ length st.ends → IsReady w labels s st 0 s.first g
-ready_first w labels s st g is long room = record { grafting = is; long = long; next = omega arith; room = room }
+ready_first w labels s st g is long room = record { augmentation = is; long = long; next = omega arith; room = room }
 
 -- a stretch and those after it
 pub next_stretch : (w : Whole) (statement module_file at to : ℕ) (xs : List Stretch) (i : ℕ) (x : Stretch) → slice_get xs i ≡ Some x → AreStretches w statement module_file at to (drop i xs)

@@ -19,22 +19,25 @@ use Rattle.yv_expand_augments.specs.declared.final_tree.AugmentedTree.{Augmented
 
 -- these items are so, each once
 pub record AreAugmentedItems (w : Whole) (items : List Item) (st : State)
-    (grafts : AugmentedItems) : Type 0 where
+    (augmented_items : AugmentedItems) : Type 0 where
   pub grafted : AreAugmented w items st
   pub each : length (layout_of w items).spots ≡ length items
   pub once : StandOnce (length items) st.groups
-  pub spots : grafts.spots.items ≡ (layout_of w items).spots
+  pub spots : augmented_items.spots.items ≡ (layout_of w items).spots
   pub missing : (i : ℕ)
-      → IsLeast (MissesAt w (layout_of w items) (end_at items i) i) (get nat_cmp grafts.missing i)
-  pub refined : all_meant grafts.refined ≡ refined_all w items
-  pub grafting : IsAugmentation (labels_of (layout_of w items).spots) st grafts.grafting
+      → IsLeast (MissesAt w (layout_of w items) (end_at items i) i)
+      (get nat_cmp augmented_items.missing i)
+  pub refined : all_meant augmented_items.refined ≡ refined_all w items
+  pub augmentation : IsAugmentation (labels_of (layout_of w items).spots) st
+      augmented_items.augmentation
 
 -- this is the final tree of items that are so
 pub record AreAugmentedTree (w : Whole) (items : List Item) (st : State)
-    (grown : AugmentedTree) : Type 0 where
+    (full_tree : AugmentedTree) : Type 0 where
   pub grafted : AreAugmented w items st
-  pub tree : AreRows (labels_of (layout_of w items).spots) st.groups grown.tree.items
-  pub spots : grown.spots.items ≡ (layout_of w items).spots
-  pub refined : all_meant grown.refined ≡ refined_all w items
+  pub tree : AreRows (labels_of (layout_of w items).spots) st.groups full_tree.tree.items
+  pub spots : full_tree.spots.items ≡ (layout_of w items).spots
+  pub refined : all_meant full_tree.refined ≡ refined_all w items
   pub missing : (i : ℕ)
-      → IsLeast (MissesAt w (layout_of w items) (end_at items i) i) (get nat_cmp grown.missing i)
+      → IsLeast (MissesAt w (layout_of w items) (end_at items i) i)
+      (get nat_cmp full_tree.missing i)

@@ -190,7 +190,7 @@ MissesBetween w labels s end st from to f =
 -- gives something
 pub record IsReady (w : Whole) (labels : List Label) (s : Spot) (st : State) (count number : ℕ)
     (g : Augmentation) : Type 0 where
-  pub grafting : IsAugmentation labels (after_turns w labels s count st) g
+  pub augmentation : IsAugmentation labels (after_turns w labels s count st) g
   pub long : length labels ≡ w.items
   pub next : number ≡ next_number w.rows s count
   pub room : s.first + length (augments_giving w.rows s.statement) ≤ length st.ends

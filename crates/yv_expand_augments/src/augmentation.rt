@@ -64,7 +64,7 @@ fn labels(alloc: Global, spots: &[Spot]) -> Result<Vec<Label>, AllocError>
 // Items that have entered, the least refusal of each that is a uses, and what refines mean.
 #[derive(Drop)]
 struct PlacedItems {
-    grafting: Augmentation,
+    augmentation: Augmentation,
     missing: BTreeMap<usize, Refusal>,
     refined: Refinements,
 }
@@ -72,7 +72,7 @@ struct PlacedItems {
 // A stretch of augments that had its turns: its least refusal, and the number of the next copy.
 #[derive(Drop)]
 struct StretchResult {
-    grafting: Augmentation,
+    augmentation: Augmentation,
     missing: Option<Refusal>,
     number: usize,
 }
@@ -80,23 +80,23 @@ struct StretchResult {
 // A uses whose augments had their turns, and the least refusal of these.
 #[derive(Drop)]
 struct TurnResult {
-    grafting: Augmentation,
+    augmentation: Augmentation,
     missing: Option<Refusal>,
 }
 
 // The refusal of an augment whose path begins in this group, if it adds to no node.
 fn refusal_of_target(
     plan: &Plan<'_, '_, '_>,
-    grafting: &Augmentation,
+    augmentation: &Augmentation,
     group: usize,
     limit: usize,
     it: &AddressedAugment,
 ) -> Option<Refusal>
-    ensures { (labels : List Label) (st : State) → IsAugmentation labels st grafting.now
+    ensures { (labels : List Label) (st : State) → IsAugmentation labels st augmentation.now
         → IsLeast (RefusesIf (rows_in plan.now.rows.now) AugmentTarget
         (added_to labels st limit group it.now.path.items ≡ None) it.now.augment) result }
 {
-    let bad = is_absent(grafting.reach(group, limit, &it.path));
+    let bad = is_absent(augmentation.reach(group, limit, &it.path));
     refused_at(plan.rows, Code::AugmentTarget, bad, it.augment)
 }
 
@@ -104,19 +104,19 @@ fn refusal_of_target(
 // to no node.
 fn first_missing(
     plan: &Plan<'_, '_, '_>,
-    grafting: &Augmentation,
+    augmentation: &Augmentation,
     spot: &Spot,
     end: usize,
     idle: &[AddressedAugment],
 ) -> Option<Refusal>
-    ensures { (labels : List Label) (st : State) → IsAugmentation labels st grafting.now
+    ensures { (labels : List Label) (st : State) → IsAugmentation labels st augmentation.now
         → AreOrdered (rows_in plan.now.rows.now) idle.now
         → IsLeast
         (MissesIdle (rows_in plan.now.rows.now) (added_to labels st end spot.now.group)
         idle.now) result }
 {
     for it in idle {
-        let missing = refusal_of_target(plan, grafting, spot.group, end, it);
+        let missing = refusal_of_target(plan, augmentation, spot.group, end, it);
         if missing.is_some() {
             return missing;
         }
@@ -128,21 +128,21 @@ fn first_missing(
 // adds to no node.
 fn give(
     plan: &Plan<'_, '_, '_>,
-    grafting: Augmentation,
+    augmentation: Augmentation,
     spot: &Spot,
     number: usize,
     it: &AddressedAugment,
 ) -> Result<TurnResult, AllocError>
     requires few { number < 2 ^ 63 }
-    ensures state { (labels : List Label) (st : State) → IsAugmentation labels st grafting
+    ensures state { (labels : List Label) (st : State) → IsAugmentation labels st augmentation
         → length labels ≡ length plan.now.items.now
         → it.now.path.items ≡ path_in (whole_in plan.now) spot.now.module_file it.now.augment
         → number < length st.ends
         → IfOk result
         (λ turned. IsAugmentation labels
         (copy_turn (whole_in plan.now) labels spot.now number it.now.augment st)
-        turned.grafting) }
-    ensures lacks { (labels : List Label) (st : State) → IsAugmentation labels st grafting
+        turned.augmentation) }
+    ensures lacks { (labels : List Label) (st : State) → IsAugmentation labels st augmentation
         → length labels ≡ length plan.now.items.now
         → IfOk result
         (λ turned. IsLeast
@@ -152,16 +152,19 @@ fn give(
         turned.missing) }
 {
     let group = plan.copy_group(number);
-    let limit = last_of(grafting.members(group));
-    let missing = refusal_of_target(plan, &grafting, spot.group, limit, it);
-    let grafting = grafting.turn(number, spot.group, limit, &it.path)?;
-    Ok(TurnResult { grafting, missing })
+    let limit = last_of(augmentation.members(group));
+    let missing = refusal_of_target(plan, &augmentation, spot.group, limit, it);
+    let augmentation = augmentation.turn(number, spot.group, limit, &it.path)?;
+    Ok(TurnResult {
+        augmentation,
+        missing,
+    })
 }
 
 // The turns of a stretch of augments of a uses.
 fn follow(
     plan: &Plan<'_, '_, '_>,
-    grafting: Augmentation,
+    augmentation: Augmentation,
     spot: &Spot,
     end: usize,
     number: usize,
@@ -175,14 +178,14 @@ fn follow(
         → IfOk result
         (λ followed. followed.number ≡ next_number (rows_in plan.now.rows.now) spot.now to) }
     ensures ready { (labels : List Label) (st : State) (from to : ℕ)
-        → IsReady (whole_in plan.now) labels spot.now st from number grafting
+        → IsReady (whole_in plan.now) labels spot.now st from number augmentation
         → IsStretch (whole_in plan.now) spot.now.statement spot.now.module_file from to
         stretch.now
         → IfOk result
         (λ followed. IsReady (whole_in plan.now) labels spot.now st to followed.number
-        followed.grafting) }
+        followed.augmentation) }
     ensures lacks { (labels : List Label) (st : State) (from to : ℕ)
-        → IsReady (whole_in plan.now) labels spot.now st from number grafting
+        → IsReady (whole_in plan.now) labels spot.now st from number augmentation
         → IsStretch (whole_in plan.now) spot.now.statement spot.now.module_file from to
         stretch.now
         → IfOk result
@@ -190,18 +193,18 @@ fn follow(
         followed.missing) }
 {
     yv_expand_rounds::laws::turns_keep_augments();
-    let missing = first_missing(plan, &grafting, spot, end, &stretch.idle);
+    let missing = first_missing(plan, &augmentation, spot, end, &stretch.idle);
     match &stretch.giving {
         Some(it) => {
-            let own = give(plan, grafting, spot, number, it)?;
+            let own = give(plan, augmentation, spot, number, it)?;
             Ok(StretchResult {
-                grafting: own.grafting,
+                augmentation: own.augmentation,
                 missing: lesser(missing, own.missing),
                 number: number + 1,
             })
         }
         None => Ok(StretchResult {
-            grafting,
+            augmentation,
             missing,
             number,
         }),
@@ -221,7 +224,7 @@ fn has_augments(plan: &Plan<'_, '_, '_>, spot: &Spot) -> bool
 fn turns(
     alloc: Global,
     plan: &Plan<'_, '_, '_>,
-    mut grafting: Augmentation,
+    mut augmentation: Augmentation,
     spot: &Spot,
     end: usize,
     schedules: &mut Schedules,
@@ -230,13 +233,13 @@ fn turns(
     requires schedules { AreSchedules (whole_in plan.now) schedules.old }
     requires few { IsNumbered (rows_in plan.now.rows.now) spot.now }
     ensures schedules { OnOk result (AreSchedules (whole_in plan.now) schedules.new) }
-    ensures state { (labels : List Label) (st : State) → IsAugmentation labels st grafting
+    ensures state { (labels : List Label) (st : State) → IsAugmentation labels st augmentation
         → length labels ≡ length plan.now.items.now
         → spot.now.first + copies_of (rows_in plan.now.rows.now) spot.now ≤ length st.ends
         → IfOk result
         (λ turned. IsAugmentation labels (turns (whole_in plan.now) labels spot.now st)
-        turned.grafting) }
-    ensures lacks { (labels : List Label) (st : State) → IsAugmentation labels st grafting
+        turned.augmentation) }
+    ensures lacks { (labels : List Label) (st : State) → IsAugmentation labels st augmentation
         → length labels ≡ length plan.now.items.now
         → spot.now.first + copies_of (rows_in plan.now.rows.now) spot.now ≤ length st.ends
         → IfOk result
@@ -246,20 +249,20 @@ fn turns(
     let mut least = None;
     if !has_augments(plan, spot) {
         return Ok(TurnResult {
-            grafting,
+            augmentation,
             missing: least,
         });
     }
     prepare(alloc, plan, schedules, spot.statement, spot.module_file)?;
     let mut number = spot.first;
     for stretch in schedules.stretches(spot.statement) {
-        let followed = follow(plan, grafting, spot, end, number, stretch)?;
+        let followed = follow(plan, augmentation, spot, end, number, stretch)?;
         least = lesser(least, followed.missing);
         number = followed.number;
-        grafting = followed.grafting;
+        augmentation = followed.augmentation;
     }
     Ok(TurnResult {
-        grafting,
+        augmentation,
         missing: least,
     })
 }
@@ -275,39 +278,39 @@ fn place(
     requires plan { IsPlan plan.now }
     requires lays { AreLaid (whole_in plan.now) (laid_in layout.now) }
     requires few { layout.now.copies < 2 ^ 63 }
-    ensures state { IfOk result (λ told.
+    ensures state { IfOk result (λ outcome.
         IsAugmentation (labels_of (laid_in layout.now).spots)
-        (placement (whole_in plan.now) (laid_in layout.now)) told.grafting) }
-    ensures lacks { IfOk result (λ told. (i : ℕ)
+        (placement (whole_in plan.now) (laid_in layout.now)) outcome.augmentation) }
+    ensures lacks { IfOk result (λ outcome. (i : ℕ)
         → IsLeast
         (MissesAt (whole_in plan.now) (laid_in layout.now) (slice_index_or ends.now i 0) i)
-        (get nat_cmp told.missing i)) }
-    ensures refines { IfOk result (λ told.
-        all_meant told.refined
+        (get nat_cmp outcome.missing i)) }
+    ensures refines { IfOk result (λ outcome.
+        all_meant outcome.refined
         ≡ refine_meanings (whole_in plan.now) (laid_in layout.now)
         (λ i. slice_index_or ends.now i 0)) }
 {
     yv_expand_rounds::laws::turns_keep_augments();
     let labels = labels(alloc, &layout.spots)?;
-    let mut grafting = Augmentation::new(alloc, labels, layout.copies)?;
+    let mut augmentation = Augmentation::new(alloc, labels, layout.copies)?;
     let mut missing = BTreeMap::new(alloc);
-    let mut aims = RefineTargets::new(alloc);
+    let mut refine_targets = RefineTargets::new(alloc);
     let mut schedules = Schedules::new(alloc);
     let mut left = layout.spots.len();
     while left > 0 {
         left -= 1;
         let spot = &layout.spots[left];
         let end = end_of(ends, left);
-        plan.refine_all(alloc, &grafting, spot, left, end, &mut aims)?;
-        let turned = turns(alloc, plan, grafting, spot, end, &mut schedules)?;
+        plan.refine_all(alloc, &augmentation, spot, left, end, &mut refine_targets)?;
+        let turned = turns(alloc, plan, augmentation, spot, end, &mut schedules)?;
         note(&mut missing, left, turned.missing)?;
-        grafting = turned.grafting;
-        grafting.enter(left, spot.group)?;
+        augmentation = turned.augmentation;
+        augmentation.enter(left, spot.group)?;
     }
     Ok(PlacedItems {
-        grafting,
+        augmentation,
         missing,
-        refined: aims.refinements,
+        refined: refine_targets.refinements,
     })
 }
 
@@ -318,7 +321,7 @@ pub struct AugmentedItems {
     // The least refusal of the augments of an item, where there is one.
     missing: BTreeMap<usize, Refusal>,
     refined: Refinements,
-    grafting: Augmentation,
+    augmentation: Augmentation,
 }
 
 impl AugmentedItems {
@@ -329,11 +332,11 @@ impl AugmentedItems {
             → AreAugmentedItems w items st self.now
             → result ≡ target_of (labels_of (layout_of w items).spots) st.ends place }
     {
-        self.grafting.target(place)
+        self.augmentation.target(place)
     }
 
     /// The final tree, and what is still asked of it.
-    pub fn into_grown(self) -> Result<AugmentedTree, AllocError>
+    pub fn into_tree(self) -> Result<AugmentedTree, AllocError>
         ensures { (w : Whole) (items : List Item) (st : State) → AreAugmentedItems w items st self
             → IfOk result (AreAugmentedTree w items st) }
     {
@@ -341,9 +344,9 @@ impl AugmentedItems {
             spots,
             missing,
             refined,
-            grafting,
+            augmentation,
         } = self;
-        let tree = grafting.into_rows()?;
+        let tree = augmentation.into_rows()?;
         Ok(AugmentedTree {
             spots,
             refined,
@@ -358,18 +361,19 @@ impl AugmentedItems {
 fn nothing_augmented(alloc: Global) -> Result<AugmentedItems, AllocError>
     ensures { (files : Briefs) (rows : List Row)
         → IfOk result
-        (λ grafts. (st : State) × AreAugmentedItems (whole files rows [] 0) [] st grafts) }
+        (λ augmented_items. (st : State) × AreAugmentedItems
+        (whole files rows [] 0) [] st augmented_items) }
 {
     yv_expand_rounds::laws::each_item_stands_once();
-    let grafting = Augmentation::new(alloc, Vec::new(alloc), 0)?;
+    let augmentation = Augmentation::new(alloc, Vec::new(alloc), 0)?;
     Ok(AugmentedItems {
         spots: Vec::new(alloc),
         missing: BTreeMap::new(alloc),
         refined: Refinements {
-            aims: Vec::new(alloc),
+            refine_targets: Vec::new(alloc),
             uses: Vec::new(alloc),
         },
-        grafting,
+        augmentation,
     })
 }
 
@@ -383,10 +387,10 @@ pub fn apply_augments(
     items: &[Item],
     augments: &[usize],
 ) -> Result<AugmentedItems, AllocError>
-    ensures { IfOk result (λ grafts. (st : State)
+    ensures { IfOk result (λ augmented_items. (st : State)
         × AreAugmentedItems
         (whole (files_in rows.now) (rows_in rows.now) augments.now (length items.now)) items.now st
-        grafts) }
+        augmented_items) }
 {
     yv_expand_rounds::laws::each_item_stands_once();
     yv_expand_rounds::laws::turns_keep_augments();
@@ -397,17 +401,17 @@ pub fn apply_augments(
     let layout = plan.lay(alloc, items)?;
     let ends = item_ends(alloc, items)?;
     let PlacedItems {
-        grafting,
+        augmentation,
         missing,
         refined,
     } = place(alloc, &plan, &layout, &ends)?;
     let paths = plan.module_paths(alloc)?;
-    let grafting = grafting.run(0, &paths)?;
+    let augmentation = augmentation.run(0, &paths)?;
     let Layout { spots, copies: _ } = layout;
     Ok(AugmentedItems {
         spots,
         missing,
         refined,
-        grafting,
+        augmentation,
     })
 }

@@ -108,10 +108,10 @@ changes_at files spots xs n [] k lt = absurd (omega (arith, lt))
 changes_at files spots xs n (s ∷ ss) zero lt = ap (changes files spots xs) (omega arith)
 changes_at files spots xs n (s ∷ ss) (suc k) lt = changes_at files spots xs (n + 1) ss k (omega (arith, lt)) ∙ ap (changes files spots xs) (omega arith)
 
-runs_at : (files : Files) (ways : List (Option Way)) (aims : List RefineTarget) (n : ℕ) (ws : List (Option Way)) (k : ℕ) → k < length ws → get_or (runs_from files ways aims n ws) k [] ≡ run_at files ways aims (n + k)
-runs_at files ways aims n [] k lt = absurd (omega (arith, lt))
-runs_at files ways aims n (w ∷ ws) zero lt = ap (run_at files ways aims) (omega arith)
-runs_at files ways aims n (w ∷ ws) (suc k) lt = runs_at files ways aims (n + 1) ws k (omega (arith, lt)) ∙ ap (run_at files ways aims) (omega arith)
+runs_at : (files : Files) (ways : List (Option Way)) (refine_targets : List RefineTarget) (n : ℕ) (ws : List (Option Way)) (k : ℕ) → k < length ws → get_or (runs_from files ways refine_targets n ws) k [] ≡ run_at files ways refine_targets (n + k)
+runs_at files ways refine_targets n [] k lt = absurd (omega (arith, lt))
+runs_at files ways refine_targets n (w ∷ ws) zero lt = ap (run_at files ways refine_targets) (omega arith)
+runs_at files ways refine_targets n (w ∷ ws) (suc k) lt = runs_at files ways refine_targets (n + 1) ws k (omega (arith, lt)) ∙ ap (run_at files ways refine_targets) (omega arith)
 
 none_of : (Q : RefineTarget → Bool) (xs : List RefineTarget) → ((a : RefineTarget) → Q a ≡ false) → map (λ (a : RefineTarget). a.refine) (filter Q xs) ≡ []
 none_of Q [] h = refl
@@ -161,27 +161,27 @@ module _ (files : Files) (spots : List Spot) (uses : ℕ) (targets : List (Optio
       by (Some j) e = ap (λ b. b && is_fit_at_item files spots a.refine i)
           (ne_eqb j i (λ same. first_there 0 targets a.path i (read_some targets a.path j e ∙ ap (λ n. Some (Some n)) same) none))
 
-  module _ (aims : List RefineTarget) where
-    at_path : (p : ℕ) → p < length targets → get_or (runs_of files (ways_of spots targets) aims) p [] ≡ run_at files (ways_of spots targets) aims p
+  module _ (refine_targets : List RefineTarget) where
+    at_path : (p : ℕ) → p < length targets → get_or (runs_of files (ways_of spots targets) refine_targets) p [] ≡ run_at files (ways_of spots targets) refine_targets p
     at_path p lt =
-        runs_at files (ways_of spots targets) aims 0 (ways_of spots targets) p (omega (arith, lt, length-map targets (way_of_target spots targets))) ∙ ap (run_at files (ways_of spots targets) aims) (omega arith)
+        runs_at files (ways_of spots targets) refine_targets 0 (ways_of spots targets) p (omega (arith, lt, length-map targets (way_of_target spots targets))) ∙ ap (run_at files (ways_of spots targets) refine_targets) (omega arith)
 
-    of_item : (i : ℕ) → rest 0 targets (runs_of files (ways_of spots targets) aims) i ≡ changes files spots (map (meaning_of uses targets) aims) i
+    of_item : (i : ℕ) → rest 0 targets (runs_of files (ways_of spots targets) refine_targets) i ≡ changes files spots (map (meaning_of uses targets) refine_targets) i
     of_item i = by (first_from 0 targets i) refl
       where
-        by : (o : Option ℕ) → first_from 0 targets i ≡ o → rest 0 targets (runs_of files (ways_of spots targets) aims) i ≡ changes files spots (map (meaning_of uses targets) aims) i
+        by : (o : Option ℕ) → first_from 0 targets i ≡ o → rest 0 targets (runs_of files (ways_of spots targets) refine_targets) i ≡ changes files spots (map (meaning_of uses targets) refine_targets) i
         by None e =
-            rest_none 0 targets (runs_of files (ways_of spots targets) aims) i (λ k at. absurd (first_there 0 targets k i at e))
-            ∙ sym (gathered (is_change files spots i) (λ a. false) aims (unled i e) ∙ none_of (λ a. false) aims (λ a. refl))
+            rest_none 0 targets (runs_of files (ways_of spots targets) refine_targets) i (λ k at. absurd (first_there 0 targets k i at e))
+            ∙ sym (gathered (is_change files spots i) (λ a. false) refine_targets (unled i e) ∙ none_of (λ a. false) refine_targets (λ a. refl))
         by (Some p) e =
             (let there = first_leads_there targets i p e in
-            rest_first 0 targets (runs_of files (ways_of spots targets) aims) i p e (λ k at other.
+            rest_first 0 targets (runs_of files (ways_of spots targets) refine_targets) i p e (λ k at other.
             (let lt = slice_get_within targets k (Some i) at in
-            ap (λ n. get_or (runs_of files (ways_of spots targets) aims) n []) (omega arith)
+            ap (λ n. get_or (runs_of files (ways_of spots targets) refine_targets) n []) (omega arith)
             ∙ at_path k lt
-            ∙ none_of (is_run files (ways_of spots targets) k) aims (empty_at k (λ j at' first. other (apart k j at at' first)))))
+            ∙ none_of (is_run files (ways_of spots targets) k) refine_targets (empty_at k (λ j at' first. other (apart k j at at' first)))))
             ∙ at_path p (slice_get_within targets p (Some i) there)
-            ∙ sym (gathered (is_change files spots i) (is_run files (ways_of spots targets) p) aims (agrees p i there e)))
+            ∙ sym (gathered (is_change files spots i) (is_run files (ways_of spots targets) p) refine_targets (agrees p i there e)))
           where
             same : (j k : ℕ) → Some (Some j) ≡ Some (Some k) → j ≡ k
             same j k e = cc
@@ -195,10 +195,10 @@ module _ (files : Files) (spots : List Spot) (uses : ℕ) (targets : List (Optio
                 let k_is : k ≡ p = number k p (sym first ∙ ap (first_from 0 targets) is ∙ e) in omega (arith, k_is))
 
     -- when the runs of a copy were noted, its refines change items behind those before
-    pub copied : (xs : List RefineMeaning) → noted_from 0 targets (runs_of files (ways_of spots targets) aims) (all_changes files spots xs) ≡ all_changes files spots (xs ++ map (meaning_of uses targets) aims)
+    pub copied : (xs : List RefineMeaning) → noted_from 0 targets (runs_of files (ways_of spots targets) refine_targets) (all_changes files spots xs) ≡ all_changes files spots (xs ++ map (meaning_of uses targets) refine_targets)
     copied xs =
-        let runs : List (List ℕ) = runs_of files (ways_of spots targets) aims in
-        let more : List RefineMeaning = map (meaning_of uses targets) aims in
+        let runs : List (List ℕ) = runs_of files (ways_of spots targets) refine_targets in
+        let more : List RefineMeaning = map (meaning_of uses targets) refine_targets in
         let before = length-changes_from files spots xs 0 spots in
         let after = length-changes_from files spots (xs ++ more) 0 spots in
         let all = length-noted_from 0 targets runs (all_changes files spots xs) in

@@ -62,12 +62,12 @@ module _ {X : Type 0} where
 
 module _ (files : Files) (spots : List Spot) (tree : List ItemRow) where
   -- one refine more of a copy that is there
-  pub one_judged : (targets : List (Option ℕ)) (item : ℕ) (ways : List (Option Way)) (aims : List RefineTarget) (k : ℕ) (a : RefineTarget) (old one new : Option Refusal) → ways ≡ ways_of spots targets → IsThere tree item
-      → slice_get aims k ≡ Some a → IsLesser old one new → one ≡ refusal_of_code (code_at files a.refine (get_or ways a.path None)) (slice_get (rows_of files) a.refine)
-      → IsLeast (Among (map (meaning_of item targets) aims) (λ place x. IsWrong files spots tree x) k) old → IsLeast (Among (map (meaning_of item targets) aims) (λ place x. IsWrong files spots tree x) (k + 1)) new
-  one_judged targets item ways aims k a old one new alike there at lesser is before =
-      least_more (map (meaning_of item targets) aims) (λ place x. IsWrong files spots tree x) k (meaning_of item targets a) old one new
-      (slice_get-map (meaning_of item targets) aims k ∙ ap (option_map (meaning_of item targets)) at) lesser before
+  pub one_judged : (targets : List (Option ℕ)) (item : ℕ) (ways : List (Option Way)) (refine_targets : List RefineTarget) (k : ℕ) (a : RefineTarget) (old one new : Option Refusal) → ways ≡ ways_of spots targets → IsThere tree item
+      → slice_get refine_targets k ≡ Some a → IsLesser old one new → one ≡ refusal_of_code (code_at files a.refine (get_or ways a.path None)) (slice_get (rows_of files) a.refine)
+      → IsLeast (Among (map (meaning_of item targets) refine_targets) (λ place x. IsWrong files spots tree x) k) old → IsLeast (Among (map (meaning_of item targets) refine_targets) (λ place x. IsWrong files spots tree x) (k + 1)) new
+  one_judged targets item ways refine_targets k a old one new alike there at lesser is before =
+      least_more (map (meaning_of item targets) refine_targets) (λ place x. IsWrong files spots tree x) k (meaning_of item targets a) old one new
+      (slice_get-map (meaning_of item targets) refine_targets k ∙ ap (option_map (meaning_of item targets)) at) lesser before
       (subst (IsLeast (IsWrong files spots tree (meaning_of item targets a))) (sym same) (least_there files spots tree (meaning_of item targets a) targets there))
     where
       same : one ≡ refusal_of_code (code_at files a.refine (way_of_target spots targets (get_or targets a.path None))) (slice_get (rows_of files) a.refine)
@@ -75,38 +75,38 @@ module _ (files : Files) (spots : List Spot) (tree : List ItemRow) where
           ∙ ap (λ (ws : List (Option Way)). refusal_of_code (code_at files a.refine (get_or ws a.path None)) (slice_get (rows_of files) a.refine)) alike
           ∙ ap (λ w. refusal_of_code (code_at files a.refine w) (slice_get (rows_of files) a.refine)) (way_is files spots item targets a.path)
 
-  pub all_judged : (item : ℕ) (targets : List (Option ℕ)) (aims : List RefineTarget) (k : ℕ) (least : Option Refusal) → k ≡ length aims
-      → IsLeast (Among (map (meaning_of item targets) aims) (λ place x. IsWrong files spots tree x) k) least → IsLeast (BadRefines files spots (map (meaning_of item targets) aims) tree) least
-  all_judged item targets aims k least e h =
-      subst (λ n. IsLeast (Among (map (meaning_of item targets) aims) (λ place x. IsWrong files spots tree x) n) least) (e ∙ sym (length-map aims (meaning_of item targets))) h
+  pub all_judged : (item : ℕ) (targets : List (Option ℕ)) (refine_targets : List RefineTarget) (k : ℕ) (least : Option Refusal) → k ≡ length refine_targets
+      → IsLeast (Among (map (meaning_of item targets) refine_targets) (λ place x. IsWrong files spots tree x) k) least → IsLeast (BadRefines files spots (map (meaning_of item targets) refine_targets) tree) least
+  all_judged item targets refine_targets k least e h =
+      subst (λ n. IsLeast (Among (map (meaning_of item targets) refine_targets) (λ place x. IsWrong files spots tree x) n) least) (e ∙ sym (length-map refine_targets (meaning_of item targets))) h
 
   pub none_judged : (P : List RefineMeaning) → P ≡ [] → IsLeast (BadRefines files spots P tree) None
   none_judged xs e = subst (λ xs. IsLeast (BadRefines files spots xs tree) None) (sym e) (λ f h. omega (arith, h.1))
 
-  item_of : (item : ℕ) (targets : List (Option ℕ)) (aims : List RefineTarget) (k : ℕ) (x : RefineMeaning) → slice_get (map (meaning_of item targets) aims) k ≡ Some x → x.item ≡ item
+  item_of : (item : ℕ) (targets : List (Option ℕ)) (refine_targets : List RefineTarget) (k : ℕ) (x : RefineMeaning) → slice_get (map (meaning_of item targets) refine_targets) k ≡ Some x → x.item ≡ item
   item_of item targets [] k x e = absurd (let bad : None ≡ Some x = e in cc)
   item_of item targets (a ∷ as') zero x e = ap (λ (y : RefineMeaning). y.item) (sym (same_Some (meaning_of item targets a) x e))
   item_of item targets (a ∷ as') (suc k) x e = item_of item targets as' k x e
 
   -- a copy that isn't there
-  pub absent_judged : (aims : List (Vec RefineTarget Global)) (u : RefinedUses) (items : BTreeSet ℕ) → AreItems items tree → contains nat_cmp items u.item ≡ false → IsLeast (BadRefines files spots (meant_at aims u) tree) None
-  absent_judged aims u items are out = λ f h.
-      (let same = item_of u.item u.targets.items (targets_at aims u.aims) h.0 h.2 h.3 in
+  pub absent_judged : (refine_targets : List (Vec RefineTarget Global)) (u : RefinedUses) (items : BTreeSet ℕ) → AreItems items tree → contains nat_cmp items u.item ≡ false → IsLeast (BadRefines files spots (meant_at refine_targets u) tree) None
+  absent_judged refine_targets u items are out = λ f h.
+      (let same = item_of u.item u.targets.items (targets_at refine_targets u.refine_targets) h.0 h.2 h.3 in
       let bad : true ≡ false = sym (are.all u.item (subst (IsThere tree) same h.4.0)) ∙ out in cc)
 
   -- one copy more
-  pub copies_judged : (aims : List (Vec RefineTarget Global)) (us : List RefinedUses) (k : ℕ) (u : RefinedUses) (old one new : Option Refusal) → slice_get us k ≡ Some u → IsLesser old one new
-      → IsLeast (BadRefines files spots (meant_from aims (take k us)) tree) old → IsLeast (BadRefines files spots (meant_at aims u) tree) one → IsLeast (BadRefines files spots (meant_from aims (take (k + 1) us)) tree) new
-  copies_judged aims us k u old one new at lesser before now =
-      subst (λ xs. IsLeast (BadRefines files spots xs tree) new) (sym (meant_next aims us k u at)) (joined (IsWrong files spots tree) (meant_from aims (take k us)) (meant_at aims u) old one new lesser before now)
+  pub copies_judged : (refine_targets : List (Vec RefineTarget Global)) (us : List RefinedUses) (k : ℕ) (u : RefinedUses) (old one new : Option Refusal) → slice_get us k ≡ Some u → IsLesser old one new
+      → IsLeast (BadRefines files spots (meant_from refine_targets (take k us)) tree) old → IsLeast (BadRefines files spots (meant_at refine_targets u) tree) one → IsLeast (BadRefines files spots (meant_from refine_targets (take (k + 1) us)) tree) new
+  copies_judged refine_targets us k u old one new at lesser before now =
+      subst (λ xs. IsLeast (BadRefines files spots xs tree) new) (sym (meant_next refine_targets us k u at)) (joined (IsWrong files spots tree) (meant_from refine_targets (take k us)) (meant_at refine_targets u) old one new lesser before now)
 
 -- what was judged of one uses is judged now as this
-pub judged_more : (files : Files) (aims : List (Vec RefineTarget Global)) (judged : List (Option Judgement)) (place : ℕ) (j : Option Judgement) → AreJudged files aims judged → IsJudged files (targets_at aims place) j
-    → AreJudged files aims (set judged place j)
-judged_more files aims judged place j are now = record {
+pub judged_more : (files : Files) (refine_targets : List (Vec RefineTarget Global)) (judged : List (Option Judgement)) (place : ℕ) (j : Option Judgement) → AreJudged files refine_targets judged → IsJudged files (targets_at refine_targets place) j
+    → AreJudged files refine_targets (set judged place j)
+judged_more files refine_targets judged place j are now = record {
   each = length-set judged place j ∙ are.each;
   are = λ p x at. elim (written judged place p j x at) [
-    | inl here ↦ subst (λ n. IsJudged files (targets_at aims n) x) (sym here.0) (subst (IsJudged files (targets_at aims place)) here.1 now)
+    | inl here ↦ subst (λ n. IsJudged files (targets_at refine_targets n) x) (sym here.0) (subst (IsJudged files (targets_at refine_targets place)) here.1 now)
     | inr other ↦ are.are p x other
   ];
 }

@@ -72,12 +72,12 @@ module _ (files : Files) (ways : List (Option Way)) where
     not_noted h = same_from 0 ways (λ path le. sym (h path))
 
   -- one refine more
-  pub reads_more : (aims : List RefineTarget) (k i : ℕ) (x : RefineTarget) (old new : List (List ℕ)) → slice_get aims k ≡ Some x → ((path : ℕ) → is_meant path (Some i) ≡ is_run files ways path x)
-      → old ≡ runs_of files ways (take k aims) → new ≡ set old i (get_or old i [] ++ x.refine ∷ []) → new ≡ runs_of files ways (take (k + 1) aims)
-  reads_more aims k i x old new at means before now =
-      now ∙ ap (λ l. set l i (get_or l i [] ++ x.refine ∷ [])) before ∙ sym (noted (take k aims) x i means) ∙ ap (runs_of files ways) (sym (take_next aims k x at))
+  pub reads_more : (refine_targets : List RefineTarget) (k i : ℕ) (x : RefineTarget) (old new : List (List ℕ)) → slice_get refine_targets k ≡ Some x → ((path : ℕ) → is_meant path (Some i) ≡ is_run files ways path x)
+      → old ≡ runs_of files ways (take k refine_targets) → new ≡ set old i (get_or old i [] ++ x.refine ∷ []) → new ≡ runs_of files ways (take (k + 1) refine_targets)
+  reads_more refine_targets k i x old new at means before now =
+      now ∙ ap (λ l. set l i (get_or l i [] ++ x.refine ∷ [])) before ∙ sym (noted (take k refine_targets) x i means) ∙ ap (runs_of files ways) (sym (take_next refine_targets k x at))
 
-  pub reads_same : (aims : List RefineTarget) (k : ℕ) (x : RefineTarget) (old new : List (List ℕ)) → slice_get aims k ≡ Some x → ((path : ℕ) → is_meant path None ≡ is_run files ways path x)
-      → old ≡ runs_of files ways (take k aims) → new ≡ old → new ≡ runs_of files ways (take (k + 1) aims)
-  reads_same aims k x old new at means before now =
-      now ∙ before ∙ sym (not_noted (take k aims) x means) ∙ ap (runs_of files ways) (sym (take_next aims k x at))
+  pub reads_same : (refine_targets : List RefineTarget) (k : ℕ) (x : RefineTarget) (old new : List (List ℕ)) → slice_get refine_targets k ≡ Some x → ((path : ℕ) → is_meant path None ≡ is_run files ways path x)
+      → old ≡ runs_of files ways (take k refine_targets) → new ≡ old → new ≡ runs_of files ways (take (k + 1) refine_targets)
+  reads_same refine_targets k x old new at means before now =
+      now ∙ before ∙ sym (not_noted (take k refine_targets) x means) ∙ ap (runs_of files ways) (sym (take_next refine_targets k x at))

@@ -76,26 +76,26 @@ pub nothing_changes : (files : Files) (spots : List Spot) (sequences : List (Lis
 nothing_changes files spots sequences n [] = refl
 nothing_changes files spots sequences n (s ∷ ss) = ap (λ l. [] ∷ l) (nothing_changes files spots sequences (n + 1) ss)
 
-pub known_nothing : (files : Files) (aims : List RefineTarget) (k : KnownRuns) → k.ways.items ≡ [] → k.numbers.items ≡ [] → IsKnown files aims [] k
-known_nothing files aims k ways numbers =
-    subst (λ (ns : List (Option ℕ)). AreRuns [] ns (runs_of files k.ways.items aims)) (sym numbers)
-    (subst (λ ws. AreRuns [] [] (runs_of files ws aims)) (sym ways) (λ path. refl))
+pub known_nothing : (files : Files) (refine_targets : List RefineTarget) (k : KnownRuns) → k.ways.items ≡ [] → k.numbers.items ≡ [] → IsKnown files refine_targets [] k
+known_nothing files refine_targets k ways numbers =
+    subst (λ (ns : List (Option ℕ)). AreRuns [] ns (runs_of files k.ways.items refine_targets)) (sym numbers)
+    (subst (λ ws. AreRuns [] [] (runs_of files ws refine_targets)) (sym ways) (λ path. refl))
 
 -- what was known of one uses is known now as this
-pub known_more : (files : Files) (aims : List (Vec RefineTarget Global)) (old new : List (List ℕ)) (known : List KnownRuns) (place : ℕ) (k : KnownRuns) → KeepsRuns old new → AreKnown files aims old known
-    → IsKnown files (targets_at aims place) new k → AreKnown files aims new (set known place k)
-known_more files aims old new known place k keeps are now = record {
+pub known_more : (files : Files) (refine_targets : List (Vec RefineTarget Global)) (old new : List (List ℕ)) (known : List KnownRuns) (place : ℕ) (k : KnownRuns) → KeepsRuns old new → AreKnown files refine_targets old known
+    → IsKnown files (targets_at refine_targets place) new k → AreKnown files refine_targets new (set known place k)
+known_more files refine_targets old new known place k keeps are now = record {
   each = length-set known place k ∙ are.each;
   are = λ p x at. elim (written known place p k x at) [
-    | inl here ↦ subst (λ n. IsKnown files (targets_at aims n) new x) (sym here.0) (subst (IsKnown files (targets_at aims place) new) here.1 now)
-    | inr other ↦ kept_runs old new keeps x.numbers.items (runs_of files x.ways.items (targets_at aims p)) (are.are p x other)
+    | inl here ↦ subst (λ n. IsKnown files (targets_at refine_targets n) new x) (sym here.0) (subst (IsKnown files (targets_at refine_targets place) new) here.1 now)
+    | inr other ↦ kept_runs old new keeps x.numbers.items (runs_of files x.ways.items (targets_at refine_targets p)) (are.are p x other)
   ];
 }
 
 -- a copy more
-pub meant_next : (aims : List (Vec RefineTarget Global)) (us : List RefinedUses) (k : ℕ) (u : RefinedUses) → slice_get us k ≡ Some u → meant_from aims (take (k + 1) us) ≡ meant_from aims (take k us) ++ meant_at aims u
-meant_next aims us k u at = ap (meant_from aims) (take_next us k u at) ∙ meant_from_more aims (take k us) u
+pub meant_next : (refine_targets : List (Vec RefineTarget Global)) (us : List RefinedUses) (k : ℕ) (u : RefinedUses) → slice_get us k ≡ Some u → meant_from refine_targets (take (k + 1) us) ≡ meant_from refine_targets (take k us) ++ meant_at refine_targets u
+meant_next refine_targets us k u at = ap (meant_from refine_targets) (take_next us k u at) ∙ meant_from_more refine_targets (take k us) u
 
--- one whose aims aren't there means nothing
-pub nothing_meant : (aims : List (Vec RefineTarget Global)) (u : RefinedUses) → length aims ≤ u.aims → meant_at aims u ≡ []
-nothing_meant aims u past = ap (λ o. map (meaning_of u.item u.targets.items) (targets_of o)) (slice_get_past aims u.aims past)
+-- one whose refine targets aren't there means nothing
+pub nothing_meant : (refine_targets : List (Vec RefineTarget Global)) (u : RefinedUses) → length refine_targets ≤ u.refine_targets → meant_at refine_targets u ≡ []
+nothing_meant refine_targets u past = ap (λ o. map (meaning_of u.item u.targets.items) (targets_of o)) (slice_get_past refine_targets u.refine_targets past)

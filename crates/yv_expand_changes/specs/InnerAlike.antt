@@ -44,17 +44,18 @@ is_run files ways path a = is_in_run files path a.refine (slice_index_or ways a.
 
 -- the refines that change an item to which the path of this number is the first that leads
 abbrev pub run_at : Files → List (Option Way) → List RefineTarget → (path : ℕ) → List ℕ
-run_at files ways aims path = map (λ a. a.refine) (filter (is_run files ways path) aims)
+run_at files ways refine_targets path = map (λ a. a.refine) (filter
+    (is_run files ways path) refine_targets)
 
 abbrev pub runs_from : Files → List (Option Way) → List RefineTarget → (path : ℕ)
     → List (Option Way) → List (List ℕ)
-runs_from files ways aims path [] = []
-runs_from files ways aims path (w ∷ ws) =
-    run_at files ways aims path ∷ runs_from files ways aims (path + 1) ws
+runs_from files ways refine_targets path [] = []
+runs_from files ways refine_targets path (w ∷ ws) =
+    run_at files ways refine_targets path ∷ runs_from files ways refine_targets (path + 1) ws
 
 -- those for each path
 abbrev pub runs_of : Files → List (Option Way) → List RefineTarget → List (List ℕ)
-runs_of files ways aims = runs_from files ways aims 0 ways
+runs_of files ways refine_targets = runs_from files ways refine_targets 0 ways
 
 -- a run has this number; an empty one has none
 abbrev pub IsRun : (runs : List (List ℕ)) → Option ℕ → List ℕ → Type 0

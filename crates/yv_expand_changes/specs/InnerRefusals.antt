@@ -39,19 +39,19 @@ refusal_of_code (Some c) (Some r) = Some (refusal_at c r.file r.head)
 
 -- the least refusal of the refines of each copy that is there and agrees on these ways
 abbrev pub IsLeastOf : Files → List RefineTarget → List (Option Way) → Option Refusal → Type 0
-IsLeastOf files aims ways least =
+IsLeastOf files refine_targets ways least =
     (spots : List Spot) (targets : List (Option ℕ)) (tree : List ItemRow) (item : ℕ)
     → ways ≡ ways_of spots targets → IsThere tree item
-    → IsLeast (BadRefines files spots (map (meaning_of item targets) aims) tree) least
+    → IsLeast (BadRefines files spots (map (meaning_of item targets) refine_targets) tree) least
 
 -- what was judged of the refines of a uses
 abbrev pub IsJudged : Files → List RefineTarget → Option Judgement → Type 0
-IsJudged files aims None = Unit {0}
-IsJudged files aims (Some j) = IsLeastOf files aims j.ways.items j.least
+IsJudged files refine_targets None = Unit {0}
+IsJudged files refine_targets (Some j) = IsLeastOf files refine_targets j.ways.items j.least
 
 -- what was judged of those at each place
-pub record AreJudged (files : Files) (aims : List (Vec RefineTarget Global))
+pub record AreJudged (files : Files) (refine_targets : List (Vec RefineTarget Global))
     (judged : List (Option Judgement)) : Type 0 where
-  pub each : length judged ≡ length aims
+  pub each : length judged ≡ length refine_targets
   pub are : (place : ℕ) (j : Option Judgement) → slice_get judged place ≡ Some j
-      → IsJudged files (targets_at aims place) j
+      → IsJudged files (targets_at refine_targets place) j

@@ -11,11 +11,15 @@ use yv_expand_uses::Spot;
 use yv_link_scopes::Rows;
 
 // Nothing is known of so many uses.
-fn nothing_known(alloc: Global, aims: &[Vec<RefineTarget>]) -> Result<Vec<KnownRuns>, AllocError>
-    ensures { IfOk result (λ known. (files : Files) → AreKnown files aims.now [] known.items) }
+fn nothing_known(
+    alloc: Global,
+    refine_targets: &[Vec<RefineTarget>],
+) -> Result<Vec<KnownRuns>, AllocError>
+    ensures { IfOk result (λ known. (files : Files)
+        → AreKnown files refine_targets.now [] known.items) }
 {
     let mut known = Vec::new(alloc);
-    for _ in aims {
+    for _ in refine_targets {
         known.push(KnownRuns::new(alloc))?;
     }
     Ok(known)
@@ -26,31 +30,33 @@ fn note_copy(
     alloc: Global,
     rows: &Rows<'_, '_>,
     spots: &[Spot],
-    aims: &[Vec<RefineTarget>],
+    refine_targets: &[Vec<RefineTarget>],
     uses: &RefinedUses,
     known: &mut Vec<KnownRuns>,
     changes: &mut Changes,
 ) -> Result<(), AllocError>
-    requires { AreKnown (lent_in rows.now) aims.now changes.old.runs known.old.items }
+    requires { AreKnown (lent_in rows.now) refine_targets.now changes.old.runs known.old.items }
     ensures knows { OnOk result
-        (AreKnown (lent_in rows.now) aims.now changes.new.runs known.new.items) }
+        (AreKnown (lent_in rows.now) refine_targets.now changes.new.runs known.new.items) }
     ensures each { (refined : List RefineMeaning) → each changes.old
         ≡ all_changes (lent_in rows.now) spots.now refined
         → OnOk result
         (each changes.new
-        ≡ all_changes (lent_in rows.now) spots.now (refined ++ meant_at aims.now uses.now)) }
+        ≡ all_changes (lent_in rows.now) spots.now (refined
+        ++ meant_at refine_targets.now uses.now)) }
 {
-    let place = uses.aims;
-    if place >= aims.len() {
+    let place = uses.refine_targets;
+    if place >= refine_targets.len() {
         return Ok(());
     }
-    known[place].note(alloc, rows, spots, uses, &aims[place], changes)
+    known[place].note(alloc, rows, spots, uses, &refine_targets[place], changes)
 }
 
 /// Which of these refines, each at a copy of its uses, change which of the items whose spots these
 /// are: a refine changes the item that it means, if it is fit for it, and else nothing. Takes time
-/// n log n in items, in the aims of each place, and in the paths of each copy: aims are gone
-/// through again only where a copy differs from the one before it. Err only if memory runs out.
+/// n log n in items, in the refine targets of each place, and in the paths of each copy: refine
+/// targets are gone through again only where a copy differs from the one before it. Err only if
+/// memory runs out.
 pub fn changes(
     alloc: Global,
     rows: &Rows<'_, '_>,
@@ -60,11 +66,19 @@ pub fn changes(
     ensures { IfOk result
         (λ c. each c ≡ all_changes (lent_in rows.now) spots.now (all_meant refinements.now)) }
 {
-    let aims = refinements.aims.as_slice();
+    let refine_targets = refinements.refine_targets.as_slice();
     let mut changes = Changes::none(alloc, spots.len())?;
-    let mut known = nothing_known(alloc, aims)?;
+    let mut known = nothing_known(alloc, refine_targets)?;
     for uses in &refinements.uses {
-        note_copy(alloc, rows, spots, aims, uses, &mut known, &mut changes)?;
+        note_copy(
+            alloc,
+            rows,
+            spots,
+            refine_targets,
+            uses,
+            &mut known,
+            &mut changes,
+        )?;
     }
     Ok(changes)
 }

@@ -100,11 +100,12 @@ impl KnownRuns {
         alloc: Global,
         rows: &Rows<'_, '_>,
         ways: Vec<Option<Way>>,
-        aims: &[RefineTarget],
+        refine_targets: &[RefineTarget],
         changes: &mut Changes,
     ) -> Result<(), AllocError>
-        ensures knows { IsKnown (lent_in rows.now) aims.now changes.old.runs self.old
-            → OnOk result (IsKnown (lent_in rows.now) aims.now changes.new.runs self.new) }
+        ensures knows { IsKnown (lent_in rows.now) refine_targets.now changes.old.runs self.old
+            → OnOk result (IsKnown
+            (lent_in rows.now) refine_targets.now changes.new.runs self.new) }
         ensures ways { OnOk result (self.new.ways.items ≡ ways.items) }
         ensures each { OnOk result (each changes.new ≡ each changes.old) }
         ensures runs { OnOk result (KeepsRuns changes.old.runs changes.new.runs) }
@@ -112,7 +113,7 @@ impl KnownRuns {
         if is_same(&self.ways, &ways) {
             return Ok(());
         }
-        let runs = read_runs(alloc, rows, &ways, aims)?;
+        let runs = read_runs(alloc, rows, &ways, refine_targets)?;
         let numbers = keep_all(alloc, changes, runs)?;
         *self = KnownRuns { ways, numbers };
         Ok(())
@@ -126,20 +127,21 @@ impl KnownRuns {
         rows: &Rows<'_, '_>,
         spots: &[Spot],
         uses: &RefinedUses,
-        aims: &[RefineTarget],
+        refine_targets: &[RefineTarget],
         changes: &mut Changes,
     ) -> Result<(), AllocError>
-        ensures knows { IsKnown (lent_in rows.now) aims.now changes.old.runs self.old
-            → OnOk result (IsKnown (lent_in rows.now) aims.now changes.new.runs self.new) }
+        ensures knows { IsKnown (lent_in rows.now) refine_targets.now changes.old.runs self.old
+            → OnOk result (IsKnown
+            (lent_in rows.now) refine_targets.now changes.new.runs self.new) }
         ensures each { (refined : List RefineMeaning)
-            → IsKnown (lent_in rows.now) aims.now changes.old.runs self.old
+            → IsKnown (lent_in rows.now) refine_targets.now changes.old.runs self.old
             → each changes.old ≡ all_changes (lent_in rows.now) spots.now refined
             → OnOk result (each changes.new ≡ all_changes (lent_in rows.now) spots.now
-            (refined ++ map (meaning_of uses.now.item uses.now.targets.items) aims.now)) }
+            (refined ++ map (meaning_of uses.now.item uses.now.targets.items) refine_targets.now)) }
         ensures runs { OnOk result (KeepsRuns changes.old.runs changes.new.runs) }
     {
         let ways = read_ways(alloc, spots, &uses.targets)?;
-        self.learn(alloc, rows, ways, aims, changes)?;
+        self.learn(alloc, rows, ways, refine_targets, changes)?;
         note_all(changes, &uses.targets, &self.numbers)
     }
 }

@@ -138,25 +138,28 @@ impl ItemProperties {
     /// What is known of items, by what their statements say.
     pub fn of(alloc: Global, said: &[StatedProperties]) -> Result<ItemProperties, AllocError>
         // For each item whether it is mandatory by itself.
-        ensures mandatory { IfOk result (λ told. told.mandatory.items ≡ map is_mandatory said.now) }
+        ensures mandatory { IfOk result (λ properties. properties.mandatory.items
+            ≡ map is_mandatory said.now) }
         // For each whether it has a presence.
         ensures presence { IfOk result
-            (λ told. told.presence.items ≡ map (λ (s : StatedProperties). s.presence) said.now) }
+            (λ properties. properties.presence.items ≡ map (λ
+            (s : StatedProperties). s.presence) said.now) }
         // For each what it states of its configuration.
         ensures config { IfOk result
-            (λ told. told.config.items ≡ map (λ (s : StatedProperties). s.config) said.now) }
+            (λ properties. properties.config.items ≡ map (λ
+            (s : StatedProperties). s.config) said.now) }
     {
-        let mut told = ItemProperties {
+        let mut properties = ItemProperties {
             mandatory: Vec::with_capacity(alloc, said.len())?,
             presence: Vec::with_capacity(alloc, said.len())?,
             config: Vec::with_capacity(alloc, said.len())?,
         };
         for stated in said {
-            told.mandatory.push(stated.is_mandatory())?;
-            told.presence.push(stated.presence)?;
-            told.config.push(stated.config)?;
+            properties.mandatory.push(stated.is_mandatory())?;
+            properties.presence.push(stated.presence)?;
+            properties.config.push(stated.config)?;
         }
-        Ok(told)
+        Ok(properties)
     }
 
     /// The same as marks that are lent.

@@ -53,24 +53,29 @@ fn refusal(rows: &Rows<'_, '_>, code: Option<Code>, number: usize) -> Option<Ref
 fn refusal_of_refine(
     rows: &Rows<'_, '_>,
     ways: &[Option<Way>],
-    aim: RefineTarget,
+    refine_target: RefineTarget,
 ) -> Option<Refusal>
     ensures { result
         ≡ refusal_of_code
-        (code_at (lent_in rows.now) aim.refine (slice_index_or ways.now aim.path None))
-        (slice_get (rows_in rows.now) aim.refine) }
+        (code_at (lent_in rows.now) refine_target.refine
+        (slice_index_or ways.now refine_target.path None))
+        (slice_get (rows_in rows.now) refine_target.refine) }
 {
-    let code = code_at(rows, way_at(ways, aim.path), aim.refine);
-    refusal(rows, code, aim.refine)
+    let code = code_at(rows, way_at(ways, refine_target.path), refine_target.refine);
+    refusal(rows, code, refine_target.refine)
 }
 
 // The least refusal of the refines of a copy.
-fn least_of(rows: &Rows<'_, '_>, ways: &[Option<Way>], aims: &[RefineTarget]) -> Option<Refusal>
-    ensures { IsLeastOf (lent_in rows.now) aims.now ways.now result }
+fn least_of(
+    rows: &Rows<'_, '_>,
+    ways: &[Option<Way>],
+    refine_targets: &[RefineTarget],
+) -> Option<Refusal>
+    ensures { IsLeastOf (lent_in rows.now) refine_targets.now ways.now result }
 {
     let mut least = None;
-    for aim in aims {
-        least = lesser(least, refusal_of_refine(rows, ways, *aim));
+    for refine_target in refine_targets {
+        least = lesser(least, refusal_of_refine(rows, ways, *refine_target));
     }
     least
 }
@@ -85,12 +90,13 @@ pub(crate) struct Judgement {
 // Nothing was judged of so many uses.
 fn nothing_judged(
     alloc: Global,
-    aims: &[Vec<RefineTarget>],
+    refine_targets: &[Vec<RefineTarget>],
 ) -> Result<Vec<Option<Judgement>>, AllocError>
-    ensures { IfOk result (λ judged. (files : Files) → AreJudged files aims.now judged.items) }
+    ensures { IfOk result (λ judged. (files : Files)
+        → AreJudged files refine_targets.now judged.items) }
 {
     let mut judged = Vec::new(alloc);
-    for _ in aims {
+    for _ in refine_targets {
         judged.push(None)?;
     }
     Ok(judged)
@@ -98,8 +104,9 @@ fn nothing_judged(
 
 // The least refusal of copies that agree on these ways, if such were judged.
 fn known_refusal(judged: &Option<Judgement>, ways: &[Option<Way>]) -> Option<Option<Refusal>>
-    ensures { (files : Files) (aims : List RefineTarget) → IsJudged files aims judged.now
-        → IfSome result (IsLeastOf files aims ways.now) }
+    ensures { (files : Files) (refine_targets : List RefineTarget)
+        → IsJudged files refine_targets judged.now
+        → IfSome result (IsLeastOf files refine_targets ways.now) }
 {
     match judged {
         Some(judged) if is_same(&judged.ways, ways) => Some(judged.least),
@@ -113,20 +120,21 @@ fn judge(
     rows: &Rows<'_, '_>,
     spots: &[Spot],
     uses: &RefinedUses,
-    aims: &[RefineTarget],
+    refine_targets: &[RefineTarget],
     judged: &mut Option<Judgement>,
 ) -> Result<Option<Refusal>, AllocError>
-    ensures judges { IsJudged (lent_in rows.now) aims.now judged.old
-        → OnOk result (IsJudged (lent_in rows.now) aims.now judged.new) }
-    ensures least { IsJudged (lent_in rows.now) aims.now judged.old
+    ensures judges { IsJudged (lent_in rows.now) refine_targets.now judged.old
+        → OnOk result (IsJudged (lent_in rows.now) refine_targets.now judged.new) }
+    ensures least { IsJudged (lent_in rows.now) refine_targets.now judged.old
         → IfOk result
-        (IsLeastOf (lent_in rows.now) aims.now (ways_of spots.now uses.now.targets.items)) }
+        (IsLeastOf (lent_in rows.now) refine_targets.now
+        (ways_of spots.now uses.now.targets.items)) }
 {
     let ways = read_ways(alloc, spots, &uses.targets)?;
     if let Some(least) = known_refusal(judged, &ways) {
         return Ok(least);
     }
-    let least = least_of(rows, &ways, aims);
+    let least = least_of(rows, &ways, refine_targets);
     *judged = Some(Judgement { ways, least });
     Ok(least)
 }
@@ -137,27 +145,36 @@ fn wrong(
     rows: &Rows<'_, '_>,
     spots: &[Spot],
     items: &BTreeSet<usize>,
-    aims: &[Vec<RefineTarget>],
+    refine_targets: &[Vec<RefineTarget>],
     uses: &RefinedUses,
     judged: &mut Vec<Option<Judgement>>,
 ) -> Result<Option<Refusal>, AllocError>
-    requires { AreJudged (lent_in rows.now) aims.now judged.old.items }
-    ensures judges { OnOk result (AreJudged (lent_in rows.now) aims.now judged.new.items) }
+    requires { AreJudged (lent_in rows.now) refine_targets.now judged.old.items }
+    ensures judges { OnOk result (AreJudged
+        (lent_in rows.now) refine_targets.now judged.new.items) }
     ensures least { (tree : List ItemRow) → AreItems items.now tree
         → IfOk result
-        (IsLeast (BadRefines (lent_in rows.now) spots.now (meant_at aims.now uses.now) tree)) }
+        (IsLeast (BadRefines (lent_in rows.now) spots.now
+        (meant_at refine_targets.now uses.now) tree)) }
 {
-    let place = uses.aims;
-    if place >= aims.len() || !items.contains(&uses.item) {
+    let place = uses.refine_targets;
+    if place >= refine_targets.len() || !items.contains(&uses.item) {
         return Ok(None);
     }
-    judge(alloc, rows, spots, uses, &aims[place], &mut judged[place])
+    judge(
+        alloc,
+        rows,
+        spots,
+        uses,
+        &refine_targets[place],
+        &mut judged[place],
+    )
 }
 
 /// The least `RefineTarget` or `BadRefine` of these refines, each at a copy of its uses, where that
 /// is one of the items of the final tree: a refine means no item, or isn't fit for the one that it
-/// means. Takes time n log n in items, in the aims of each place, and in the paths of each copy:
-/// aims are judged again only where a copy isn't like the one before it.
+/// means. Takes time n log n in items, in the refine targets of each place, and in the paths of
+/// each copy: refine targets are judged again only where a copy isn't like the one before it.
 pub fn first_wrong(
     alloc: Global,
     rows: &Rows<'_, '_>,
@@ -172,12 +189,20 @@ pub fn first_wrong(
     if refinements.uses.as_slice().is_empty() {
         return Ok(None);
     }
-    let aims = refinements.aims.as_slice();
+    let refine_targets = refinements.refine_targets.as_slice();
     let items = items_of(alloc, tree)?;
-    let mut judged = nothing_judged(alloc, aims)?;
+    let mut judged = nothing_judged(alloc, refine_targets)?;
     let mut least = None;
     for uses in &refinements.uses {
-        let wrong = wrong(alloc, rows, spots, &items, aims, uses, &mut judged)?;
+        let wrong = wrong(
+            alloc,
+            rows,
+            spots,
+            &items,
+            refine_targets,
+            uses,
+            &mut judged,
+        )?;
         least = lesser(least, wrong);
     }
     Ok(least)

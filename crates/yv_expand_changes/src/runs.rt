@@ -9,7 +9,7 @@ use std::alloc::{AllocError, Global};
 use yv_expand_refines::RefineTarget;
 use yv_link_scopes::Rows;
 
-/// Where the path of an aim leads at a copy.
+/// Where the path of a refine target leads at a copy.
 pub(crate) fn way_at(ways: &[Option<Way>], path: usize) -> Option<Way>
     ensures { result ≡ slice_index_or ways.now path None }
 {
@@ -42,11 +42,16 @@ fn push_at(runs: &mut Vec<Vec<usize>>, path: usize, refine: usize) -> Result<(),
 }
 
 // The first path that leads to the item that a refine changes, if it changes one.
-fn changed_path(rows: &Rows<'_, '_>, ways: &[Option<Way>], aim: RefineTarget) -> Option<usize>
-    ensures { (path : ℕ) → is_meant path result ≡ is_run (lent_in rows.now) ways.now path aim }
+fn changed_path(
+    rows: &Rows<'_, '_>,
+    ways: &[Option<Way>],
+    refine_target: RefineTarget,
+) -> Option<usize>
+    ensures { (path : ℕ) → is_meant path result ≡ is_run
+        (lent_in rows.now) ways.now path refine_target }
 {
-    let way = way_at(ways, aim.path)?;
-    if is_fit_at(rows, way.statement, aim.refine) {
+    let way = way_at(ways, refine_target.path)?;
+    if is_fit_at(rows, way.statement, refine_target.refine) {
         way.first
     } else {
         None
@@ -59,15 +64,15 @@ pub(crate) fn read_runs(
     alloc: Global,
     rows: &Rows<'_, '_>,
     ways: &[Option<Way>],
-    aims: &[RefineTarget],
+    refine_targets: &[RefineTarget],
 ) -> Result<Vec<Vec<usize>>, AllocError>
     ensures { IfOk result
-        (λ runs. lists_of runs.items ≡ runs_of (lent_in rows.now) ways.now aims.now) }
+        (λ runs. lists_of runs.items ≡ runs_of (lent_in rows.now) ways.now refine_targets.now) }
 {
     let mut runs = no_runs(alloc, ways.len())?;
-    for aim in aims {
-        if let Some(path) = changed_path(rows, ways, *aim) {
-            push_at(&mut runs, path, aim.refine)?;
+    for refine_target in refine_targets {
+        if let Some(path) = changed_path(rows, ways, *refine_target) {
+            push_at(&mut runs, path, refine_target.refine)?;
         }
     }
     Ok(runs)

@@ -96,14 +96,14 @@ module _ (files : Files) (marks : List Bool) (order : List ℕ) (own : ℕ) (ite
           | inl x ↦
               let r = own_known.0 x in
               (r.0, (final w_here items new t r.0 refl grafted tree).1 (inl (subst (λ (s : State). Under s.groups 0 r.0) (sym start) r.1)), r.2)
-          | inr (k, (less, (i, aims)), (a, module_file, made, at, module_file_is, G, x)) ↦
+          | inr (k, (less, (i, refine_targets)), (a, module_file, made, at, module_file_is, G, x)) ↦
               let r = (in_block k made less (a, module_file, at, module_file_is, G) e of).0 x in (
                 r.0,
                 (final w_here items new t r.0 refl grafted tree).1 (inr (record {
                   place = k;
                   less = less;
                   target = i;
-                  adds = aims;
+                  adds = refine_targets;
                   stands = subst (λ (s : State). Under s.groups (group_of_augment labels_here k) r.0) (sym start) r.1;
                 })),
                 r.2,

@@ -176,6 +176,6 @@ copies_give stand room many enters stays turned_law applied below one within par
     let once : StandOnce (length items) st.groups = once_of stand w items st long g in
     let same : group_under row.parent ≡ given_group labels st.ends number =
     one st.groups (length items) row.number (group_under row.parent) (given_group labels st.ends number) once (below labels st.groups k row t is at) last in
-    let (p, up, aims) = below_target (length labels) number row.parent (target_of labels st.ends number)
+    let (p, up, refine_targets) = below_target (length labels) number row.parent (target_of labels st.ends number)
     (λ q parent. (let b = above_within within parents labels st.groups (length items) k q row t is once at parent in omega (arith, b, whole, long))) same in
-    (p, up, sym (ends_there w items st i place a s long g at_s uses_is at_a gives) ∙ aims)
+    (p, up, sym (ends_there w items st i place a s long g at_s uses_is at_a gives) ∙ refine_targets)

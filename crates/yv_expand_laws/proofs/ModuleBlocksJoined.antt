@@ -67,8 +67,8 @@ module_blocks_are_one files one_meant choice f its m r sound roots final tells E
           (a, at_there augments k a at, (known k a at).1 u.target u.adds kind, row, found, is)),
       (λ (a, there, refused, row, found, is).
           let k = contains_at augments a there in
-          let (i, aims, kind) = (known k.0 a k.1).0 refused in
-          let few = target_within labels _ i aims in
+          let (i, refine_targets, kind) = (known k.0 a k.1).0 refused in
+          let few = target_within labels _ i refine_targets in
           let t = there_is spots i (let long = map_length (λ (z : Spot). z.label) spots in omega (arith, few, long)) in
           subst By (sym final.augments) (
             k.0,
@@ -78,7 +78,7 @@ module_blocks_are_one files one_meant choice f its m r sound roots final tells E
             (
               record {
                 target = i;
-                adds = aims;
+                adds = refine_targets;
                 node = t.0;
                 target_at = t.1;
                 untaken = ap (λ (z : StatementKind). takes_block (rows_of files) a z) (sym (tells.told.kind i t.0 t.1)) ∙ kind;

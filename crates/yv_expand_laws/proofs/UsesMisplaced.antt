@@ -232,8 +232,8 @@ module _ (files : Files) (marks : List Bool) (order : List ℕ) (own : ℕ) (ite
       let last : IsIn z (given_group labels st.ends c) st.groups =
       follows_laid laws.room laws.many laws.enters laws.stays laws.given_turned laws.given_applied w items st z c g refl grafted x.at_item fits
       (λ j v le at_j. later j v (omega (arith, first, le)) at_j) x.group in
-      let aims : target_of labels st.ends c ≡ Some target = ends_there w items st i place a s refl grafted x.at x.of_uses x.there x.gives ∙ reaches in
-      subst (λ (m : ℕ). IsIn z m st.groups) (ap (group_of_target (group_of_augment labels c)) aims) last
+      let refine_targets : target_of labels st.ends c ≡ Some target = ends_there w items st i place a s refl grafted x.at x.of_uses x.there x.gives ∙ reaches in
+      subst (λ (m : ℕ). IsIn z m st.groups) (ap (group_of_target (group_of_augment labels c)) refine_targets) last
 
   -- so it is in the tree with the uses
   item_there : (i place a z target : ℕ) (s g : Spot) → GivesItem i place a s z g → Reaches i place a s target → IsThere placed i → IsThere placed z

@@ -543,8 +543,8 @@ module _ (files : Files) (marks : List Bool) (order : List ℕ) (own : ℕ) (ite
         (λ h. elim (wrongs.to e of h) [ inl x ↦ inl x | inr (k, x, y) ↦ inr (k, (slice_get_within augments k y.0 y.3, (let to = all_added_to R k x in let r = ts.2 k to.0 to.1 in (r.0, r.1))), y) ]),
         (λ h. wrongs.from e of (elim h [
           | inl x ↦ inl x
-          | inr (k, (less, (i, aims)), y) ↦ elim (rounds_sort R k (place_in paths k (let e = many_paths in omega (arith, less, e)))) [
-            | inl missed ↦ absurd (not_none (sym (ts.0 k missed) ∙ aims))
+          | inr (k, (less, (i, refine_targets)), y) ↦ elim (rounds_sort R k (place_in paths k (let e = many_paths in omega (arith, less, e)))) [
+            | inl missed ↦ absurd (not_none (sym (ts.0 k missed) ∙ refine_targets))
             | inr added ↦ inr (k, added, y)
           ]
         ])),
@@ -552,14 +552,14 @@ module _ (files : Files) (marks : List Bool) (order : List ℕ) (own : ℕ) (ite
 
   -- the block of an augment that adds to an item gives something
   pub applied_gives : (m : Product) (new : State) → Expand files marks order m → AreAugmented w items new → (k : ℕ) → IsApplied new k → (f : Forest) × block k f
-  applied_gives m new E grafted k (less, (i, aims)) =
+  applied_gives m new E grafted k (less, (i, refine_targets)) =
       let at = at_places (λ b. path_in w (own_module_file w.files (slice_get w.rows b)) b) 0 augments (λ j. ap (slice_get augments) (let e : j ≡ 0 + j = omega arith in e)) in
       let R = rounds_on E.rounds (places_from 0 paths) at in
       let ts = targets_of labels its (labels_tell w items its tells.told) (giver_of w items) givers number path block first last paths places st new (between E.own E.tops)
       (all_wait st 0 paths (λ j l h. none_yet j (let e = many_paths in omega (arith, h, e)))) R
       (subst (λ s. AreApplied labels 0 paths s new) (start_is files marks order own items its given expanded tells one_meant) grafted.applied) in
       elim (rounds_sort R k (place_in paths k (let e = many_paths in omega (arith, less, e)))) [
-        | inl missed ↦ absurd (not_none (sym (ts.0 k missed) ∙ aims))
+        | inl missed ↦ absurd (not_none (sym (ts.0 k missed) ∙ refine_targets))
         | inr added ↦ all_added_give R k added
       ]
 
@@ -816,12 +816,12 @@ module _ (files : Files) (marks : List Bool) (order : List ℕ) (own : ℕ) (ite
               | inl x ↦ absurd (near k a is (own_far a x))
               | inr (g, x, y) ↦ (let r = ts.2 k g x in (r.0, r.1, ap (λ (z : Node). takes_block rows a z.kind) (sym r.2) ∙ y))
             ]),
-            (λ i aims untaken. elim (rounds_sort R k (place_in paths k (let less = slice_get_within augments k a is in let e = many_paths in omega (arith, less, e)))) [
-              | inl missed ↦ absurd (not_none (sym (ts.0 k missed) ∙ aims))
+            (λ i refine_targets untaken. elim (rounds_sort R k (place_in paths k (let less = slice_get_within augments k a is in let e = many_paths in omega (arith, less, e)))) [
+              | inl missed ↦ absurd (not_none (sym (ts.0 k missed) ∙ refine_targets))
               | inr added ↦
                   let to = all_added_to R k added in
                   let r = ts.2 k to.0 to.1 in
-                  let same : r.0 ≡ i = same_Some r.0 i (sym r.1 ∙ aims) in
+                  let same : r.0 ≡ i = same_Some r.0 i (sym r.1 ∙ refine_targets) in
                   wrongs.from k a is (inr (to.0, to.1, ap (λ (z : Node). takes_block rows a z.kind) r.2 ∙ (ap (λ (n : ℕ). takes_block rows a (its.node_of n).kind) same ∙ untaken)))
             ]),
           )

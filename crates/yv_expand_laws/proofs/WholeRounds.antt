@@ -390,11 +390,11 @@ module _ (labels : List Label) (its : Items) (are : AreLabels labels its) (giver
         none_went = λ e. same_then k names others st same ∙ w.none_went e;
         some_went = λ l. any_then k names others st same (w.some_went l);
       }
-  first_went k names others after here l later st m (waiting_here {waiting = waiting} isnt more) b (adds {still = still} {b = f} {below = below} {there = there} {target = aim} gives hits R) =
+  first_went k names others after here l later st m (waiting_here {waiting = waiting} isnt more) b (adds {still = still} {b = f} {below = below} {there = there} {target = refine_target} gives hits R) =
       let done = round_takes labels its are k names (path k) st m there _ (awaits k st m l isnt b) (places.agree k names here) hits.0 in
       done_then k names others st waiting still after isnt done
       (later (turn labels k 0 (length labels) names st) there waiting still (waiting_then labels k 0 (length labels) names st (k + 1) others waiting (omega arith) more)
-      (added_between k names st m f below there aim l here isnt gives hits b) R)
+      (added_between k names st m f below there refine_target l here isnt gives hits b) R)
   first_went k names others after here l later st m (waiting_here {waiting = waiting} isnt more) b (without_target {still = still} {there = there} {e = e} leads misses R) =
       let waits_now = awaits k st m l isnt b in
       let done = round_takes labels its are k names (path k) st m there e waits_now (places.agree k names here) leads in
@@ -510,14 +510,14 @@ module _ (labels : List Label) (its : Items) (are : AreLabels labels its) (giver
   first_aimed k names others after here l later st m {still = still} (was_applied {waiting = waiting} is more) b R =
       subst (λ s. Aimed s waiting still (missed_of R) (λ j g. AddsTo R j g)) (sym (same_then k names others st (applied_still labels k 0 (length labels) names st is)))
       (later st m waiting still more b R)
-  first_aimed k names others after here l later st m (waiting_here {waiting = waiting} isnt more) b (adds {still = still} {b = f} {below = below} {there = there} {target = aim} gives hits R) =
+  first_aimed k names others after here l later st m (waiting_here {waiting = waiting} isnt more) b (adds {still = still} {b = f} {below = below} {there = there} {target = refine_target} gives hits R) =
       let s = places.steps k names here in
       let agree = subst (λ z. Agree labels its z (path k)) s.2 (places.agree k names here) in
-      let aimed = hit_target labels its are k s.0 s.1 (path k) st m (awaits k st m l isnt b) agree aim below (insert (number k) f below) there hits in
+      let aimed = hit_target labels its are k s.0 s.1 (path k) st m (awaits k st m l isnt b) agree refine_target below (insert (number k) f below) there hits in
       let here_now = subst (λ z. target_of labels (turn labels k 0 (length labels) z st).ends k ≡ Some aimed.0) (sym s.2) aimed.1 in
       let now : State = turn labels k 0 (length labels) names st in
       let w = later now there waiting still (waiting_then labels k 0 (length labels) names st (k + 1) others waiting (omega arith) more)
-      (added_between k names st m f below there aim l here isnt gives hits b) R in
+      (added_between k names st m f below there refine_target l here isnt gives hits b) R in
       let at_end = settled_later k others now (applied_target now k aimed.0 here_now) in
       record {
         none_there = w.none_there;

@@ -13,29 +13,34 @@ pub record RefineMeaning : Type 0 where
   pub refine : ℕ
   pub target : Option ℕ
 
--- what an aim means at a copy, where the different paths lead to these items
+-- what a refine target means at a copy, where the different paths lead to these items
 abbrev pub meaning_of : (item : ℕ) → List (Option ℕ) → RefineTarget → RefineMeaning
-meaning_of item targets aim =
-    record { item = item; refine = aim.refine; target = slice_index_or targets aim.path None }
+meaning_of item targets refine_target =
+    record {
+      item = item;
+      refine = refine_target.refine;
+      target = slice_index_or targets refine_target.path None;
+    }
 
 -- the refines of a `uses` with their paths, where it has some
 abbrev pub targets_of : Option (Vec RefineTarget Global) → List RefineTarget
 targets_of None = []
-targets_of (Some aims) = aims.items
+targets_of (Some refine_targets) = refine_targets.items
 
--- the aims of a place; none past the last
+-- the refine targets of a place; none past the last
 abbrev pub targets_at : List (Vec RefineTarget Global) → (place : ℕ) → List RefineTarget
-targets_at aims place = targets_of (slice_get aims place)
+targets_at refine_targets place = targets_of (slice_get refine_targets place)
 
 -- what the refines of a uses mean at a copy
 abbrev pub meant_at : List (Vec RefineTarget Global) → RefinedUses → List RefineMeaning
-meant_at aims u = map (meaning_of u.item u.targets.items) (targets_at aims u.aims)
+meant_at refine_targets u = map (meaning_of u.item u.targets.items)
+    (targets_at refine_targets u.refine_targets)
 
 -- what those of some copies mean, one copy after the other
 abbrev pub meant_from : List (Vec RefineTarget Global) → List RefinedUses → List RefineMeaning
-meant_from aims [] = []
-meant_from aims (u ∷ us) = meant_at aims u ++ meant_from aims us
+meant_from refine_targets [] = []
+meant_from refine_targets (u ∷ us) = meant_at refine_targets u ++ meant_from refine_targets us
 
 -- what all refines mean
 abbrev pub all_meant : Refinements → List RefineMeaning
-all_meant r = meant_from r.aims.items r.uses.items
+all_meant r = meant_from r.refine_targets.items r.uses.items

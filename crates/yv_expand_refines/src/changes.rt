@@ -25,7 +25,8 @@ impl Model for Changes {
 
     ghost view = { λ c. record {
       runs = map (λ (v : Vec ℕ Global). v.items) c.runs.items;
-      sequences = sequences_of (map (λ (v : Vec ℕ Global). v.items) c.runs.items) c.joints.made.items;
+      sequences = sequences_of (map (λ
+          (v : Vec ℕ Global). v.items) c.runs.items) c.joints.made.items;
       of = places_in c.of;
     } };
 

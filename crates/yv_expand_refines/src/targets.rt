@@ -14,19 +14,19 @@ pub struct RefineTarget {
 pub struct RefinedUses {
     /// The number of the item that the `uses` is.
     pub item: usize,
-    /// The place of its aims.
-    pub aims: usize,
+    /// The place of its refine targets.
+    pub refine_targets: usize,
     /// For each different path of its refines the number of the item to which it leads, if there is
     /// one.
     pub targets: Vec<Option<usize>>,
 }
 
 /// What refines mean at the copies of their `uses`: copies of one `uses` in one module share their
-/// aims.
+/// refine targets.
 #[derive(Drop)]
 pub struct Refinements {
     /// The refines of a `uses`, in order, at each place.
-    pub aims: Vec<Vec<RefineTarget>>,
+    pub refine_targets: Vec<Vec<RefineTarget>>,
     /// The copies that refine, in the order in which they do.
     pub uses: Vec<RefinedUses>,
 }

@@ -108,13 +108,13 @@ still_lead labels k e st before after gone closed keeps updates =
     record { closed = now; lead = λ names ends are. trail_kept labels own old new before after names ends displaces updates.grow are }
 
 -- the first of the augments had their turns, and so far the paths were followed
-pub record Resumes (labels : List Label) (first : ℕ) (paths : List (List ℕ)) (st : State) (i : ℕ) (any : Bool) (waiting : PathProgress) (grafting : Augmentation) : Type 0 where
-  pub going : Going labels first paths st i any grafting
+pub record Resumes (labels : List Label) (first : ℕ) (paths : List (List ℕ)) (st : State) (i : ℕ) (any : Bool) (waiting : PathProgress) (augmentation : Augmentation) : Type 0 where
+  pub going : Going labels first paths st i any augmentation
   pub wait : AreWaiting labels going.now.groups paths waiting
 
-pub resumes_none : (labels : List Label) (first : ℕ) (paths : List (List ℕ)) (st : State) (waiting : PathProgress) (grafting : Augmentation) → IsAugmentation labels st grafting
-    → AreWaiting labels st.groups paths waiting → Resumes labels first paths st 0 false waiting grafting
-resumes_none labels first paths st waiting grafting is are = record { going = going_none labels first paths st grafting is; wait = are }
+pub resumes_none : (labels : List Label) (first : ℕ) (paths : List (List ℕ)) (st : State) (waiting : PathProgress) (augmentation : Augmentation) → IsAugmentation labels st augmentation
+    → AreWaiting labels st.groups paths waiting → Resumes labels first paths st 0 false waiting augmentation
+resumes_none labels first paths st waiting augmentation is are = record { going = going_none labels first paths st augmentation is; wait = are }
 
 or_if : (a b : Bool) → (if b then true else a) ≡ (a || b)
 or_if true true = refl
@@ -165,27 +165,27 @@ fewer_or false true new old whole e l = omega (arith, e, l)
 fewer_or false false new old whole e l = omega (arith, e, l)
 
 -- all had their turns
-pub resumes_all : (labels : List Label) (first : ℕ) (paths : List (List ℕ)) (st : State) (i : ℕ) (any : Bool) (waiting : PathProgress) (grafting : Augmentation)
-    → length paths ≤ i → Resumes labels first paths st i any waiting grafting
-    → IsAugmentation labels (round labels first paths st) grafting × (any ≡ is_any labels first paths st)
-resumes_all labels first paths st i any waiting grafting past r = going_all labels first paths st i any grafting past r.going
+pub resumes_all : (labels : List Label) (first : ℕ) (paths : List (List ℕ)) (st : State) (i : ℕ) (any : Bool) (waiting : PathProgress) (augmentation : Augmentation)
+    → length paths ≤ i → Resumes labels first paths st i any waiting augmentation
+    → IsAugmentation labels (round labels first paths st) augmentation × (any ≡ is_any labels first paths st)
+resumes_all labels first paths st i any waiting augmentation past r = going_all labels first paths st i any augmentation past r.going
 
-pub resumes_waiting : (labels : List Label) (first : ℕ) (paths : List (List ℕ)) (st : State) (i : ℕ) (any : Bool) (waiting : PathProgress) (grafting : Augmentation)
-    → length paths ≤ i → Resumes labels first paths st i any waiting grafting → AreWaiting labels (round labels first paths st).groups paths waiting
-resumes_waiting labels first paths st i any waiting grafting past r =
+pub resumes_waiting : (labels : List Label) (first : ℕ) (paths : List (List ℕ)) (st : State) (i : ℕ) (any : Bool) (waiting : PathProgress) (augmentation : Augmentation)
+    → length paths ≤ i → Resumes labels first paths st i any waiting augmentation → AreWaiting labels (round labels first paths st).groups paths waiting
+resumes_waiting labels first paths st i any waiting augmentation past r =
     let done : drop i paths ≡ [] = drop_all i paths past in
     let same : r.going.now ≡ round labels first paths st = ap (λ l. round labels (first + i) l r.going.now) (sym done) ∙ r.going.goes in
     subst (λ (s : State). AreWaiting labels s.groups paths waiting) same r.wait
 
 -- so many rounds were made, and so far the paths were followed
-pub record Runs (labels : List Label) (first : ℕ) (paths : List (List ℕ)) (st : State) (waiting : PathProgress) (grafting : Augmentation) : Type 0 where
+pub record Runs (labels : List Label) (first : ℕ) (paths : List (List ℕ)) (st : State) (waiting : PathProgress) (augmentation : Augmentation) : Type 0 where
   pub count : ℕ
-  pub is : IsAugmentation labels (rounds labels first paths count st) grafting
+  pub is : IsAugmentation labels (rounds labels first paths count st) augmentation
   pub wait : AreWaiting labels (rounds labels first paths count st).groups paths waiting
 
-pub runs_none : (labels : List Label) (first : ℕ) (paths : List (List ℕ)) (st : State) (waiting : PathProgress) (grafting : Augmentation) → IsAugmentation labels st grafting
-    → AreWaiting labels st.groups paths waiting → Runs labels first paths st waiting grafting
-runs_none labels first paths st waiting grafting is are = record { count = 0; is = is; wait = are }
+pub runs_none : (labels : List Label) (first : ℕ) (paths : List (List ℕ)) (st : State) (waiting : PathProgress) (augmentation : Augmentation) → IsAugmentation labels st augmentation
+    → AreWaiting labels st.groups paths waiting → Runs labels first paths st waiting augmentation
+runs_none labels first paths st waiting augmentation is are = record { count = 0; is = is; wait = are }
 
 pub runs_more : (labels : List Label) (first : ℕ) (paths : List (List ℕ)) (st : State) (before after : PathProgress) (old new : Augmentation)
     → (r : Runs labels first paths st before old) → IsAugmentation labels (round labels first paths (rounds labels first paths r.count st)) new

@@ -55,15 +55,15 @@ idle_round labels k (names ∷ others) st e =
     idle_round labels (k + 1) others (turned labels k names st) parts.1 ∙ idle_turn labels k 0 (length labels) names st parts.0
 
 -- the first of the augments had their turns
-pub record Going (labels : List Label) (first : ℕ) (paths : List (List ℕ)) (st : State) (i : ℕ) (any : Bool) (grafting : Augmentation) : Type 0 where
+pub record Going (labels : List Label) (first : ℕ) (paths : List (List ℕ)) (st : State) (i : ℕ) (any : Bool) (augmentation : Augmentation) : Type 0 where
   pub now : State
-  pub is : IsAugmentation labels now grafting
+  pub is : IsAugmentation labels now augmentation
   pub goes : round labels (first + i) (drop i paths) now ≡ round labels first paths st
   pub tells : (any || is_any labels (first + i) (drop i paths) now) ≡ is_any labels first paths st
 
-abbrev pub going_none : (labels : List Label) (first : ℕ) (paths : List (List ℕ)) (st : State) (grafting : Augmentation) → IsAugmentation labels st grafting
-    → Going labels first paths st 0 false grafting
-going_none labels first paths st grafting is =
+abbrev pub going_none : (labels : List Label) (first : ℕ) (paths : List (List ℕ)) (st : State) (augmentation : Augmentation) → IsAugmentation labels st augmentation
+    → Going labels first paths st 0 false augmentation
+going_none labels first paths st augmentation is =
     let z : first + 0 ≡ first = omega arith in
     record { now = st; is = is; goes = ap (λ n. round labels n paths st) z; tells = ap (λ n. is_any labels n paths st) z }
 
@@ -86,12 +86,12 @@ going_more labels first paths st i any taken old new names g at is tells =
           ∙ g.tells;
     }
 
-pub going_all : (labels : List Label) (first : ℕ) (paths : List (List ℕ)) (st : State) (i : ℕ) (any : Bool) (grafting : Augmentation) → length paths ≤ i
-    → Going labels first paths st i any grafting → IsAugmentation labels (round labels first paths st) grafting × (any ≡ is_any labels first paths st)
-going_all labels first paths st i any grafting past g =
+pub going_all : (labels : List Label) (first : ℕ) (paths : List (List ℕ)) (st : State) (i : ℕ) (any : Bool) (augmentation : Augmentation) → length paths ≤ i
+    → Going labels first paths st i any augmentation → IsAugmentation labels (round labels first paths st) augmentation × (any ≡ is_any labels first paths st)
+going_all labels first paths st i any augmentation past g =
     let done : drop i paths ≡ [] = drop_all i paths past in
     let same : g.now ≡ round labels first paths st = ap (λ l. round labels (first + i) l g.now) (sym done) ∙ g.goes in (
-      subst (λ (s : State). IsAugmentation labels s grafting) same g.is,
+      subst (λ (s : State). IsAugmentation labels s augmentation) same g.is,
       sym (or_false any) ∙ ap (λ l. any || is_any labels (first + i) l g.now) (sym done) ∙ g.tells,
     )
 

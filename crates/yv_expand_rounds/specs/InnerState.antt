@@ -8,9 +8,9 @@ use Rattle.yv_expand_rounds.specs.InnerGroups.{ArePlaces}
 
 -- the items with these labels are so, and the augments have come so far
 pub record IsAugmentation (labels : List Label) (st : State)
-    (grafting : Augmentation) : Type 0 where
-  pub places : ArePlaces labels st.groups grafting.places
-  pub ends : grafting.ends.items ≡ st.ends
+    (augmentation : Augmentation) : Type 0 where
+  pub places : ArePlaces labels st.groups augmentation.places
+  pub ends : augmentation.ends.items ≡ st.ends
 
 -- how many augments aren't applied
 abbrev pub count_left : List (Option End) → ℕ

@@ -90,13 +90,13 @@ impl Augmentation {
         ensures state { (labels : List Label) (st : State) → IsAugmentation labels st self.old
             → OnOk result (IsAugmentation labels (resolve labels number end st) self.new) }
         ensures takes { (labels : List Label) (st : State) → IsAugmentation labels st self.old
-            → IfOk result (λ told. told.0 ≡ (not (is_applied st number) && is_some end)) }
+            → IfOk result (λ outcome. outcome.0 ≡ (not (is_applied st number) && is_some end)) }
         ensures keeps { (labels : List Label) (st : State) → IsAugmentation labels st self.old
             → IfOk result
-            (λ told. KeepFirst labels (group_of_augment labels number) st.groups
-            (resolve labels number end st).groups told.1.items) }
+            (λ outcome. KeepFirst labels (group_of_augment labels number) st.groups
+            (resolve labels number end st).groups outcome.1.items) }
         ensures leaves { IfOk result
-            (λ told. count_left self.new.ends.items + (if told.0 then 1 else 0)
+            (λ outcome. count_left self.new.ends.items + (if outcome.0 then 1 else 0)
             ≡ count_left self.old.ends.items) }
         ensures each { length self.new.ends.items ≡ length self.old.ends.items }
     {

@@ -164,9 +164,9 @@ impl Augmentation {
         ensures { (labels : List Label) (st : State) → IsAugmentation labels st self → first
             + length paths.now ≤ length st.ends
             → IfOk result
-            (λ grafting. (new : State)
+            (λ augmentation. (new : State)
             × AreApplied labels first (map (λ p. p.items) paths.now) st new
-            × IsAugmentation labels new grafting) }
+            × IsAugmentation labels new augmentation) }
     {
         if paths.is_empty() {
             return Ok(self);

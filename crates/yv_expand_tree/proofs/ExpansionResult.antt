@@ -22,11 +22,11 @@ use Rattle.yv_expand_tree.specs.Refusals.{BadFinal, BadStanding}
 use Rattle.yv_expand_tree.specs.Final.{Final, IsFinal, changes_of, spots_of}
 use Rattle.yv_expand_tree.specs.FileOrder.{marks_of, order_of}
 
-module _ (files : Files) (grown : AugmentedTree) (missing : Option Refusal) where
+module _ (files : Files) (full_tree : AugmentedTree) (missing : Option Refusal) where
   -- augments put these items so
   abbrev pub AreKnown : List Item → (augments : List ℕ) → Type 0
   AreKnown items augments =
-      (st : State) × AreAugmentedTree (whole (map brief_of files) (rows_of files) augments (length items)) items st grown
+      (st : State) × AreAugmentedTree (whole (map brief_of files) (rows_of files) augments (length items)) items st full_tree
       × IsLeast (BadTarget (whole (map brief_of files) (rows_of files) augments (length items)) items st) missing
 
   pub known_by : (read items : List Item) (lent augments : List ℕ) → read ≡ items → lent ≡ augments → AreKnown read lent → AreKnown items augments
@@ -42,11 +42,11 @@ module _ (files : Files) (grown : AugmentedTree) (missing : Option Refusal) wher
   is_final choice own items augments k is_whole are =
       record { own = own; expanded = is_whole; augments = are; grafted = k.1.grafted; is_tree = k.1.tree.is_tree }
 
-  pub changes_are : (items : List Item) (augments : List ℕ) (k : AreKnown items augments) (spots : List Spot) (changes : ChangesView) → spots ≡ grown.spots.items
-      → each changes ≡ all_changes files spots (all_meant grown.refined) → each changes ≡ changes_of files (final_of items augments k)
+  pub changes_are : (items : List Item) (augments : List ℕ) (k : AreKnown items augments) (spots : List Spot) (changes : ChangesView) → spots ≡ full_tree.spots.items
+      → each changes ≡ all_changes files spots (all_meant full_tree.refined) → each changes ≡ changes_of files (final_of items augments k)
   changes_are items augments k spots changes p is =
       let f : Final = final_of items augments k in
-      is ∙ ap (λ (ss : List Spot). all_changes files ss (all_meant grown.refined)) (p ∙ k.1.spots) ∙ ap (all_changes files (spots_of files f)) k.1.refined
+      is ∙ ap (λ (ss : List Spot). all_changes files ss (all_meant full_tree.refined)) (p ∙ k.1.spots) ∙ ap (all_changes files (spots_of files f)) k.1.refined
 
 -- what is wrong with the one final tree is what is wrong
 pub final_least : (choice : ModuleChoice) (files : Files) → ((a b : Final) → IsFinal choice files a → IsFinal choice files b → a ≡ b) → (f : Final) (o : Option Refusal)

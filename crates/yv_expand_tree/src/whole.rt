@@ -75,10 +75,10 @@ fn augmented_tree(
         (BadTarget (whole (files_in rows.now) (rows_in rows.now) augments.now (length items.now))
         items.now st) g.1) }
 {
-    let grafts = apply_augments(alloc, rows, items, augments)?;
-    let missing = grafts.first_without_target(rows, augments);
-    let grown = grafts.into_grown()?;
-    Ok((grown, missing))
+    let augmented_items = apply_augments(alloc, rows, items, augments)?;
+    let missing = augmented_items.first_without_target(rows, augments);
+    let full_tree = augmented_items.into_tree()?;
+    Ok((full_tree, missing))
 }
 
 // The nodes that are left of a final tree by the conditions of its statements, in order.
@@ -90,8 +90,8 @@ fn remains<'a, 'b>(
     requires { ParentsComeFirst judged.now.items.now }
     ensures { (final : Final) → judged.now.items.now ≡ final.items
         → AreAugmentedTree (whole_of (lent_in judged.now.rows.now) final) final.items final.state
-        judged.now.grown.now
-        → judged.now.augments.now ≡ final.augments → judged.now.grown.now.tree.items
+        judged.now.full_tree.now
+        → judged.now.augments.now ≡ final.augments → judged.now.full_tree.now.tree.items
         ≡ final_items final
         → each judged.now.changes.now ≡ changes_of (lent_in judged.now.rows.now) final
         → IfOk result
@@ -99,11 +99,11 @@ fn remains<'a, 'b>(
         × AreLeft (truth_in linked.now) (lent_in judged.now.rows.now) final nodes
         × (list.items ≡ expansion.item_list None 0 nodes)) }
 {
-    let spots = &judged.grown.spots;
+    let spots = &judged.full_tree.spots;
     let statements = statement_marks(alloc, linked, judged.rows)?;
     let own = item_marks(alloc, &statements, spots, judged.changes)?;
     let on = items_on(alloc, judged.rows, spots, judged.items, &statements, &own)?;
-    let tree = remaining_rows(alloc, spots, &judged.grown.tree, &on)?;
+    let tree = remaining_rows(alloc, spots, &judged.full_tree.tree, &on)?;
     nodes(alloc, &tree)
 }
 
@@ -141,13 +141,13 @@ fn finish<'a, 'b>(
         own: _,
         augments,
     } = expanded;
-    let (grown, missing) = augmented_tree(alloc, rows, expansion.items(), &augments)?;
-    let changes = changes(alloc, rows, &grown.spots, &grown.refined)?;
+    let (full_tree, missing) = augmented_tree(alloc, rows, expansion.items(), &augments)?;
+    let changes = changes(alloc, rows, &full_tree.spots, &full_tree.refined)?;
     let judged = Judgement {
         rows,
         items: expansion.items(),
         augments: &augments,
-        grown: &grown,
+        full_tree: &full_tree,
         changes: &changes,
     };
     if let Some(refusal) = judged.first_wrong(alloc, missing)? {
@@ -156,7 +156,7 @@ fn finish<'a, 'b>(
     let left = remains(alloc, linked, &judged)?;
     Ok(FinalTree {
         expansion,
-        spots: grown.spots,
+        spots: full_tree.spots,
         augments,
         changes,
         left,

@@ -22,7 +22,7 @@ pub(crate) struct Judgement<'j, 'a, 'b> {
     pub(crate) rows: &'j Rows<'a, 'b>,
     pub(crate) items: &'j [Item],
     pub(crate) augments: &'j [usize],
-    pub(crate) grown: &'j AugmentedTree,
+    pub(crate) full_tree: &'j AugmentedTree,
     pub(crate) changes: &'j Changes,
 }
 
@@ -32,8 +32,8 @@ impl Judgement<'_, '_, '_> {
         ensures { (final : Final) → self.now.items.now ≡ final.items → self.now.augments.now
             ≡ final.augments
             → AreAugmentedTree (whole_of (lent_in self.now.rows.now) final) final.items final.state
-            self.now.grown.now
-            → self.now.grown.now.tree.items ≡ final_items final → each self.now.changes.now
+            self.now.full_tree.now
+            → self.now.full_tree.now.tree.items ≡ final_items final → each self.now.changes.now
             ≡ changes_of (lent_in self.now.rows.now) final
             → IfOk result
             (IsLeast
@@ -46,15 +46,15 @@ impl Judgement<'_, '_, '_> {
             return Ok(None);
         }
         let said = said_of_all(alloc, self.rows, self.items, self.changes)?;
-        let told = ItemProperties::of(alloc, &said)?;
-        let marks = told.marks();
+        let properties = ItemProperties::of(alloc, &said)?;
+        let marks = properties.marks();
         first_imposed(
             alloc,
             self.rows,
-            &self.grown.spots,
+            &self.full_tree.spots,
             self.augments,
             &marks,
-            &self.grown.tree,
+            &self.full_tree.tree,
         )
     }
 
@@ -68,18 +68,24 @@ impl Judgement<'_, '_, '_> {
         ensures { (final : Final) → self.now.items.now ≡ final.items → self.now.augments.now
             ≡ final.augments
             → AreAugmentedTree (whole_of (lent_in self.now.rows.now) final) final.items final.state
-            self.now.grown.now
-            → self.now.grown.now.tree.items ≡ final_items final → each self.now.changes.now
+            self.now.full_tree.now
+            → self.now.full_tree.now.tree.items ≡ final_items final → each self.now.changes.now
             ≡ changes_of (lent_in self.now.rows.now) final
             → IsLeast
             (BadTarget (whole_of (lent_in self.now.rows.now) final) final.items final.state) missing
             → IfOk result (IsLeast (BadStanding (lent_in self.now.rows.now) final)) }
     {
-        let grown = self.grown;
-        let deep = first_too_deep(self.rows, &grown.spots, &grown.tree);
-        let refine = first_wrong(alloc, self.rows, &grown.spots, &grown.refined, &grown.tree)?;
-        let missing = lesser(missing, grown.first_untargeted());
-        let misplaced = first_misplaced(self.rows, &grown.spots, &grown.tree);
+        let full_tree = self.full_tree;
+        let deep = first_too_deep(self.rows, &full_tree.spots, &full_tree.tree);
+        let refine = first_wrong(
+            alloc,
+            self.rows,
+            &full_tree.spots,
+            &full_tree.refined,
+            &full_tree.tree,
+        )?;
+        let missing = lesser(missing, full_tree.first_untargeted());
+        let misplaced = first_misplaced(self.rows, &full_tree.spots, &full_tree.tree);
         let imposed = self.first_imposed(alloc)?;
         let augment = lesser(missing, lesser(misplaced, imposed));
         Ok(lesser(deep, lesser(refine, augment)))

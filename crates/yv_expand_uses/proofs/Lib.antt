@@ -5,7 +5,7 @@ pub mod ItemMarks
 pub mod SubtreeEnds
 pub mod ListGrowth
 pub mod NodePaths
-pub mod RefineAims
-pub mod NotedAims
+pub mod TargetLists
+pub mod NotedTargets
 pub mod MarkUniqueness
 pub mod KeywordKinds

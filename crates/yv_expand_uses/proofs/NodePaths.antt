@@ -89,8 +89,8 @@ made_at : {A B : Type 0} (f : A → B) (xs : List A) (k : ℕ) (x : A) → slice
 made_at f xs k x at = slice_get-map f xs k ∙ ap (option_map f) at
 
 -- what is told of all arrivals is told of paths
-module _ (labels : List Label) (st : State) (end group : ℕ) (all : List (List ℕ)) (arrivals : List Arrival) (led : LeadingPaths) (are : AreArrivals labels st.groups end group all arrivals)
-    (paths : led.paths.items ≡ paths_of arrivals) (targets : led.targets.items ≡ targets_of arrivals) where
+module _ (labels : List Label) (st : State) (end group : ℕ) (all : List (List ℕ)) (arrivals : List Arrival) (leading_paths : LeadingPaths) (are : AreArrivals labels st.groups end group all arrivals)
+    (paths : leading_paths.paths.items ≡ paths_of arrivals) (targets : leading_paths.targets.items ≡ targets_of arrivals) where
   to : Arrival → Option ℕ
   to a = node_at a.end
 
@@ -99,20 +99,20 @@ module _ (labels : List Label) (st : State) (end group : ℕ) (all : List (List 
       let same : it.steps ≡ steps = same_Some it.steps steps (sym it.of ∙ of) in
       sym (ap (λ (s : List ℕ). target_of_path labels st end group s) (sym same) ∙ ap (option_and_then node_at) it.leads)
 
-  leads : (place path : ℕ) (steps : List ℕ) → slice_get led.paths.items place ≡ Some path → slice_get all path ≡ Some steps → get_or led.targets.items place None ≡ target_of_path labels st end group steps
+  leads : (place path : ℕ) (steps : List ℕ) → slice_get leading_paths.paths.items place ≡ Some path → slice_get all path ≡ Some steps → get_or leading_paths.targets.items place None ≡ target_of_path labels st end group steps
   unfolding to
   leads place path steps at of =
       let found = made_of (λ (a : Arrival). a.path) (filter is_led arrivals) place path (ap (λ l. slice_get l place) (sym paths) ∙ at) in
       let there = filter_from is_led arrivals place found.0 found.1 in
       let a : Arrival = found.0 in
-      let here : slice_get led.targets.items place ≡ Some (node_at a.end) = ap (λ l. slice_get l place) targets ∙ made_at to (filter is_led arrivals) place a found.1 in
-      get_or_from_slice_get led.targets.items place (node_at a.end) None here
+      let here : slice_get leading_paths.targets.items place ≡ Some (node_at a.end) = ap (λ l. slice_get l place) targets ∙ made_at to (filter is_led arrivals) place a found.1 in
+      get_or_from_slice_get leading_paths.targets.items place (node_at a.end) None here
       ∙ leads_there a steps (are.each there.0 a there.1) (ap (slice_get all) found.2 ∙ of)
 
-  whole : (path item : ℕ) (steps : List ℕ) → slice_get all path ≡ Some steps → target_of_path labels st end group steps ≡ Some item → (place : ℕ) × (slice_get led.paths.items place ≡ Some path)
+  whole : (path item : ℕ) (steps : List ℕ) → slice_get all path ≡ Some steps → target_of_path labels st end group steps ≡ Some item → (place : ℕ) × (slice_get leading_paths.paths.items place ≡ Some path)
   whole path item steps of is = by (path_end labels st.groups end steps (Start group)) refl is
     where
-      by : (o : Option End) → path_end labels st.groups end steps (Start group) ≡ o → option_and_then node_at o ≡ Some item → (place : ℕ) × (slice_get led.paths.items place ≡ Some path)
+      by : (o : Option End) → path_end labels st.groups end steps (Start group) ≡ o → option_and_then node_at o ≡ Some item → (place : ℕ) × (slice_get leading_paths.paths.items place ≡ Some path)
       by None e h = absurd (let bad : None ≡ Some item = h in cc)
       by (Some e) leads h =
           let a : Arrival = record { path = path; end = e } in
@@ -122,7 +122,7 @@ module _ (labels : List Label) (st : State) (end group : ℕ) (all : List (List 
           let kept = filter_to is_led arrivals at.0 a at.1 ok in
           (kept.0, ap (λ l. slice_get l kept.0) paths ∙ made_at (λ (x : Arrival). x.path) (filter is_led arrivals) kept.0 a kept.1)
 
-  pub are_led : IsLed (target_of_path labels st end group) all led
+  pub are_led : IsLed (target_of_path labels st end group) all leading_paths
   unfolding to
   are_led = record {
     each = ap length targets ∙ length-map (filter is_led arrivals) to ∙ sym (ap length paths ∙ length-map (filter is_led arrivals) (λ (a : Arrival). a.path));

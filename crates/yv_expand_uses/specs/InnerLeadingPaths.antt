@@ -1,5 +1,5 @@
--- Only private clauses cite this: which of some different paths lead to nodes at a copy, and aims
--- by their places among these.
+-- Only private clauses cite this: which of some different paths lead to nodes at a copy, and refine
+-- targets by their places among these.
 use Rattle.std.specs.Prelude.{◌≡◌, ℕ, ◌+◌, ◌==◌, Bool, List, [], ◌∷◌, length, map, filter, if◌then◌else◌, Option, Some, None, is_some, slice_get, slice_index_or}
 use Rattle.std.specs.Option.{unwrap_or}
 use Rattle.yv_expand_rounds.specs.declared.arrivals.Arrival.{Arrival}
@@ -33,7 +33,7 @@ abbrev pub first_from : (place : ℕ) → List ℕ → (path : ℕ) → Option �
 first_from place [] path = None
 first_from place (p ∷ ps) path = if p == path then Some place else first_from (place + 1) ps path
 
--- an aim by the place of its path among these; after the last where it isn't among them
+-- a refine target by the place of its path among these; after the last where it isn't among them
 abbrev pub place_aim : List ℕ → RefineTarget → RefineTarget
 place_aim paths a =
     record { refine = a.refine; path = unwrap_or (first_from 0 paths a.path) (length paths) }

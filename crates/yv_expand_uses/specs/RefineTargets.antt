@@ -44,7 +44,7 @@ refined_at w labels s number end st =
     (refines_in w.rows s.statement)
     else []
 
--- the same aims at the same places, and the same copies
+-- the same refine targets at the same places, and the same copies
 pub record SameRefinements (old new : Refinements) : Type 0 where
-  pub aims : new.aims.items ≡ old.aims.items
+  pub refine_targets : new.refine_targets.items ≡ old.refine_targets.items
   pub uses : new.uses.items ≡ old.uses.items

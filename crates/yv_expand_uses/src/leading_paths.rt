@@ -1,5 +1,5 @@
-//! Which of the different paths of refines lead to nodes at a copy, and aims by their places among
-//! these.
+//! Which of the different paths of refines lead to nodes at a copy, and refine targets by their
+//! places among these.
 ghost use Rattle.std.specs.{Prelude.{◌≡◌, ◌==◌, ◌++◌, ◌∷◌, ℕ, [], List, Some, map, if◌then◌else◌, IfOk, OnOk}, BTreeMap.{get}, Ordering.{nat_cmp}};
 ghost use Rattle.yv_expand_rounds.specs.{declared.label.Label.{Label}, Arrivals.{AreArrivals}, Turns.{State}};
 ghost use Rattle.yv_expand_uses.specs.{InnerLeadingPaths.{first_from, place_aim}, InnerPaths.{target_of_path}, RefineTargets.{node_at}};
@@ -50,14 +50,14 @@ impl LeadingPaths {
             → IfOk result (IsLed (target_of_path labels st end group) all) }
     {
         // The targets of each copy stay, so that no more memory is taken for them than they need.
-        let mut led = LeadingPaths {
+        let mut leading_paths = LeadingPaths {
             paths: Vec::with_capacity(alloc, arrivals.len())?,
             targets: Vec::with_capacity(alloc, arrivals.len())?,
         };
         for arrival in arrivals {
-            led.note(*arrival)?;
+            leading_paths.note(*arrival)?;
         }
-        Ok(led)
+        Ok(leading_paths)
     }
 }
 
@@ -93,17 +93,20 @@ fn places_of(alloc: Global, paths: &[usize]) -> Result<BTreeMap<usize, usize>, A
 /// after the last. Takes time n log n in both.
 pub(crate) fn place_aims(
     alloc: Global,
-    aims: &[RefineTarget],
+    refine_targets: &[RefineTarget],
     paths: &[usize],
 ) -> Result<Vec<RefineTarget>, AllocError>
-    ensures { IfOk result (λ placed. placed.items ≡ map (place_aim paths.now) aims.now) }
+    ensures { IfOk result (λ placed. placed.items ≡ map (place_aim paths.now) refine_targets.now) }
 {
     let places = places_of(alloc, paths)?;
-    let mut placed = Vec::with_capacity(alloc, aims.len())?;
-    for aim in aims {
+    let mut placed = Vec::with_capacity(alloc, refine_targets.len())?;
+    for refine_target in refine_targets {
         placed.push(RefineTarget {
-            refine: aim.refine,
-            path: places.get(&aim.path).copied().unwrap_or(paths.len()),
+            refine: refine_target.refine,
+            path: places
+                .get(&refine_target.path)
+                .copied()
+                .unwrap_or(paths.len()),
         })?;
     }
     Ok(placed)

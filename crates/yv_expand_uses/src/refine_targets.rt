@@ -22,11 +22,11 @@ use yv_expand_rounds::Augmentation;
 #[derive(Drop)]
 struct UsesTargets {
     paths: PathTree,
-    aims: Vec<RefineTarget>,
+    refine_targets: Vec<RefineTarget>,
 }
 
-// The paths that lead to nodes at a copy, and the place of the aims that are noted for copies where
-// these do. Copies of one `uses` are alike, so that those of the copy before are kept.
+// The paths that lead to nodes at a copy, and the place of the refine targets that are noted for
+// copies where these do. Copies of one `uses` are alike, so that those of the copy before are kept.
 #[derive(Drop)]
 struct KeptTargets {
     paths: Vec<usize>,
@@ -52,7 +52,7 @@ impl RefineTargets {
     /// No item was looked at.
     pub fn new(alloc: Global) -> RefineTargets
         // Nothing is noted.
-        ensures aims { (w : Whole) → AreRefineTargets w result }
+        ensures refine_targets { (w : Whole) → AreRefineTargets w result }
         // No refine means anything yet.
         ensures means { all_meant result.refinements ≡ [] }
     {
@@ -61,7 +61,7 @@ impl RefineTargets {
             aimed: Vec::new(alloc),
             kept: Vec::new(alloc),
             refinements: Refinements {
-                aims: Vec::new(alloc),
+                refine_targets: Vec::new(alloc),
                 uses: Vec::new(alloc),
             },
         }
@@ -90,7 +90,7 @@ impl RefineTargets {
         module_file: u32,
         aimed: UsesTargets,
     ) -> Result<usize, AllocError>
-        ensures aims { (w : Whole) → AreRefineTargets w self.old
+        ensures refine_targets { (w : Whole) → AreRefineTargets w self.old
             → IsUsesTargets w statement module_file aimed
             → OnOk result (AreRefineTargets w self.new) }
         ensures number { (w : Whole) → AreRefineTargets w self.old
@@ -113,22 +113,23 @@ impl RefineTargets {
     fn paths_that_lead(
         &self,
         alloc: Global,
-        grafting: &Augmentation,
+        augmentation: &Augmentation,
         group: usize,
         end: usize,
         number: usize,
     ) -> Result<LeadingPaths, AllocError>
         requires { number < length self.now.aimed.items }
         ensures { (labels : List Label) (st : State) (all : List (List ℕ)) (aimed : UsesTargets)
-            → IsAugmentation labels st grafting.now
+            → IsAugmentation labels st augmentation.now
             → slice_get self.now.aimed.items number ≡ Some aimed → IsPathTree all aimed.paths
             → IfOk result (IsLed (target_of_path labels st end group) all) }
     {
-        let arrivals = grafting.walk_all(alloc, group, end, &self.aimed[number].paths)?;
+        let arrivals = augmentation.walk_all(alloc, group, end, &self.aimed[number].paths)?;
         LeadingPaths::read(alloc, &arrivals)
     }
 
-    // The place of aims for copies where these paths lead to nodes, if they did at the copy before.
+    // The place of refine targets for copies where these paths lead to nodes, if they did at the
+    // copy before.
     fn last_place(&self, number: usize, paths: &[usize]) -> Option<usize>
         ensures { (w : Whole) → AreRefineTargets w self.now
             → IfSome result (IsPlaced self.now number paths.now) }
@@ -145,20 +146,20 @@ impl RefineTargets {
         }
     }
 
-    // Notes aims for copies where these paths lead to nodes.
+    // Notes refine targets for copies where these paths lead to nodes.
     fn keep(
         &mut self,
         number: usize,
         paths: Vec<usize>,
-        aims: Vec<RefineTarget>,
+        refine_targets: Vec<RefineTarget>,
     ) -> Result<usize, AllocError>
         requires { number < length self.old.kept.items }
-        ensures aims { (w : Whole) → AreRefineTargets w self.old
+        ensures refine_targets { (w : Whole) → AreRefineTargets w self.old
             → ((aimed : UsesTargets) → slice_get self.old.aimed.items number ≡ Some aimed
-            → aims.items ≡ map (place_aim paths.items) aimed.aims.items)
+            → refine_targets.items ≡ map (place_aim paths.items) aimed.refine_targets.items)
             → OnOk result (AreRefineTargets w self.new) }
         ensures place { ((aimed : UsesTargets) → slice_get self.old.aimed.items number ≡ Some aimed
-            → aims.items ≡ map (place_aim paths.items) aimed.aims.items)
+            → refine_targets.items ≡ map (place_aim paths.items) aimed.refine_targets.items)
             → IfOk result (IsPlaced self.new number paths.items) }
         ensures aims_at { self.new.aimed ≡ self.old.aimed }
         ensures means { (w : Whole) → AreRefineTargets w self.old
@@ -166,13 +167,13 @@ impl RefineTargets {
         ensures uses { self.new.refinements.uses ≡ self.old.refinements.uses }
         ensures err { OnErr result (IsAsBefore self.old self.new) }
     {
-        let place = self.refinements.aims.len();
-        self.refinements.aims.push(aims)?;
+        let place = self.refinements.refine_targets.len();
+        self.refinements.refine_targets.push(refine_targets)?;
         self.kept[number] = Some(KeptTargets { paths, place });
         Ok(place)
     }
 
-    // The place of aims for copies where these paths lead to nodes.
+    // The place of refine targets for copies where these paths lead to nodes.
     fn place(
         &mut self,
         alloc: Global,
@@ -181,7 +182,7 @@ impl RefineTargets {
     ) -> Result<usize, AllocError>
         requires aims_at { number < length self.old.aimed.items }
         requires keeps { number < length self.old.kept.items }
-        ensures aims { (w : Whole) → AreRefineTargets w self.old
+        ensures refine_targets { (w : Whole) → AreRefineTargets w self.old
             → OnOk result (AreRefineTargets w self.new) }
         ensures place { (w : Whole) → AreRefineTargets w self.old
             → IfOk result (IsPlaced self.new number paths.items) }
@@ -194,31 +195,32 @@ impl RefineTargets {
         match self.last_place(number, &paths) {
             Some(place) => Ok(place),
             None => {
-                let aims = place_aims(alloc, &self.aimed[number].aims, &paths)?;
-                self.keep(number, paths, aims)
+                let refine_targets = place_aims(alloc, &self.aimed[number].refine_targets, &paths)?;
+                self.keep(number, paths, refine_targets)
             }
         }
     }
 
-    // Notes a copy of a `uses`, whose aims stand at this place, and where their paths lead.
+    // Notes a copy of a `uses`, whose refine targets stand at this place, and where their paths
+    // lead.
     fn note(
         &mut self,
         item: usize,
         place: usize,
         targets: Vec<Option<usize>>,
     ) -> Result<(), AllocError>
-        requires { place < length self.old.refinements.aims.items }
-        ensures aims { (w : Whole) → AreRefineTargets w self.old
+        requires { place < length self.old.refinements.refine_targets.items }
+        ensures refine_targets { (w : Whole) → AreRefineTargets w self.old
             → OnOk result (AreRefineTargets w self.new) }
         ensures means { OnOk result (all_meant self.new.refinements
             ≡ all_meant self.old.refinements
             ++ map (meaning_of item targets.items)
-            (targets_at self.old.refinements.aims.items place)) }
+            (targets_at self.old.refinements.refine_targets.items place)) }
         ensures succeeds { HasRoom self.old → IsOk result }
     {
         self.refinements.uses.push(RefinedUses {
             item,
-            aims: place,
+            refine_targets: place,
             targets,
         })?;
         Ok(())
@@ -249,16 +251,19 @@ impl Plan<'_, '_, '_> {
     {
         let mut paths = PathTree::new(alloc)?;
         let refines = self.refines_in(statement);
-        let mut aims = Vec::with_capacity(alloc, refines.len())?;
+        let mut refine_targets = Vec::with_capacity(alloc, refines.len())?;
         for refine in refines {
             let steps = self.path(alloc, module_file, *refine)?;
             let path = paths.add(alloc, &steps)?;
-            aims.push(RefineTarget {
+            refine_targets.push(RefineTarget {
                 refine: *refine,
                 path,
             })?;
         }
-        Ok(UsesTargets { paths, aims })
+        Ok(UsesTargets {
+            paths,
+            refine_targets,
+        })
     }
 
     // The number of what the refines of a `uses` aim at in a module, which is made where it wasn't
@@ -266,23 +271,24 @@ impl Plan<'_, '_, '_> {
     fn number_of_targets(
         &self,
         alloc: Global,
-        aims: &mut RefineTargets,
+        refine_targets: &mut RefineTargets,
         statement: usize,
         module_file: u32,
     ) -> Result<usize, AllocError>
         requires plan { IsPlan self.now }
-        requires aims { AreRefineTargets (whole_in self.now) aims.old }
-        ensures aims { OnOk result (AreRefineTargets (whole_in self.now) aims.new) }
+        requires refine_targets { AreRefineTargets (whole_in self.now) refine_targets.old }
+        ensures refine_targets { OnOk result (AreRefineTargets
+            (whole_in self.now) refine_targets.new) }
         ensures number { IfOk result
-            (HasNumber (whole_in self.now) aims.new statement module_file) }
-        ensures means { aims.new.refinements ≡ aims.old.refinements }
-        ensures err { OnErr result (IsAsBefore aims.old aims.new) }
+            (HasNumber (whole_in self.now) refine_targets.new statement module_file) }
+        ensures means { refine_targets.new.refinements ≡ refine_targets.old.refinements }
+        ensures err { OnErr result (IsAsBefore refine_targets.old refine_targets.new) }
     {
-        match aims.find(statement, module_file) {
+        match refine_targets.find(statement, module_file) {
             Some(number) => Ok(number),
             None => {
                 let aimed = self.targets_of_uses(alloc, statement, module_file)?;
-                aims.add(statement, module_file, aimed)
+                refine_targets.add(statement, module_file, aimed)
             }
         }
     }
@@ -293,35 +299,48 @@ impl Plan<'_, '_, '_> {
     pub fn refine_all(
         &self,
         alloc: Global,
-        grafting: &Augmentation,
+        augmentation: &Augmentation,
         spot: &Spot,
         item: usize,
         end: usize,
-        aims: &mut RefineTargets,
+        refine_targets: &mut RefineTargets,
     ) -> Result<(), AllocError>
         // The plan is one of statements.
         requires plan { IsPlan self.now }
         // What was noted is of this plan.
-        requires aims { AreRefineTargets (whole_in self.now) aims.old }
+        requires refine_targets { AreRefineTargets (whole_in self.now) refine_targets.old }
         // So is what is noted then, also after an error.
-        ensures aims { AreRefineTargets (whole_in self.now) aims.new }
+        ensures refine_targets { AreRefineTargets (whole_in self.now) refine_targets.new }
         // What the refines of an item mean is added to what is noted: the node that each means
         // among what the `uses` gives, if the item is a `uses`.
-        ensures means { (labels : List Label) (st : State) → IsAugmentation labels st grafting.now
-            → OnOk result (all_meant aims.new.refinements
-            ≡ all_meant aims.old.refinements
+        ensures means { (labels : List Label) (st : State)
+            → IsAugmentation labels st augmentation.now
+            → OnOk result (all_meant refine_targets.new.refinements
+            ≡ all_meant refine_targets.old.refinements
             ++ refined_at (whole_in self.now) labels spot.now item end st) }
         // After an error the refinements are as before.
-        ensures keeps { OnErr result (SameRefinements aims.old.refinements aims.new.refinements) }
+        ensures keeps { OnErr result
+            (SameRefinements refine_targets.old.refinements refine_targets.new.refinements) }
     {
         if !self.has_refines(spot) {
             return Ok(());
         }
-        aims.make_room()?;
-        let number = self.number_of_targets(alloc, aims, spot.statement, spot.module_file)?;
-        let led = aims.paths_that_lead(alloc, grafting, spot.group, end, number)?;
-        let LeadingPaths { paths, targets } = led;
-        let place = aims.place(alloc, number, paths)?;
-        aims.note(item, place, targets)
+        refine_targets.make_room()?;
+        let number = self.number_of_targets(
+            alloc,
+            refine_targets,
+            spot.statement,
+            spot.module_file,
+        )?;
+        let leading_paths = refine_targets.paths_that_lead(
+            alloc,
+            augmentation,
+            spot.group,
+            end,
+            number,
+        )?;
+        let LeadingPaths { paths, targets } = leading_paths;
+        let place = refine_targets.place(alloc, number, paths)?;
+        refine_targets.note(item, place, targets)
     }
 }

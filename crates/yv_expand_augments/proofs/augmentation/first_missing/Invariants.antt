@@ -9,5 +9,5 @@ use Rattle.yv_expand_augments.proofs.AugmentStretches.{Misses}
 use Rattle.yv_expand_augments.proofs.augmentation.first_missing.Given as goal
 
 abbrev pub invariant-loop-it : goal.invariant-loop-it
-invariant-loop-it l = (labels : List Label) (st : State) → IsAugmentation labels st l.grafting
+invariant-loop-it l = (labels : List Label) (st : State) → IsAugmentation labels st l.augmentation
     → IsLeast (Among l.idle (Misses (rows_in l.plan.rows.now) (added_to labels st l.end l.spot.group) l.idle) l.it-index) None

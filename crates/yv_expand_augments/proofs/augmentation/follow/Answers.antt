@@ -34,8 +34,8 @@ returns-in-None-clause-ready c = λ labels st from to ready s. (
     let w : Whole = whole_in c.args.plan.now in
     let spot = c.args.spot.now in
     let last : s.place ≡ to = subst (λ (o : Option AddressedAugment). IsEnded w spot.statement spot.module_file s.place to o) c.in-None.is s.ended in
-    subst (λ (n : ℕ). IsReady w labels spot st n c.args.number c.args.grafting) last
-    (ready_idle w labels spot c.args.end st from s.place c.args.stretch.now.idle.items s.idle c.args.number c.args.grafting ready))
+    subst (λ (n : ℕ). IsReady w labels spot st n c.args.number c.args.augmentation) last
+    (ready_idle w labels spot c.args.end st from s.place c.args.stretch.now.idle.items s.idle c.args.number c.args.augmentation ready))
 
 pub returns-in-None-clause-lacks : goal.returns-in-None-clause-lacks
 returns-in-None-clause-lacks c = λ labels st from to ready s. (
@@ -44,7 +44,7 @@ returns-in-None-clause-lacks c = λ labels st from to ready s. (
     let last : s.place ≡ to = subst (λ (o : Option AddressedAugment). IsEnded w spot.statement spot.module_file s.place to o) c.in-None.is s.ended in
     subst (λ (n : ℕ). IsLeast (MissesBetween w labels spot c.args.end st from n) c.first_missing-missing.result) last
     (idle_told w labels spot c.args.end st from s.place c.args.stretch.now.idle.items s.idle c.first_missing-missing.result c.deref.result.now c.deref.ensures.value
-    (c.first_missing-missing.ensures labels (after_turns w labels spot from st) ready.grafting)))
+    (c.first_missing-missing.ensures labels (after_turns w labels spot from st) ready.augmentation)))
 
 pub returns-in_ok-own-in-Some-clause-ready : goal.returns-in_ok-own-in-Some-clause-ready
 returns-in_ok-own-in-Some-clause-ready c = λ labels st from to ready s. (
@@ -54,16 +54,16 @@ returns-in_ok-own-in-Some-clause-ready c = λ labels st from to ready s. (
     let number : ℕ = c.args.number in
     let next : ℕ = number + 1 in
     let ended = subst (λ (o : Option AddressedAugment). IsEnded w spot.statement spot.module_file s.place to o) c.in-Some.is s.ended in
-    let here : IsReady w labels spot st s.place number c.args.grafting =
-    ready_idle w labels spot c.args.end st from s.place c.args.stretch.now.idle.items s.idle number c.args.grafting ready in
+    let here : IsReady w labels spot st s.place number c.args.augmentation =
+    ready_idle w labels spot c.args.end st from s.place c.args.stretch.now.idle.items s.idle number c.args.augmentation ready in
     let now : State = after_turns w labels spot s.place st in
     let ends : length now.ends ≡ length st.ends = turns_ends w labels 0 c.turns_keep_augments.ensures spot spot.first (had_turns w.rows spot s.place) st in
     let within = number_within w.rows spot s.place x.augment ended.1.at ended.1.gives in
     let count = here.next in
     let room = here.room in
-    let turned = c.in_ok-own-in-Some.ensures.state labels now here.grafting here.long ended.1.path (omega (arith, within, ends, count, room)) in
-    subst (λ (n : ℕ). IsReady w labels spot st n next c.in_ok-own-in-Some.own.grafting) ended.0
-    (ready_giver w labels spot c.args.end st s.place x ended.1 number next c.in_ok-own-in-Some.own.grafting refl here.long count room turned))
+    let turned = c.in_ok-own-in-Some.ensures.state labels now here.augmentation here.long ended.1.path (omega (arith, within, ends, count, room)) in
+    subst (λ (n : ℕ). IsReady w labels spot st n next c.in_ok-own-in-Some.own.augmentation) ended.0
+    (ready_giver w labels spot c.args.end st s.place x ended.1 number next c.in_ok-own-in-Some.own.augmentation refl here.long count room turned))
 
 pub returns-in_ok-own-in-Some-clause-lacks : goal.returns-in_ok-own-in-Some-clause-lacks
 returns-in_ok-own-in-Some-clause-lacks c = λ labels st from to ready s. (
@@ -73,12 +73,12 @@ returns-in_ok-own-in-Some-clause-lacks c = λ labels st from to ready s. (
     let number : ℕ = c.args.number in
     let end : ℕ = c.args.end in
     let ended = subst (λ (o : Option AddressedAugment). IsEnded w spot.statement spot.module_file s.place to o) c.in-Some.is s.ended in
-    let here : IsReady w labels spot st s.place number c.args.grafting =
-    ready_idle w labels spot end st from s.place c.args.stretch.now.idle.items s.idle number c.args.grafting ready in
+    let here : IsReady w labels spot st s.place number c.args.augmentation =
+    ready_idle w labels spot end st from s.place c.args.stretch.now.idle.items s.idle number c.args.augmentation ready in
     let first : IsLeast (MissesBetween w labels spot end st from s.place) c.first_missing-missing.result =
     idle_told w labels spot end st from s.place c.args.stretch.now.idle.items s.idle c.first_missing-missing.result c.deref.result.now c.deref.ensures.value
-    (c.first_missing-missing.ensures labels (after_turns w labels spot from st) ready.grafting) in
+    (c.first_missing-missing.ensures labels (after_turns w labels spot from st) ready.augmentation) in
     let own = giver_least w labels spot end st s.place x ended.1 number c.in_ok-own-in-Some.own.missing here.next
-    (c.in_ok-own-in-Some.ensures.lacks labels (after_turns w labels spot s.place st) here.grafting here.long) in
+    (c.in_ok-own-in-Some.ensures.lacks labels (after_turns w labels spot s.place st) here.augmentation here.long) in
     subst (λ (n : ℕ). IsLeast (MissesBetween w labels spot end st from n) c.lesser.result) ended.0
     (between_more w labels spot end st s.place x ended.1 from c.first_missing-missing.result c.in_ok-own-in-Some.own.missing c.lesser.result s.idle.ascend c.lesser.ensures first own))

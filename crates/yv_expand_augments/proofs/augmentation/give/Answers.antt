@@ -19,10 +19,10 @@ returns-clause-state c = λ labels st is long path room. (
     let group : c.copy_group-group.result ≡ group_of_augment labels number = c.copy_group-group.ensures ∙ ap (λ (n : ℕ). n + 1 + number) (sym long) in
     let limit : c.last_of-limit.result ≡ last_of (members_of st.groups (group_of_augment labels number)) =
     c.last_of-limit.ensures ∙ ap last_of (c.members.ensures labels st is ∙ ap (members_of st.groups) group) in
-    subst (λ (x : State). IsAugmentation labels x c.in_ok-grafting.grafting)
+    subst (λ (x : State). IsAugmentation labels x c.in_ok-augmentation.augmentation)
     (ap (λ (p : List ℕ). turn labels number spot.group c.last_of-limit.result p st) (c.deref.ensures.value ∙ path)
     ∙ ap (λ (n : ℕ). turn labels number spot.group n (path_in (whole_in c.args.plan.now) spot.module_file c.args.it.now.augment) st) limit)
-    (c.in_ok-grafting.ensures labels st is room))
+    (c.in_ok-augmentation.ensures labels st is room))
 
 pub returns-clause-lacks : goal.returns-clause-lacks
 returns-clause-lacks c = λ labels st is long. (

@@ -28,6 +28,6 @@ returns c = λ files rows.
         spots = c.new-3.ensures.items;
         missing = λ i. subst (IsLeast (MissesAt w (layout_of w []) (end_at [] i) i)) (sym (missing i)) (missing_past w (layout_of w []) (end_at [] i) i (omega arith));
         refined = ap (λ us. meant_from c.new-5.result.items us) c.new-6.ensures.items;
-        grafting = subst (λ (ls : List Label). IsAugmentation ls (nothing (length ls) 0) c.in_ok-grafting.grafting) c.new.ensures.items c.in_ok-grafting.ensures;
+        augmentation = subst (λ (ls : List Label). IsAugmentation ls (nothing (length ls) 0) c.in_ok-augmentation.augmentation) c.new.ensures.items c.in_ok-augmentation.ensures;
       },
     )

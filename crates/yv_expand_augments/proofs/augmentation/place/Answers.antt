@@ -28,18 +28,18 @@ loop-left-init c =
     let spots : List Spot = c.args.layout.now.spots.items in
     let copies : ℕ = c.args.layout.now.copies in
     let told : c.in_ok-labels.labels.items ≡ labels_of spots = c.in_ok-labels.ensures ∙ ap labels_of c.deref.ensures.value in
-    let base : IsAugmentation (labels_of spots) (nothing (length (labels_of spots)) copies) c.in_ok-grafting.grafting =
-    subst (λ (ls : List Label). IsAugmentation ls (nothing (length ls) copies) c.in_ok-grafting.grafting) told c.in_ok-grafting.ensures in
+    let base : IsAugmentation (labels_of spots) (nothing (length (labels_of spots)) copies) c.in_ok-augmentation.augmentation =
+    subst (λ (ls : List Label). IsAugmentation ls (nothing (length ls) copies) c.in_ok-augmentation.augmentation) told c.in_ok-augmentation.ensures in
     let none : drop c.len-left.result spots ≡ drop (length spots) spots = ap (λ (n : ℕ). drop n spots) (omega (arith, c.len-left.ensures)) in
     let empty : (i : ℕ) → get nat_cmp c.new-missing.result i ≡ None = λ i. search rules in
     record {
       within = omega (arith, c.len-left.ensures);
       fresh = λ i lt. empty i;
-      state = subst (λ (l : List Spot). IsAugmentation (labels_of spots) (placed_from w (labels_of spots) copies c.len-left.result l) c.in_ok-grafting.grafting)
+      state = subst (λ (l : List Spot). IsAugmentation (labels_of spots) (placed_from w (labels_of spots) copies c.len-left.result l) c.in_ok-augmentation.augmentation)
           (sym (none ∙ drop_all (length spots) spots (omega arith))) base;
-      aims = c.new-aims.ensures.aims w;
+      refine_targets = c.new-refine_targets.ensures.refine_targets w;
       schedules = c.new-schedules.ensures w;
-      refined = c.new-aims.ensures.means ∙ sym (ap (λ (l : List Spot). refined_from w (labels_of spots) copies (λ i. get_or c.args.ends.now i 0) c.len-left.result l)
+      refined = c.new-refine_targets.ensures.means ∙ sym (ap (λ (l : List Spot). refined_from w (labels_of spots) copies (λ i. get_or c.args.ends.now i 0) c.len-left.result l)
           (none ∙ drop_all (length spots) spots (omega arith)));
       told = λ i le. (
           let past : length spots ≤ i = omega (arith, c.len-left.ensures, le) in
@@ -85,9 +85,9 @@ loop-left-preserved c =
           c.in_ok-note.ensures c.loop-left.invariant.fresh;
       state = subst (λ (x : State). IsAugmentation labels x c.enter.new.self) (placed_more w labels copies n left s spots (turns w labels s st) next at refl)
           (c.in_ok-enter.ensures labels (turns w labels s st) ready);
-      aims = c.in_ok-refine_all.ensures.aims;
+      refine_targets = c.in_ok-refine_all.ensures.refine_targets;
       schedules = c.in_ok-turned.ensures.schedules;
-      refined = refined_more w labels copies (λ i. get_or c.args.ends.now i 0) n left s spots c.end_of-end.result (all_meant c.loop-left.aims.refinements) _ next at c.end_of-end.ensures
+      refined = refined_more w labels copies (λ i. get_or c.args.ends.now i 0) n left s spots c.end_of-end.result (all_meant c.loop-left.refine_targets.refinements) _ next at c.end_of-end.ensures
           (c.in_ok-refine_all.ensures.means labels st c.loop-left.invariant.state) c.loop-left.invariant.refined;
       told = missing_more w (laid_in c.args.layout.now) c.args.ends.now n left c.in_ok-turned.turned.missing (get nat_cmp c.loop-left.missing) (get nat_cmp c.note.new.missing) next
           (c.loop-left.invariant.fresh n (omega (arith, next))) c.in_ok-note.ensures
@@ -99,4 +99,4 @@ returns-clause-state c =
     let w : Whole = whole_in c.args.plan.now in
     let spots : List Spot = c.args.layout.now.spots.items in
     let none : c.loop-left.left ≡ 0 = omega (arith, c.loop-left-test.false) in
-    subst (λ (n : ℕ). IsAugmentation (labels_of spots) (placed_from w (labels_of spots) c.args.layout.now.copies n (drop n spots)) c.loop-left.grafting) none c.loop-left.invariant.state
+    subst (λ (n : ℕ). IsAugmentation (labels_of spots) (placed_from w (labels_of spots) c.args.layout.now.copies n (drop n spots)) c.loop-left.augmentation) none c.loop-left.invariant.state

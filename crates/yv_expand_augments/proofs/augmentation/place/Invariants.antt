@@ -19,10 +19,10 @@ invariant-loop-left l = record {
   within : l.left ≤ length l.layout.spots.items;
   fresh : (i : ℕ) → i < l.left → get nat_cmp l.missing i ≡ None;
   state : IsAugmentation (labels_of l.layout.spots.items)
-      (placed_from (whole_in l.plan) (labels_of l.layout.spots.items) l.layout.copies l.left (drop l.left l.layout.spots.items)) l.grafting;
-  aims : AreRefineTargets (whole_in l.plan) l.aims;
+      (placed_from (whole_in l.plan) (labels_of l.layout.spots.items) l.layout.copies l.left (drop l.left l.layout.spots.items)) l.augmentation;
+  refine_targets : AreRefineTargets (whole_in l.plan) l.refine_targets;
   schedules : AreSchedules (whole_in l.plan) l.schedules;
-  refined : all_meant l.aims.refinements
+  refined : all_meant l.refine_targets.refinements
       ≡ refined_from (whole_in l.plan) (labels_of l.layout.spots.items) l.layout.copies (λ i. get_or l.ends i 0) l.left (drop l.left l.layout.spots.items);
   told : (i : ℕ) → l.left ≤ i → IsLeast (MissesAt (whole_in l.plan) (laid_in l.layout) (get_or l.ends i 0) i) (get nat_cmp l.missing i);
 }

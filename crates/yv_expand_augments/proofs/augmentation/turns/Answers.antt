@@ -23,7 +23,7 @@ use Rattle.yv_expand_augments.proofs.augmentation.turns.Goals as goal
 
 pub returns-then-not-has_augments-clause-state : goal.returns-then-not-has_augments-clause-state
 returns-then-not-has_augments-clause-state c = λ labels st is long room.
-    subst (λ (x : State). IsAugmentation labels x c.args.grafting)
+    subst (λ (x : State). IsAugmentation labels x c.args.augmentation)
     (sym (no_turns (whole_in c.args.plan.now) labels c.args.spot.now c.args.end st (sym c.has_augments.ensures ∙ c.if-not-has_augments.true))) is
 
 pub returns-then-not-has_augments-clause-lacks : goal.returns-then-not-has_augments-clause-lacks
@@ -56,7 +56,7 @@ loop-stretch-init c =
       left = subst (AreStretches w spot.statement spot.module_file 0 (length all)) (sym c.stretches-stretch-items.ensures) c.in_ok-prepare.ensures.ready;
       number = omega arith;
       each = λ labels st is long room. (
-        ready_first w labels spot st c.args.grafting is long (omega (arith, room, count)),
+        ready_first w labels spot st c.args.augmentation is long (omega (arith, room, count)),
         least_start all (MissesInTurn w labels spot c.args.end st),
       );
     }
@@ -94,9 +94,9 @@ returns-clause-state c = λ labels st is long room. (
     (and_parts (is_uses spot.label.kind) (not (length all == 0)) (sym c.has_augments.ensures ∙ c.if-not-has_augments.false)).0 in
     let last : at ≡ length all =
     subst (AreStretches w spot.statement spot.module_file at (length all)) (drop_all c.loop-stretch.stretch-index c.stretches-stretch-items.result.now c.loop-stretch-test.false) c.loop-stretch.invariant.left in
-    subst (λ (x : State). IsAugmentation labels x c.loop-stretch.grafting)
+    subst (λ (x : State). IsAugmentation labels x c.loop-stretch.augmentation)
     (after_all w labels spot at st (omega (arith, last)) ∙ ap (λ (b : Bool). if b then turns_from w labels spot spot.first (augments_giving w.rows spot.statement) st else st) (sym uses))
-    (c.loop-stretch.invariant.each labels st is long room).0.grafting)
+    (c.loop-stretch.invariant.each labels st is long room).0.augmentation)
 
 pub returns-clause-lacks : goal.returns-clause-lacks
 returns-clause-lacks c = λ labels st is long room. (

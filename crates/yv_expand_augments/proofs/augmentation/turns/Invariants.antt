@@ -17,8 +17,8 @@ invariant-loop-stretch l = record {
   left : AreStretches (whole_in l.plan) l.spot.statement l.spot.module_file at (length (augments_in (rows_in l.plan.rows.now) l.spot.statement))
       (drop l.stretch-index l.stretch-items);
   number : l.number ≡ next_number (rows_in l.plan.rows.now) l.spot at;
-  each : (labels : List Label) (st : State) → IsAugmentation labels st l.fn.grafting → length labels ≡ length l.plan.items.now
+  each : (labels : List Label) (st : State) → IsAugmentation labels st l.fn.augmentation → length labels ≡ length l.plan.items.now
       → l.spot.first + copies_of (rows_in l.plan.rows.now) l.spot ≤ length st.ends
-      → IsReady (whole_in l.plan) labels l.spot st at l.number l.grafting
+      → IsReady (whole_in l.plan) labels l.spot st at l.number l.augmentation
       × IsLeast (Among (augments_in (rows_in l.plan.rows.now) l.spot.statement) (MissesInTurn (whole_in l.plan) labels l.spot l.end st) at) l.least;
 }

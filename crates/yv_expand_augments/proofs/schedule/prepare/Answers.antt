@@ -8,7 +8,7 @@ use Rattle.yv_expand_augments.specs.InnerSchedule.{AreStretches, IsSchedule, str
 use Rattle.yv_expand_uses.specs.Spots.{Whole}
 use Rattle.yv_expand_uses.specs.AugmentOrder.{augments_in}
 use Rattle.yv_expand_augments.specs.declared.schedule.Schedule.{Schedule}
-use Rattle.yv_expand_uses.proofs.RefineAims.{known_more}
+use Rattle.yv_expand_uses.proofs.TargetLists.{known_more}
 use Rattle.yv_expand_augments.proofs.AugmentSchedule.{kept_for}
 use Rattle.yv_expand_augments.proofs.schedule.prepare.Goals as goal
 

@@ -8,6 +8,6 @@ use Rattle.yv_expand_changes.proofs.item_changes.changes.Given as goal
 
 abbrev pub invariant-loop-uses : goal.invariant-loop-uses
 invariant-loop-uses l = record {
-  known : AreKnown (lent_in l.rows) l.refinements.aims.items l.changes.runs l.known.items;
-  each : each l.changes ≡ all_changes (lent_in l.rows) l.spots (meant_from l.refinements.aims.items (take l.uses-index l.refinements.uses.items));
+  known : AreKnown (lent_in l.rows) l.refinements.refine_targets.items l.changes.runs l.known.items;
+  each : each l.changes ≡ all_changes (lent_in l.rows) l.spots (meant_from l.refinements.refine_targets.items (take l.uses-index l.refinements.uses.items));
 }

@@ -17,5 +17,5 @@ loop-preserved c = record {
 pub returns : goal.returns
 returns c = λ files. record {
   each = omega (arith, c.loop.invariant.each, c.loop-test.false, c.loop.auto.index-end);
-  are = λ p k at. (let empty = c.loop.invariant.are p k at in known_nothing files (targets_at c.args.aims.now p) k empty.0 empty.1);
+  are = λ p k at. (let empty = c.loop.invariant.are p k at in known_nothing files (targets_at c.args.refine_targets.now p) k empty.0 empty.1);
 }

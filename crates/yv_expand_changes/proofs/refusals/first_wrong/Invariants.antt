@@ -8,6 +8,6 @@ use Rattle.yv_expand_changes.proofs.refusals.first_wrong.Given as goal
 
 abbrev pub invariant-loop-uses : goal.invariant-loop-uses
 invariant-loop-uses l = record {
-  judged : AreJudged (lent_in l.rows) l.refinements.aims.items l.judged.items;
-  least : IsLeast (BadRefines (lent_in l.rows) l.spots (meant_from l.refinements.aims.items (take l.uses-index l.refinements.uses.items)) l.tree) l.least;
+  judged : AreJudged (lent_in l.rows) l.refinements.refine_targets.items l.judged.items;
+  least : IsLeast (BadRefines (lent_in l.rows) l.spots (meant_from l.refinements.refine_targets.items (take l.uses-index l.refinements.uses.items)) l.tree) l.least;
 }

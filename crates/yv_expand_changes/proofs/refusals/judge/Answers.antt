@@ -5,7 +5,7 @@ use Rattle.yv_expand_changes.proofs.refusals.judge.Goals as goal
 
 pub returns-in-Some-clause-least : goal.returns-in-Some-clause-least
 returns-in-Some-clause-least c = λ known spots targets tree item e there.
-    c.in-Some.ensures (lent_in c.args.rows.now) c.args.aims.now known spots targets tree item
+    c.in-Some.ensures (lent_in c.args.rows.now) c.args.refine_targets.now known spots targets tree item
     (c.deref-2.ensures.value ∙ c.in_ok-ways.ensures ∙ ap (ways_of c.args.spots.now) c.deref.ensures.value ∙ e) there
 
 pub returns-clause-judges : goal.returns-clause-judges

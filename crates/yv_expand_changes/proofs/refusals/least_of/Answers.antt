@@ -5,13 +5,13 @@ use Rattle.yv_expand_refines.specs.declared.targets.RefineTarget.{RefineTarget}
 use Rattle.yv_expand_changes.proofs.RefineJudgements.{all_judged, one_judged}
 use Rattle.yv_expand_changes.proofs.refusals.least_of.Goals as goal
 
-pub loop-aim-preserved : goal.loop-aim-preserved
-loop-aim-preserved c = λ spots targets tree item e there.
+pub loop-refine_target-preserved : goal.loop-refine_target-preserved
+loop-refine_target-preserved c = λ spots targets tree item e there.
     let none : RefineTarget = record { refine = 0; path = 0 } in
-    one_judged (lent_in c.args.rows.now) spots tree targets item c.args.ways.now c.args.aims.now c.loop-aim.aim-index _ c.loop-aim.least c.refusal_of_refine.result c.lesser-least.result e there
-    (slice_get-get_or c.args.aims.now c.loop-aim.aim-index none c.loop-aim-test.true) c.lesser-least.ensures c.refusal_of_refine.ensures (c.loop-aim.invariant spots targets tree item e there)
+    one_judged (lent_in c.args.rows.now) spots tree targets item c.args.ways.now c.args.refine_targets.now c.loop-refine_target.refine_target-index _ c.loop-refine_target.least c.refusal_of_refine.result c.lesser-least.result e there
+    (slice_get-get_or c.args.refine_targets.now c.loop-refine_target.refine_target-index none c.loop-refine_target-test.true) c.lesser-least.ensures c.refusal_of_refine.ensures (c.loop-refine_target.invariant spots targets tree item e there)
 
 pub returns : goal.returns
 returns c = λ spots targets tree item e there.
-    all_judged (lent_in c.args.rows.now) spots tree item targets c.args.aims.now c.loop-aim.aim-index c.loop-aim.least (omega (arith, c.loop-aim-test.false, c.loop-aim.auto.aim-index-end))
-    (c.loop-aim.invariant spots targets tree item e there)
+    all_judged (lent_in c.args.rows.now) spots tree item targets c.args.refine_targets.now c.loop-refine_target.refine_target-index c.loop-refine_target.least (omega (arith, c.loop-refine_target-test.false, c.loop-refine_target.auto.refine_target-index-end))
+    (c.loop-refine_target.invariant spots targets tree item e there)

@@ -11,45 +11,45 @@ use Rattle.yv_expand_changes.specs.InnerRefusals.{IsJudged}
 use Rattle.yv_expand_changes.proofs.UsesRuns.{nothing_meant, on_ok}
 use Rattle.yv_expand_changes.proofs.RefineJudgements.{absent_judged, if_ok, judged_more, none_judged}
 use Rattle.yv_expand_changes.proofs.refusals.wrong.Goals as goal
-use Rattle.yv_expand_changes.proofs.refusals.wrong.Goals.{then-place-aims-via-then-place-aims, then-place-aims-via-else-place-aims+then-not-contains}
+use Rattle.yv_expand_changes.proofs.refusals.wrong.Goals.{then-place-refine_targets-via-then-place-refine_targets, then-place-refine_targets-via-else-place-refine_targets+then-not-contains}
 
-pub returns-then-place-aims-clause-least : goal.returns-then-place-aims-clause-least
-returns-then-place-aims-clause-least c = λ tree are.
+pub returns-then-place-refine_targets-clause-least : goal.returns-then-place-refine_targets-clause-least
+returns-then-place-refine_targets-clause-least c = λ tree are.
     let files = lent_in c.args.rows.now in
-    elim c.then-place-aims.branch [
-      | then-place-aims-via-then-place-aims w ↦ none_judged files c.args.spots.now tree _ (nothing_meant c.args.aims.now c.args.uses.now w.if-place-aims.true)
-      | then-place-aims-via-else-place-aims+then-not-contains w ↦ absent_judged files c.args.spots.now tree c.args.aims.now c.args.uses.now c.args.items.now are (sym w.contains.ensures ∙ w.if-not-contains.true)
+    elim c.then-place-refine_targets.branch [
+      | then-place-refine_targets-via-then-place-refine_targets w ↦ none_judged files c.args.spots.now tree _ (nothing_meant c.args.refine_targets.now c.args.uses.now w.if-place-refine_targets.true)
+      | then-place-refine_targets-via-else-place-refine_targets+then-not-contains w ↦ absent_judged files c.args.spots.now tree c.args.refine_targets.now c.args.uses.now c.args.items.now are (sym w.contains.ensures ∙ w.if-not-contains.true)
     ]
 
 pub returns-clause-judges : goal.returns-clause-judges
 returns-clause-judges c =
     let files = lent_in c.args.rows.now in
-    let place : ℕ = c.args.uses.now.aims in
-    let within : place < length c.args.aims.now = omega (arith, c.if-place-aims.false) in
+    let place : ℕ = c.args.uses.now.refine_targets in
+    let within : place < length c.args.refine_targets.now = omega (arith, c.if-place-refine_targets.false) in
     let there : place < length c.args.judged.now.items = omega (arith, within, c.requires.each) in
-    let aims : c.deref.result.now ≡ targets_at c.args.aims.now place =
-    c.deref.ensures.value ∙ sym (ap targets_of (slice_get_read c.args.aims.now _ place c.index-aims-place.result refl within c.index-aims-place.is))
+    let refine_targets : c.deref.result.now ≡ targets_at c.args.refine_targets.now place =
+    c.deref.ensures.value ∙ sym (ap targets_of (slice_get_read c.args.refine_targets.now _ place c.index-refine_targets-place.result refl within c.index-refine_targets-place.is))
     in
     let was : IsJudged files c.deref.result.now c.index_mut.result.now =
-    subst (λ (l : List RefineTarget). IsJudged files l c.index_mut.result.now) (sym aims) (c.requires.are place c.index_mut.result.now (slice_get_read c.args.judged.now.items _ place c.index_mut.result.now refl there c.index_mut.ensures.value))
+    subst (λ (l : List RefineTarget). IsJudged files l c.index_mut.result.now) (sym refine_targets) (c.requires.are place c.index_mut.result.now (slice_get_read c.args.judged.now.items _ place c.index_mut.result.now refl there c.index_mut.ensures.value))
     in
-    on_ok c.judge.result (λ now. judged_more files c.args.aims.now c.args.judged.now.items place c.judge.new.judged c.requires (subst (λ (l : List RefineTarget). IsJudged files l c.judge.new.judged) aims now))
+    on_ok c.judge.result (λ now. judged_more files c.args.refine_targets.now c.args.judged.now.items place c.judge.new.judged c.requires (subst (λ (l : List RefineTarget). IsJudged files l c.judge.new.judged) refine_targets now))
     (c.judge.ensures.judges was)
 
 pub returns-clause-least : goal.returns-clause-least
 returns-clause-least c = λ tree are.
     let files = lent_in c.args.rows.now in
-    let place : ℕ = c.args.uses.now.aims in
-    let within : place < length c.args.aims.now = omega (arith, c.if-place-aims.false) in
+    let place : ℕ = c.args.uses.now.refine_targets in
+    let within : place < length c.args.refine_targets.now = omega (arith, c.if-place-refine_targets.false) in
     let there : place < length c.args.judged.now.items = omega (arith, within, c.requires.each) in
-    let aims : c.deref.result.now ≡ targets_at c.args.aims.now place =
-    c.deref.ensures.value ∙ sym (ap targets_of (slice_get_read c.args.aims.now _ place c.index-aims-place.result refl within c.index-aims-place.is))
+    let refine_targets : c.deref.result.now ≡ targets_at c.args.refine_targets.now place =
+    c.deref.ensures.value ∙ sym (ap targets_of (slice_get_read c.args.refine_targets.now _ place c.index-refine_targets-place.result refl within c.index-refine_targets-place.is))
     in
     let was : IsJudged files c.deref.result.now c.index_mut.result.now =
-    subst (λ (l : List RefineTarget). IsJudged files l c.index_mut.result.now) (sym aims) (c.requires.are place c.index_mut.result.now (slice_get_read c.args.judged.now.items _ place c.index_mut.result.now refl there c.index_mut.ensures.value))
+    subst (λ (l : List RefineTarget). IsJudged files l c.index_mut.result.now) (sym refine_targets) (c.requires.are place c.index_mut.result.now (slice_get_read c.args.judged.now.items _ place c.index_mut.result.now refl there c.index_mut.ensures.value))
     in
     let known : contains nat_cmp c.args.items.now c.args.uses.now.item ≡ true = search rules in
     if_ok c.judge.result
-    (λ least h. subst (λ (l : List RefineTarget). IsLeast (BadRefines files c.args.spots.now (map (meaning_of c.args.uses.now.item c.args.uses.now.targets.items) l) tree) least) aims
+    (λ least h. subst (λ (l : List RefineTarget). IsLeast (BadRefines files c.args.spots.now (map (meaning_of c.args.uses.now.item c.args.uses.now.targets.items) l) tree) least) refine_targets
     (h c.args.spots.now c.args.uses.now.targets.items tree c.args.uses.now.item refl (are.there c.args.uses.now.item known)))
     (c.judge.ensures.least was)

@@ -7,5 +7,5 @@ pub returns : goal.returns
 returns c =
     let items = c.args.items.now in
     let w = whole (files_in c.args.rows.now) (rows_in c.args.rows.now) c.args.augments.now (length items) in
-    let made = c.in_ok-grafts.ensures in
-    (made.0, c.in_ok-grown.ensures w items made.0 made.1, c.first_without_target-missing.ensures w items made.0 made.1 refl refl)
+    let made = c.in_ok-augmented_items.ensures in
+    (made.0, c.in_ok-full_tree.ensures w items made.0 made.1, c.first_without_target-missing.ensures w items made.0 made.1 refl refl)

@@ -11,11 +11,11 @@ returns-in-Some-clause-refusal c = λ choice r whole are e. (
     let files = lent_in c.args.rows.now in
     let items = c.args.expanded.expansion.items in
     let augments = c.args.expanded.augments.items in
-    let g = c.in_ok-grown.grown in
-    let known = known_by files g c.in_ok-grown.missing c.items.result.now items c.deref.result.now augments c.items.ensures.items c.deref.ensures.value c.in_ok-grown.ensures in
-    let final = final_of files g c.in_ok-grown.missing items augments known in
-    let is = is_final files g c.in_ok-grown.missing choice c.args.expanded.own items augments known whole are in
-    let changes = changes_are files g c.in_ok-grown.missing items augments known c.deref-2.result.now c.in_ok-changes.changes
+    let g = c.in_ok-full_tree.full_tree in
+    let known = known_by files g c.in_ok-full_tree.missing c.items.result.now items c.deref.result.now augments c.items.ensures.items c.deref.ensures.value c.in_ok-full_tree.ensures in
+    let final = final_of files g c.in_ok-full_tree.missing items augments known in
+    let is = is_final files g c.in_ok-full_tree.missing choice c.args.expanded.own items augments known whole are in
+    let changes = changes_are files g c.in_ok-full_tree.missing items augments known c.deref-2.result.now c.in_ok-changes.changes
     c.deref-2.ensures.value c.in_ok-changes.ensures in
     let found : IsLeast (BadFinal choice files) (Some c.in-Some.refusal) =
     final_least choice files (c.files_have_one_final_tree.ensures choice files) final (Some c.in-Some.refusal) is
@@ -28,11 +28,11 @@ returns-clause-keeps c = λ choice whole are. (
     let files = lent_in c.args.rows.now in
     let items = c.args.expanded.expansion.items in
     let augments = c.args.expanded.augments.items in
-    let g = c.in_ok-grown.grown in
-    let known = known_by files g c.in_ok-grown.missing c.items.result.now items c.deref.result.now augments c.items.ensures.items c.deref.ensures.value c.in_ok-grown.ensures in
-    let final = final_of files g c.in_ok-grown.missing items augments known in
-    let is = is_final files g c.in_ok-grown.missing choice c.args.expanded.own items augments known whole are in
-    let changes = changes_are files g c.in_ok-grown.missing items augments known c.deref-2.result.now c.in_ok-changes.changes
+    let g = c.in_ok-full_tree.full_tree in
+    let known = known_by files g c.in_ok-full_tree.missing c.items.result.now items c.deref.result.now augments c.items.ensures.items c.deref.ensures.value c.in_ok-full_tree.ensures in
+    let final = final_of files g c.in_ok-full_tree.missing items augments known in
+    let is = is_final files g c.in_ok-full_tree.missing choice c.args.expanded.own items augments known whole are in
+    let changes = changes_are files g c.in_ok-full_tree.missing items augments known c.deref-2.result.now c.in_ok-changes.changes
     c.deref-2.ensures.value c.in_ok-changes.ensures in
     let left = c.in_ok-left.ensures final c.items-2.ensures.items known.1 c.deref-3.ensures.value known.1.tree.rows_are changes in
     record {
@@ -52,11 +52,11 @@ returns-clause-clear c = λ choice whole are. (
     let files = lent_in c.args.rows.now in
     let items = c.args.expanded.expansion.items in
     let augments = c.args.expanded.augments.items in
-    let g = c.in_ok-grown.grown in
-    let known = known_by files g c.in_ok-grown.missing c.items.result.now items c.deref.result.now augments c.items.ensures.items c.deref.ensures.value c.in_ok-grown.ensures in
-    let final = final_of files g c.in_ok-grown.missing items augments known in
-    let is = is_final files g c.in_ok-grown.missing choice c.args.expanded.own items augments known whole are in
-    let changes = changes_are files g c.in_ok-grown.missing items augments known c.deref-2.result.now c.in_ok-changes.changes
+    let g = c.in_ok-full_tree.full_tree in
+    let known = known_by files g c.in_ok-full_tree.missing c.items.result.now items c.deref.result.now augments c.items.ensures.items c.deref.ensures.value c.in_ok-full_tree.ensures in
+    let final = final_of files g c.in_ok-full_tree.missing items augments known in
+    let is = is_final files g c.in_ok-full_tree.missing choice c.args.expanded.own items augments known whole are in
+    let changes = changes_are files g c.in_ok-full_tree.missing items augments known c.deref-2.result.now c.in_ok-changes.changes
     c.deref-2.ensures.value c.in_ok-changes.ensures in
     final_least choice files (c.files_have_one_final_tree.ensures choice files) final None is
     (let none : c.in_ok-refusal.field-0 ≡ None = c.in_default.is in rw none at (c.in_ok-refusal.ensures final c.items-2.ensures.items c.deref-3.ensures.value known.1 known.1.tree.rows_are changes known.2)))

@@ -13,15 +13,15 @@ returns-clause-each c = λ refined known before.
     let files = lent_in c.args.rows.now in
     let spots = c.args.spots.now in
     let targets : List (Option ℕ) = c.args.uses.now.targets.items in
-    let aims : List RefineTarget = c.args.aims.now in
-    let runs : List (List ℕ) = runs_of files (ways_of spots targets) aims in
+    let refine_targets : List RefineTarget = c.args.refine_targets.now in
+    let runs : List (List ℕ) = runs_of files (ways_of spots targets) refine_targets in
     let ways : c.learn.new.self.ways.items ≡ ways_of spots targets = c.in_ok-learn.ensures.ways ∙ c.in_ok-ways.ensures ∙ ap (ways_of spots) c.deref.ensures.value in
     let are : AreRuns c.learn.new.changes.runs c.learn.new.self.numbers.items runs =
-    subst (λ (ws : List (Option Way)). AreRuns c.learn.new.changes.runs c.learn.new.self.numbers.items (runs_of files ws aims)) ways (c.in_ok-learn.ensures.knows known)
+    subst (λ (ws : List (Option Way)). AreRuns c.learn.new.changes.runs c.learn.new.self.numbers.items (runs_of files ws refine_targets)) ways (c.in_ok-learn.ensures.knows known)
     in
     let lent : AreRuns c.learn.new.changes.runs c.deref-3.result.now runs = subst (λ (ns : List (Option ℕ)). AreRuns c.learn.new.changes.runs ns runs) (sym c.deref-3.ensures.value) are in
     on_ok c.note_all.result (λ e.
     e ∙ ap (λ (ts : List (Option ℕ)). noted_from 0 ts runs (each c.learn.new.changes)) c.deref-2.ensures.value
     ∙ ap (noted_from 0 targets runs) (c.in_ok-learn.ensures.each ∙ before)
-    ∙ copied files spots c.args.uses.now.item targets aims refined)
+    ∙ copied files spots c.args.uses.now.item targets refine_targets refined)
     (c.note_all.ensures.each runs lent)

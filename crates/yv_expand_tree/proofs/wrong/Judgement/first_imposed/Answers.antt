@@ -14,21 +14,21 @@ use Rattle.yv_expand_tree.proofs.TreeJudgements.{imposed_same, none_imposed}
 use Rattle.yv_expand_tree.proofs.wrong.Judgement.first_imposed.Goals as goal
 
 pub returns : goal.returns
-returns c = λ final items augments grown tree changes. (
+returns c = λ final items augments full_tree tree changes. (
     let files = lent_in c.args.self.now.rows.now in
     let said : c.deref.result.now ≡ said_of files final =
     c.deref.ensures.value ∙ c.in_ok-said.ensures ∙ ap (λ (xs : List Item). said_of_all files xs (each c.args.self.now.changes.now)) items
     ∙ ap (said_of_all files final.items) changes in
     let told : told_in c.marks-marks.result ≡ told_of (said_of files final) =
-    c.marks-marks.ensures (said_of files final) (c.in_ok-told.ensures.mandatory ∙ ap (map is_mandatory) said)
-    (c.in_ok-told.ensures.presence ∙ ap (map (λ (s : StatedProperties). s.presence)) said) (c.in_ok-told.ensures.config ∙ ap (map (λ (s : StatedProperties). s.config)) said) in
+    c.marks-marks.ensures (said_of files final) (c.in_ok-properties.ensures.mandatory ∙ ap (map is_mandatory) said)
+    (c.in_ok-properties.ensures.presence ∙ ap (map (λ (s : StatedProperties). s.presence)) said) (c.in_ok-properties.ensures.config ∙ ap (map (λ (s : StatedProperties). s.config)) said) in
     IfOk-weaker c.first_imposed.result _ _
     (λ o h. imposed_same (rows_in c.args.self.now.rows.now) c.deref-2.result.now (spots_of files final) c.args.self.now.augments.now final.augments
-    (told_in c.marks-marks.result) (told_of (said_of files final)) final.tree o (c.deref-2.ensures.value ∙ grown.spots) augments told h)
+    (told_in c.marks-marks.result) (told_of (said_of files final)) final.tree o (c.deref-2.ensures.value ∙ full_tree.spots) augments told h)
     (c.first_imposed.ensures final.tree (c.deref-3.ensures.value ∙ tree)))
 
 pub returns-then-is_empty : goal.returns-then-is_empty
-returns-then-is_empty c = λ final items augments grown tree changes r h. (
+returns-then-is_empty c = λ final items augments full_tree tree changes r h. (
     let files = lent_in c.args.self.now.rows.now in
     let rows = rows_in c.args.self.now.rows.now in
     let told = told_of (said_of files final) in

@@ -4,6 +4,6 @@ use Rattle.yv_expand_uses.proofs.leading_paths.LeadingPaths.read.Given as goal
 
 abbrev pub invariant-loop-arrival : goal.invariant-loop-arrival
 invariant-loop-arrival l = record {
-  paths : l.led.paths.items ≡ paths_of (take l.arrival-index l.arrivals);
-  targets : l.led.targets.items ≡ targets_of (take l.arrival-index l.arrivals);
+  paths : l.leading_paths.paths.items ≡ paths_of (take l.arrival-index l.arrivals);
+  targets : l.leading_paths.targets.items ≡ targets_of (take l.arrival-index l.arrivals);
 }

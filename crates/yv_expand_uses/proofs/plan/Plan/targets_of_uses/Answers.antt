@@ -6,15 +6,15 @@ use Rattle.yv_expand_uses.specs.Paths.{path_in}
 use Rattle.yv_expand_uses.specs.InnerPlan.{whole_in}
 use Rattle.yv_expand_uses.specs.RefineTargets.{refines_in}
 use Rattle.yv_expand_uses.specs.Spots.{Whole}
-use Rattle.yv_expand_uses.proofs.RefineAims.{aimed_more, aims_more}
+use Rattle.yv_expand_uses.proofs.TargetLists.{aimed_more, aims_more}
 use Rattle.yv_expand_uses.proofs.plan.Plan.targets_of_uses.Goals as goal
 
 pub loop-refine-init : goal.loop-refine-init
 loop-refine-init c = record {
   all = [] ∷ [];
   tree = c.in_ok-paths.ensures;
-  refines = ap (map (λ (a : RefineTarget). a.refine)) c.in_ok-aims.ensures.items;
-  each = ap (map (λ (a : RefineTarget). slice_get ([] ∷ []) a.path)) c.in_ok-aims.ensures.items;
+  refines = ap (map (λ (a : RefineTarget). a.refine)) c.in_ok-refine_targets.ensures.items;
+  each = ap (map (λ (a : RefineTarget). slice_get ([] ∷ []) a.path)) c.in_ok-refine_targets.ensures.items;
 }
 
 pub loop-refine-preserved : goal.loop-refine-preserved
@@ -35,8 +35,8 @@ loop-refine-preserved c =
     record {
       all = added.all;
       tree = added.tree;
-      refines = aims_more refines i c.loop-refine.aims.items c.push.new.self.items a less is c.in_ok-push.ensures.items before.refines;
-      each = aimed_more refines (path_in w c.args.module_file) i c.loop-refine.aims.items c.push.new.self.items a before.all added.all less added.kept
+      refines = aims_more refines i c.loop-refine.refine_targets.items c.push.new.self.items a less is c.in_ok-push.ensures.items before.refines;
+      each = aimed_more refines (path_in w c.args.module_file) i c.loop-refine.refine_targets.items c.push.new.self.items a before.all added.all less added.kept
           (added.at ∙ ap Some (steps ∙ ap (path_in w c.args.module_file) is)) c.in_ok-push.ensures.items before.each;
     }
 
@@ -51,5 +51,5 @@ returns c =
     record {
       all = are.all;
       tree = are.tree;
-      aims = record { refines = are.refines ∙ whole; each = are.each ∙ ap (map (λ k. Some (path_in w c.args.module_file k))) whole };
+      refine_targets = record { refines = are.refines ∙ whole; each = are.each ∙ ap (map (λ k. Some (path_in w c.args.module_file k))) whole };
     }

@@ -11,7 +11,7 @@ abbrev pub invariant-loop-refine : goal.invariant-loop-refine
 invariant-loop-refine l = record {
   all : List (List ℕ);
   tree : IsPathTree all l.paths;
-  refines : map (λ a. a.refine) l.aims.items ≡ take l.refine-index (refines_in (rows_in l.self.rows.now) l.statement);
-  each : map (λ a. slice_get all a.path) l.aims.items
+  refines : map (λ a. a.refine) l.refine_targets.items ≡ take l.refine-index (refines_in (rows_in l.self.rows.now) l.statement);
+  each : map (λ a. slice_get all a.path) l.refine_targets.items
       ≡ map (λ k. Some (path_in (whole_in l.self) l.module_file k)) (take l.refine-index (refines_in (rows_in l.self.rows.now) l.statement));
 }

@@ -5,8 +5,8 @@ use Rattle.yv_expand_uses.specs.declared.refine_targets.KeptTargets.{KeptTargets
 use Rattle.yv_expand_uses.specs.declared.refine_targets.RefineTargets.{RefineTargets}
 use Rattle.yv_expand_uses.specs.declared.refine_targets.UsesTargets.{UsesTargets}
 use Rattle.std.specs.declared.option.Option.{Option}
-use Rattle.yv_expand_uses.proofs.RefineAims.{exact_key, known_more}
-use Rattle.yv_expand_uses.proofs.NotedAims.{kept_before, number_before}
+use Rattle.yv_expand_uses.proofs.TargetLists.{exact_key, known_more}
+use Rattle.yv_expand_uses.proofs.NotedTargets.{kept_before, number_before}
 use Rattle.yv_expand_uses.proofs.ListGrowth.{get_last}
 use Rattle.yv_expand_uses.proofs.refine_targets.RefineTargets.add.Goals as goal
 
@@ -22,8 +22,8 @@ returns-clause-number c = λ w are is.
       is = is;
     }
 
-pub returns-clause-aims : goal.returns-clause-aims
-returns-clause-aims c = λ w are is.
+pub returns-clause-refine_targets : goal.returns-clause-refine_targets
+returns-clause-refine_targets c = λ w are is.
     let old : RefineTargets = c.args.self.now in
     let new : RefineTargets = record { known = c.insert.new.self; aimed = c.push.new.self; kept = c.push-2.new.self; refinements = old.refinements } in
     let more : c.push.new.self.items ≡ old.aimed.items ++ c.args.aimed ∷ [] = c.in_ok-push.ensures.items ∙ ap (λ (l : List UsesTargets). l ++ c.args.aimed ∷ []) c.reserve.ensures.items in

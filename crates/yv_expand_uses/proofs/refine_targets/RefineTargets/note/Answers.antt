@@ -3,13 +3,13 @@ use Rattle.yv_expand_refines.proofs.Meaning.{meant_from_more}
 use Rattle.yv_expand_refines.specs.Targets.{meant_from}
 use Rattle.yv_expand_refines.specs.declared.targets.RefinedUses.{RefinedUses}
 use Rattle.yv_expand_uses.specs.InnerRefineTargets.{StandWithin}
-use Rattle.yv_expand_uses.proofs.RefineAims.{within_push}
+use Rattle.yv_expand_uses.proofs.TargetLists.{within_push}
 use Rattle.yv_expand_uses.proofs.refine_targets.RefineTargets.note.Goals as goal
 
-pub returns-clause-aims : goal.returns-clause-aims
-returns-clause-aims c = λ w are.
-    let places : ℕ = length c.args.self.now.refinements.aims.items in
-    let u : RefinedUses = record { item = c.args.item; aims = c.args.place; targets = c.args.targets } in
+pub returns-clause-refine_targets : goal.returns-clause-refine_targets
+returns-clause-refine_targets c = λ w are.
+    let places : ℕ = length c.args.self.now.refinements.refine_targets.items in
+    let u : RefinedUses = record { item = c.args.item; refine_targets = c.args.place; targets = c.args.targets } in
     record {
       known = λ statement module_file number at. (let it = are.known statement module_file number at in record { aimed = it.aimed; at = it.at; is = it.is });
       each = are.each;
@@ -19,6 +19,6 @@ returns-clause-aims c = λ w are.
 
 pub returns-clause-means : goal.returns-clause-means
 returns-clause-means c =
-    let aims = c.args.self.now.refinements.aims.items in
-    let u : RefinedUses = record { item = c.args.item; aims = c.args.place; targets = c.args.targets } in
-    ap (meant_from aims) c.in_ok-push.ensures.items ∙ meant_from_more aims c.args.self.now.refinements.uses.items u
+    let refine_targets = c.args.self.now.refinements.refine_targets.items in
+    let u : RefinedUses = record { item = c.args.item; refine_targets = c.args.place; targets = c.args.targets } in
+    ap (meant_from refine_targets) c.in_ok-push.ensures.items ∙ meant_from_more refine_targets c.args.self.now.refinements.uses.items u

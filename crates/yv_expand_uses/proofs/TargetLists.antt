@@ -37,13 +37,13 @@ known_more {K = K} {X = X} cmp exact P old new key x updates before here k y at 
 pub exact_key : CmpEqualImpliesEq key_cmp
 exact_key = exact_pairs nat_cmp nat_cmp exact_unsigned exact_unsigned
 
--- the aims of the next place
-pub aims_last : (aims : List (Vec RefineTarget Global)) (v : Vec RefineTarget Global) → targets_at (aims ++ v ∷ []) (length aims) ≡ v.items
-aims_last aims v = ap targets_of (get_last aims v)
+-- the refine targets of the next place
+pub aims_last : (refine_targets : List (Vec RefineTarget Global)) (v : Vec RefineTarget Global) → targets_at (refine_targets ++ v ∷ []) (length refine_targets) ≡ v.items
+aims_last refine_targets v = ap targets_of (get_last refine_targets v)
 
--- the aims of one copy more stand there too
-pub within_push : (places : ℕ) (us : List RefinedUses) (u : RefinedUses) → StandWithin places us → u.aims < places → StandWithin places (us ++ u ∷ [])
-within_push places [] u h less zero v at = subst (λ (x : RefinedUses). x.aims < places) (same_Some u v at) less
+-- the refine targets of one copy more stand there too
+pub within_push : (places : ℕ) (us : List RefinedUses) (u : RefinedUses) → StandWithin places us → u.refine_targets < places → StandWithin places (us ++ u ∷ [])
+within_push places [] u h less zero v at = subst (λ (x : RefinedUses). x.refine_targets < places) (same_Some u v at) less
 within_push places [] u h less (suc k) v at = absurd (let e : None ≡ Some v = at in cc)
 within_push places (x ∷ xs) u h less zero v at = h zero v at
 within_push places (x ∷ xs) u h less (suc k) v at = within_push places xs u (λ j y e. h (suc j) y e) less k v at
@@ -52,9 +52,9 @@ within_push places (x ∷ xs) u h less (suc k) v at = within_push places xs u (�
 pub within_more : (old new : ℕ) (us : List RefinedUses) → old ≤ new → StandWithin old us → StandWithin new us
 within_more old new us more h k u at = (let less = h k u at in omega (arith, less, more))
 
--- the paths of aims, when there are more
-pub paths_keep : (old new : List (List ℕ)) (path_of : ℕ → List ℕ) (aims : List RefineTarget) (refines : List ℕ) → KeepPaths old new
-    → map (λ a. slice_get old a.path) aims ≡ map (λ k. Some (path_of k)) refines → map (λ a. slice_get new a.path) aims ≡ map (λ k. Some (path_of k)) refines
+-- the paths of refine targets, when there are more
+pub paths_keep : (old new : List (List ℕ)) (path_of : ℕ → List ℕ) (refine_targets : List RefineTarget) (refines : List ℕ) → KeepPaths old new
+    → map (λ a. slice_get old a.path) refine_targets ≡ map (λ k. Some (path_of k)) refines → map (λ a. slice_get new a.path) refine_targets ≡ map (λ k. Some (path_of k)) refines
 paths_keep old new path_of [] [] keep h = refl
 paths_keep old new path_of [] (k ∷ ks) keep h = absurd (let e : [] ≡ Some (path_of k) ∷ map (λ j. Some (path_of j)) ks = h in cc)
 paths_keep old new path_of (a ∷ bs) [] keep h = absurd (let e : slice_get old a.path ∷ map (λ b. slice_get old b.path) bs ≡ [] = h in cc)
@@ -66,29 +66,29 @@ paths_keep old new path_of (a ∷ bs) (k ∷ ks) keep h =
     ∙ ap (λ (l : List (Option (List ℕ))). Some (path_of k) ∷ l) (paths_keep old new path_of bs ks keep others)
 
 -- where the path of a number leads, by its place among those that lead somewhere
-target_told : (lead : List ℕ → Option ℕ) (all : List (List ℕ)) (led : LeadingPaths) → IsLed lead all led → (n : ℕ) (steps : List ℕ) → slice_get all n ≡ Some steps
-    → get_or led.targets.items (unwrap_or (first_from 0 led.paths.items n) (length led.paths.items)) None ≡ lead steps
-target_told lead all led are n steps of = by (first_from 0 led.paths.items n) refl
+target_told : (lead : List ℕ → Option ℕ) (all : List (List ℕ)) (leading_paths : LeadingPaths) → IsLed lead all leading_paths → (n : ℕ) (steps : List ℕ) → slice_get all n ≡ Some steps
+    → get_or leading_paths.targets.items (unwrap_or (first_from 0 leading_paths.paths.items n) (length leading_paths.paths.items)) None ≡ lead steps
+target_told lead all leading_paths are n steps of = by (first_from 0 leading_paths.paths.items n) refl
   where
-    nowhere : (t : Option ℕ) → lead steps ≡ t → first_from 0 led.paths.items n ≡ None → None ≡ t
+    nowhere : (t : Option ℕ) → lead steps ≡ t → first_from 0 leading_paths.paths.items n ≡ None → None ≡ t
     nowhere None to e = refl
-    nowhere (Some item) to e = (let at = are.whole n item steps of to in absurd (first_there 0 led.paths.items at.0 n at.1 e))
+    nowhere (Some item) to e = (let at = are.whole n item steps of to in absurd (first_there 0 leading_paths.paths.items at.0 n at.1 e))
 
-    by : (o : Option ℕ) → first_from 0 led.paths.items n ≡ o → get_or led.targets.items (unwrap_or o (length led.paths.items)) None ≡ lead steps
-    by None e = get_or_past led.targets.items (length led.paths.items) None (let each = are.each in omega (arith, each)) ∙ nowhere (lead steps) refl e
+    by : (o : Option ℕ) → first_from 0 leading_paths.paths.items n ≡ o → get_or leading_paths.targets.items (unwrap_or o (length leading_paths.paths.items)) None ≡ lead steps
+    by None e = get_or_past leading_paths.targets.items (length leading_paths.paths.items) None (let each = are.each in omega (arith, each)) ∙ nowhere (lead steps) refl e
     by (Some place) e =
-        let there = first_stands 0 led.paths.items n place e in
+        let there = first_stands 0 leading_paths.paths.items n place e in
         let same : place ≡ there.0 = (let is = there.1 in omega (arith, is)) in
-        ap (λ k. get_or led.targets.items k None) same ∙ are.leads there.0 n steps there.2 of
+        ap (λ k. get_or leading_paths.targets.items k None) same ∙ are.leads there.0 n steps there.2 of
 
--- aims with these refines and paths mean where the paths of these refines lead
-pub meant_told : (item : ℕ) (lead : List ℕ → Option ℕ) (all : List (List ℕ)) (led : LeadingPaths) (path_of : ℕ → List ℕ) → IsLed lead all led → (aims : List RefineTarget) (refines : List ℕ) → map (λ a. a.refine) aims ≡ refines
-    → map (λ a. slice_get all a.path) aims ≡ map (λ k. Some (path_of k)) refines
-    → map (meaning_of item led.targets.items) (map (place_aim led.paths.items) aims) ≡ map (λ k. record { item = item; refine = k; target = lead (path_of k) }) refines
-meant_told item lead all led path_of are [] [] h g = refl
-meant_told item lead all led path_of are [] (k ∷ ks) h g = absurd (let e : [] ≡ k ∷ ks = h in cc)
-meant_told item lead all led path_of are (a ∷ bs) [] h g = absurd (let e : a.refine ∷ map (λ b. b.refine) bs ≡ [] = h in cc)
-meant_told item lead all led path_of are (a ∷ bs) (k ∷ ks) h g =
+-- refine targets with these refines and paths mean where the paths of these refines lead
+pub meant_told : (item : ℕ) (lead : List ℕ → Option ℕ) (all : List (List ℕ)) (leading_paths : LeadingPaths) (path_of : ℕ → List ℕ) → IsLed lead all leading_paths → (refine_targets : List RefineTarget) (refines : List ℕ) → map (λ a. a.refine) refine_targets ≡ refines
+    → map (λ a. slice_get all a.path) refine_targets ≡ map (λ k. Some (path_of k)) refines
+    → map (meaning_of item leading_paths.targets.items) (map (place_aim leading_paths.paths.items) refine_targets) ≡ map (λ k. record { item = item; refine = k; target = lead (path_of k) }) refines
+meant_told item lead all leading_paths path_of are [] [] h g = refl
+meant_told item lead all leading_paths path_of are [] (k ∷ ks) h g = absurd (let e : [] ≡ k ∷ ks = h in cc)
+meant_told item lead all leading_paths path_of are (a ∷ bs) [] h g = absurd (let e : a.refine ∷ map (λ b. b.refine) bs ≡ [] = h in cc)
+meant_told item lead all leading_paths path_of are (a ∷ bs) (k ∷ ks) h g =
     let e : a.refine ∷ map (λ b. b.refine) bs ≡ k ∷ ks = h in
     let f : slice_get all a.path ∷ map (λ b. slice_get all b.path) bs ≡ Some (path_of k) ∷ map (λ j. Some (path_of j)) ks = g in
     let is : a.refine ≡ k = cc in
@@ -96,13 +96,13 @@ meant_told item lead all led path_of are (a ∷ bs) (k ∷ ks) h g =
     let others : map (λ b. b.refine) bs ≡ ks = cc in
     let rest : map (λ b. slice_get all b.path) bs ≡ map (λ j. Some (path_of j)) ks = cc in
     let make : ℕ → Option ℕ → RefineMeaning = λ r t. record { item = item; refine = r; target = t } in
-    let behind : List RefineMeaning = map (meaning_of item led.targets.items) (map (place_aim led.paths.items) bs) in
-    let target : Option ℕ = get_or led.targets.items (unwrap_or (first_from 0 led.paths.items a.path) (length led.paths.items)) None in
+    let behind : List RefineMeaning = map (meaning_of item leading_paths.targets.items) (map (place_aim leading_paths.paths.items) bs) in
+    let target : Option ℕ = get_or leading_paths.targets.items (unwrap_or (first_from 0 leading_paths.paths.items a.path) (length leading_paths.paths.items)) None in
     ap (λ (r : ℕ). make r target ∷ behind) is
-    ∙ ap (λ (t : Option ℕ). make k t ∷ behind) (target_told lead all led are a.path (path_of k) at)
-    ∙ ap (λ (l : List RefineMeaning). make k (lead (path_of k)) ∷ l) (meant_told item lead all led path_of are bs ks others rest)
+    ∙ ap (λ (t : Option ℕ). make k t ∷ behind) (target_told lead all leading_paths are a.path (path_of k) at)
+    ∙ ap (λ (l : List RefineMeaning). make k (lead (path_of k)) ∷ l) (meant_told item lead all leading_paths path_of are bs ks others rest)
 
--- one more aim
+-- one more refine target
 pub aims_more : (refines : List ℕ) (i : ℕ) (old new : List RefineTarget) (a : RefineTarget) → i < length refines → a.refine ≡ get_or refines i 0 → new ≡ old ++ a ∷ []
     → map (λ b. b.refine) old ≡ take i refines → map (λ b. b.refine) new ≡ take (i + 1) refines
 aims_more refines i old new a less is now before =
