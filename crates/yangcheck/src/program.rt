@@ -12,10 +12,10 @@ use std::io::{ErrorKind, Read};
 use std::mem::ManuallyDrop;
 use std::rt::{Env, Files};
 use std::{env, io};
+use yv_base_streams::{Counted, Input, InputFault, read_input};
 use yv_job::{Command, Job, JobFault, read_job};
 use yv_note_text::push_shown;
 use yv_run::{RunEnd, Status, run_with_note};
-use yv_base_streams::{Counted, Input, InputFault, read_input};
 
 /// Does what the process's arguments ask for, and answers its exit status.
 pub fn program<R: Env + Files + io::Input + Print + Eprint + AllocGlobal>(rt: &R) -> u8 {

@@ -5,8 +5,8 @@ ghost use Rattle.yv_node_properties.specs.{Marks.{is_mandatory, over, silent, st
 
 use crate::substatements::{first_of, has, name_of};
 use yv_base_numbers::{Integer, integer_of};
-use yv_text_statement::Statement;
 use yv_text_grammar::Keyword;
+use yv_text_statement::Statement;
 
 /// The properties of a node that statements say, where they do (RFC 7950, section 7.13.2).
 #[derive(Clone, Copy, Debug, PartialEq, Eq)]

@@ -3,8 +3,8 @@ ghost use Rattle.std.specs.{Prelude.{◌≡◌, is_some}, Option.{option_map}};
 ghost use Rattle.yv_text_statement.specs.Tree.{name_of as name_at};
 ghost use Rattle.yv_node_properties.specs.Statements.{argument_of, first_of, is_of};
 
-use yv_text_statement::Statement;
 use yv_text_grammar::Keyword;
+use yv_text_statement::Statement;
 
 /// Whether a statement has this keyword.
 pub fn is_of(keyword: Keyword, statement: &Statement<'_>) -> bool

@@ -11,8 +11,8 @@ use std::marker::Model;
 use std::rc::{RcSlice, RcStr};
 use yv_node_content::DefinitionDraft;
 use yv_node_properties::{StatedProperties, elements, first_of, is_of, name_of};
-use yv_text_statement::{Statement, WrittenText};
 use yv_text_grammar::Keyword;
+use yv_text_statement::{Statement, WrittenText};
 
 /// What a statement says of the properties of a node that a refine may change, each where the
 /// statement says it, and its defaults (RFC 7950, section 7.13.2).

@@ -5,8 +5,8 @@ ghost use Rattle.yv_node_statements.specs.{Features.{expressions, is_blank, with
 
 use std::alloc::AllocError;
 use yv_node_properties::{is_of, name_of};
-use yv_text_statement::Statement;
 use yv_text_grammar::Keyword;
+use yv_text_statement::Statement;
 
 // A space, a tab, a CR or an LF.
 fn is_blank(character: char) -> bool

@@ -12,8 +12,8 @@ use std::rc::Rc;
 use yv_node_content::{Keys, PathPiece, PathStep};
 use yv_node_paths::LeafPaths;
 use yv_node_properties::{argument_of, first_of, is_of, name_of};
-use yv_text_statement::Statement;
 use yv_text_grammar::Keyword;
+use yv_text_statement::Statement;
 
 /// What the `key` and `unique` statements of a block name, and the path of the leafref that it has
 /// as its type.

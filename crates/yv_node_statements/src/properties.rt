@@ -18,8 +18,8 @@ use std::alloc::{AllocError, Global};
 use std::rc::{RcSlice, RcStr};
 use yv_node_content::{DefinitionDraft, NodeKind, NodeStatus};
 use yv_node_properties::{argument_of, first_of, name_of};
-use yv_text_statement::{Statement, WrittenText};
 use yv_text_grammar::Keyword;
+use yv_text_statement::{Statement, WrittenText};
 use yv_types::Types;
 use yv_values::PlainType;
 

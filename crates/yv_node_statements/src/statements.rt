@@ -6,8 +6,8 @@ ghost use Rattle.yv_node_properties.specs.Statements.{file_at, first_of, no_stat
 
 use yv_link_scopes::Rows;
 use yv_node_properties::first_of;
-use yv_text_statement::Statement;
 use yv_text_grammar::Keyword;
+use yv_text_statement::Statement;
 
 /// The numbered statement.
 pub(crate) fn statement_at<'a, 'b>(rows: &Rows<'a, 'b>, number: usize) -> Option<&'a Statement<'b>>

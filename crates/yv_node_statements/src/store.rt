@@ -19,8 +19,8 @@ use std::rc::RcStr;
 use yv_link_scopes::Rows;
 use yv_node_content::{Definition, DefinitionDraft, NodeKind};
 use yv_node_paths::LeafPaths;
-use yv_text_statement::Statement;
 use yv_text_grammar::Keyword;
+use yv_text_statement::Statement;
 use yv_types::Types;
 use yv_values::{Matchers, PlainType};
 

@@ -7,11 +7,11 @@ ghost use Rattle.yv_note_patterns.specs.PatternFailure.{AreNoPatterns, HasNoPatt
 
 use crate::patterns::{first_pattern, first_unbuilt};
 use std::alloc::{AllocError, Global};
+use yv_base_streams::Input;
 use yv_link_scopes::{Entry, Rows, name_of};
 use yv_note_text::{excerpt, push_quoted, push_shown};
 use yv_source::Texts;
 use yv_text_statement::{Statement, Stop};
-use yv_base_streams::Input;
 
 const REASON: &str =
     " is too large for the library of regular expressions, or takes more room than is left: all patterns of the files together have 256 MiB.\n";

@@ -7,12 +7,12 @@ ghost use Rattle.yv_note_text.specs.Quotes.{Extends};
 use crate::clear::push_clear;
 use crate::refusal_text::{Bounds, push_sentence};
 use std::alloc::{AllocError, Global};
+use yv_base_streams::Input;
 use yv_link_scopes::Rows;
 use yv_note_syntax::push_unread;
 use yv_note_text::excerpt;
 use yv_source::Texts;
 use yv_text_statement::{Refusal, Stop};
-use yv_base_streams::Input;
 
 // The bytes of the file of this number; none, where there is none.
 fn bytes_at(inputs: &[Input], file: u32) -> &[u8]

@@ -7,10 +7,10 @@ ghost use Rattle.yv_note_refusals.specs.Subject.{Names, is_at, subject};
 use crate::cause::Refused;
 use crate::words::subject;
 use std::alloc::{AllocError, Global};
+use yv_base_streams::Input;
 use yv_link_scopes::{Entry, Rows};
 use yv_note_statements::{Message, Site, entries, push_around, push_plain, sentence_of};
 use yv_text_statement::{Code, Refusal, Selection, Statement};
-use yv_base_streams::Input;
 
 // Whether a statement is at the refusal's place.
 fn is_at(entry: &Entry<'_, '_>, refusal: &Refusal) -> bool

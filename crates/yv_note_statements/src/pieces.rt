@@ -5,9 +5,9 @@ ghost use Rattle.yv_note_text.specs.Quotes.{Extends, Quotes};
 use crate::sentences::sentence_of;
 use crate::site::Site;
 use std::alloc::{AllocError, Global};
+use yv_base_streams::Input;
 use yv_note_text::{excerpt, front, push_code_point, push_quoted, push_shown};
 use yv_text_statement::Code;
-use yv_base_streams::Input;
 
 // A part of what is said. A place is a file's number, and a line or an offset.
 #[derive(Drop)]

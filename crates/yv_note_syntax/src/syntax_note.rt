@@ -5,9 +5,9 @@ ghost use Rattle.yv_note_text.specs.Quotes.{Extends};
 use crate::syntax::tell_syntax;
 use crate::tokens::{tell_escape, tell_token};
 use std::alloc::{AllocError, Global};
+use yv_base_streams::Input;
 use yv_note_statements::{Message, push_plain};
 use yv_text_statement::{Code, Refusal};
-use yv_base_streams::Input;
 
 // The character at the front of a text that is UTF-8 there.
 fn character_of(rest: &[u8]) -> Option<char> {

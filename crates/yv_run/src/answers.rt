@@ -12,11 +12,11 @@ use crate::print::{of_count, of_data, of_diagram, of_refusal};
 use crate::whole_run::{Halt, Holdings, RunEnd};
 use std::alloc::{AllocError, Global};
 use std::io::{Read, Write};
+use yv_base_streams::{Counted, Input, InputFault, read_up_to};
 use yv_job::{Command, Job};
 use yv_note_refusals::{Bounds, explanation};
 use yv_schema::Schema;
 use yv_text_statement::{Kind, Refusal};
-use yv_base_streams::{Counted, Input, InputFault, read_up_to};
 
 /// What is read of a document: one byte more than it may have, so that its being too large shows.
 const DATA_BYTES: usize = 16_777_217;

@@ -5,10 +5,10 @@ ghost use Rattle.yv_run.specs.Compiles.{FilesCompile, RefusedAt, HasSchema, Have
 ghost use Rattle.yv_base_streams.specs.Files.{file_of};
 
 use std::alloc::Global;
+use yv_base_streams::Input;
 use yv_schema::{Schema, compile};
 use yv_source::Texts;
 use yv_text_statement::{Selection, Stop};
-use yv_base_streams::Input;
 
 /// The schema of these files, or what is refused first, `TooManyNodes` where they expand to more
 /// than the limit. `PatternBuild` says that the library of regular expressions doesn't build a

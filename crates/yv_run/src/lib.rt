@@ -21,5 +21,5 @@ pub use notes::diagram_note;
 pub use print::{Body, CheckResult, Output, of_count, of_data, of_diagram, of_refusal};
 pub use status::{Status, Verdict};
 pub use whole_run::{Holdings, RunEnd, run, run_with_note};
-pub use yv_job::{Command, Job, JobFault, read_job};
 pub use yv_base_streams::{Counted, Input, InputFault, read_input};
+pub use yv_job::{Command, Job, JobFault, read_job};

@@ -7,9 +7,9 @@ ghost use Rattle.yv_run.specs.{Document.{MeetsLimits, document_view, document_te
 use crate::document::{Document, read_document};
 use crate::status::Verdict;
 use std::alloc::{AllocError, Global};
+use yv_base_streams::Input;
 use yv_schema::Schema;
 use yv_text_statement::{Kind, Refusal};
-use yv_base_streams::Input;
 use yv_tree::TreeDiagram;
 use yv_validate::{Fault, validate};
 

@@ -14,12 +14,12 @@ use crate::status::Status;
 use std::alloc::{AllocError, Global};
 use std::io::{Read, Write};
 use thiserror::Error;
+use yv_base_streams::{Counted, Input};
 use yv_job::Job;
 use yv_note_refusals::unbuilt_pattern;
 use yv_schema::Schema;
 use yv_source::laws::{a_bad_file_is_refused_once, a_text_is_spelled_or_refused_once};
 use yv_text_statement::Stop;
-use yv_base_streams::{Counted, Input};
 
 /// Why there is nothing to write.
 #[derive(Debug, Drop, Error)]

@@ -3,8 +3,8 @@ ghost use Rattle.std.specs.{Prelude.{◌≡◌, ◌≤◌, length}, Option.{opti
 ghost use Rattle.yv_text_statement.specs.Order.{Among, IsLeast};
 ghost use Rattle.yv_schema_build.specs.Refusals.{BadFile, in_file};
 
-use yv_text_statement::{Refusal, Statement, lesser};
 use yv_text_grammar::conform;
+use yv_text_statement::{Refusal, Statement, lesser};
 
 /// The least refusal of statements that aren't as the tables of the language say.
 pub(crate) fn first_bad_file(files: &[Statement<'_>]) -> Option<Refusal>

@@ -4,8 +4,8 @@ ghost use Rattle.yv_text_statement.specs.declared.keyword.Keyword.TheVariants as
 ghost use Rattle.yv_text_statement.specs.Tree.{name_of as name_at};
 ghost use Rattle.yv_node_properties.specs.Statements.{argument_of, first_of, is_of};
 
-use yv_text_statement::Statement;
 use yv_text_grammar::Keyword;
+use yv_text_statement::Statement;
 
 /// The statement's argument, or no text where it has none.
 pub(crate) fn name_of<'s>(statement: &'s Statement<'_>) -> &'s str

@@ -8,8 +8,8 @@ use crate::source::legal_text;
 use crate::statements::{in_file, parse_all};
 use crate::text::Text;
 use std::alloc::{AllocError, Global};
-use yv_text_statement::{Refusal, Statement, Stop};
 use yv_base_streams::Input;
+use yv_text_statement::{Refusal, Statement, Stop};
 
 /// The texts of files, up to the first whose bytes are not text. They lie in the files' bytes, and
 /// statements borrow from them there.

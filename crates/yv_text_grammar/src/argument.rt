@@ -4,8 +4,8 @@ ghost use Rattle.yv_text_grammar.specs.Argument.{ArgumentFits, IfFeatureFits, ar
 
 use crate::form::{Form, find_form};
 use crate::{lists, text};
-use yv_text_statement::Keyword;
 use yv_text_if_feature::{is_identifier, is_if_feature, is_name};
+use yv_text_statement::Keyword;
 
 /// Whether the argument of a statement, in the block of a parent, is as its keyword wants it (RFC
 /// 7950, section 14).

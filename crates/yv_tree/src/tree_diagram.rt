@@ -12,9 +12,9 @@ use crate::text::Text;
 use std::alloc::{AllocError, Global};
 use std::io::Write;
 use std::marker::Model;
+use yv_base_streams::{Counted, Page};
 use yv_nodes::NodeId;
 use yv_schema_tables::{Module, Schema};
-use yv_base_streams::{Counted, Page};
 
 /// The tree diagram of a module (RFC 8340), before it is drawn: all that wants memory is at hand.
 /// Contracts see its text.

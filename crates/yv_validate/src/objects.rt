@@ -22,11 +22,11 @@ use serde_json::{Map, Value};
 use std::alloc::{AllocError, Global};
 use yv_data_faults::{FaultKind, Faults, Trail};
 use yv_data_leafrefs::{RuleScope, answer, laws as found_laws};
-use yv_node_content::NodeKind;
-use yv_nodes::NodeId;
 use yv_data_quiet::{
     Run, RunTable, inner_steps, known_nodes, known_steps, pass_quiet, pass_quiet_children,
 };
+use yv_node_content::NodeKind;
+use yv_nodes::NodeId;
 use yv_schema_tables::Schema;
 use yv_text_statement::Kind;
 use yv_values::{Index, Meter};

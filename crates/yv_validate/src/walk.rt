@@ -4,8 +4,8 @@ ghost use Rattle.yv_data_quiet.specs.{Quiet.{AreKnown}, Runs.{HasRuns}};
 use std::alloc::Global;
 use yv_data_faults::Trail;
 use yv_data_leafrefs::RuleScope;
-use yv_nodes::NodeId;
 use yv_data_quiet::RunTable;
+use yv_nodes::NodeId;
 use yv_schema_tables::Schema;
 use yv_text_statement::Kind;
 
