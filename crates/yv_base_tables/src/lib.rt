@@ -1,4 +1,5 @@
-//! Numbers by their places, as statements by the block that contains them.
+//! Tables by number: values, lists and paths at numbers, as statements by the block that contains
+//! them.
 #![tactic(auto)]
 
 mod chains;
@@ -6,6 +7,7 @@ mod families;
 pub mod laws;
 mod path_tree;
 pub mod path_tree_laws;
+pub mod slots;
 mod sparse;
 mod table;
 

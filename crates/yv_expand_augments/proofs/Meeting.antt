@@ -11,7 +11,7 @@ use Rattle.yv_expand_rounds.specs.Tree.{Tree, none, item, tree_list}
 use Rattle.yv_expand_rounds.specs.declared.row.ItemRow.{ItemRow}
 use Rattle.yv_expand_augments.specs.MandatoryNodes.{Around, ImposesMandatory, IsMandatoryAdded, MarksView, has_mandatory, inside, is_configuration, is_mandatory, nothing_around}
 use Rattle.yv_expand_augments.specs.InnerMandatoryNodes.{ImposesMandatoryIn, counts, found_in, meet}
-use Rattle.yv_expand_uses.specs.On.{is_marked}
+use Rattle.yv_base_graph.specs.Marks.{is_marked}
 use Rattle.yv_expand_uses.specs.declared.spot.Spot.{Spot}
 use Rattle.yv_expand_augments.proofs.ItemConfiguration.{marks_of}
 use Rattle.yv_expand_uses.proofs.StatementLists.{rest_of}

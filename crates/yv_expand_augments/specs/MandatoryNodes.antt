@@ -7,7 +7,7 @@ use Rattle.yv_text_statement.specs.declared.refusal.Refusal.{Refusal}
 use Rattle.yv_link_scopes.specs.Rows.{Row}
 use Rattle.yv_expand_rounds.specs.Tree.{Tree, none, item}
 use Rattle.yv_expand_augments.specs.Refusals.{RefusesIf}
-use Rattle.yv_expand_uses.specs.On.{is_marked}
+use Rattle.yv_base_graph.specs.Marks.{is_marked}
 use Rattle.yv_expand_uses.specs.Spots.{source_in, spot_at}
 use Rattle.yv_expand_augments.specs.declared.mandatory_nodes.RefinedMarks.{RefinedMarks}
 use Rattle.yv_expand_uses.specs.declared.spot.Spot.{Spot}

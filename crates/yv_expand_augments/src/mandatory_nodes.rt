@@ -4,12 +4,14 @@ ghost use Rattle.yv_text_statement.specs.Order.{IsLeast};
 ghost use Rattle.yv_link_scopes.specs.Views.{rows_in};
 ghost use Rattle.yv_expand_rounds.specs.{Tree.{Tree, tree_list}, Kinds.{is_container, is_operation_or_notification}};
 ghost use Rattle.yv_expand_augments.specs.{MandatoryNodes.{ImposesMandatory, source_of, inside, is_configuration, is_container_without, is_given, is_mandatory, is_some_operation, nothing_around, told_in}, InnerMandatoryNodes.{AreShallow, around_marks, configuration_marks, counts, enter, mandatory_refusal, is_mandatory_added, meet}};
-ghost use Rattle.yv_expand_uses.specs.{On.{is_marked}, Spots.{spot_at}};
+ghost use Rattle.yv_base_graph.specs.Marks.{is_marked};
+ghost use Rattle.yv_expand_uses.specs.{Spots.{spot_at}};
 
 use crate::placement::refusal_of_augment;
 use std::alloc::{AllocError, Global};
+use yv_base_graph::is_marked;
 use yv_expand_rounds::{ItemRow, StatementKind};
-use yv_expand_uses::{Spot, is_marked, source_in, spot_at};
+use yv_expand_uses::{Spot, source_in, spot_at};
 use yv_link_scopes::Rows;
 use yv_text_statement::{Refusal, lesser};
 

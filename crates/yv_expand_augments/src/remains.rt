@@ -4,8 +4,9 @@ ghost use Rattle.yv_expand_rounds.specs.Tree.{Tree, tree_list};
 ghost use Rattle.yv_expand_augments.specs.{Remains.{is_left, is_some_uses, remains}, InnerRemains.{cut_after, is_below, is_left_under, one_if, scan}};
 
 use std::alloc::{AllocError, Global};
+use yv_base_graph::is_marked;
 use yv_expand_rounds::ItemRow;
-use yv_expand_uses::{Spot, is_marked, is_uses};
+use yv_expand_uses::{Spot, is_uses};
 
 // Whether an item is below one of this depth.
 fn is_below(cut: Option<usize>, depth: usize) -> bool

@@ -7,7 +7,7 @@ use Rattle.std.proofs.lemmas.List.{get_or-take, map-append, take_more}
 use Rattle.std.proofs.lemmas.Option.{same_Some}
 use Rattle.yv_link_scopes.specs.Files.{Files}
 use Rattle.yv_expand.specs.Tree.{Item}
-use Rattle.yv_expand_uses.specs.On.{is_marked}
+use Rattle.yv_base_graph.specs.Marks.{is_marked}
 use Rattle.yv_expand_uses.specs.declared.spot.Spot.{Spot}
 use Rattle.yv_expand_refines.specs.Changes.{ChangesView, each, sequence_at}
 use Rattle.yv_expand_refines.proofs.ItemRefines.{each_at}

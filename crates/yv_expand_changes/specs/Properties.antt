@@ -5,7 +5,7 @@ use Rattle.std.specs.Prelude.{ℕ, List, [], ◌∷◌, ◌++◌, map, None, sli
 use Rattle.yv_link_scopes.specs.Files.{Files}
 use Rattle.yv_expand.specs.Tree.{Item}
 use Rattle.yv_expand_augments.specs.MandatoryNodes.{MarksView}
-use Rattle.yv_expand_uses.specs.On.{is_marked}
+use Rattle.yv_base_graph.specs.Marks.{is_marked}
 use Rattle.yv_node_properties.specs.Marks.{is_mandatory, stated_of}
 use Rattle.yv_node_properties.specs.Properties.{last_said, statements_of_origin}
 use Rattle.yv_node_properties.specs.declared.properties.StatedProperties.{StatedProperties}

@@ -3,12 +3,13 @@ ghost use Rattle.std.specs.{Prelude.{◌≡◌, ◌&&◌, ◌||◌, true, codes,
 ghost use Rattle.yv_text_statement.specs.Tree.{name_of as name_at};
 ghost use Rattle.yv_link_scopes.specs.{Files.{has_word}, Views.{lent_in, trees_in}};
 ghost use Rattle.yv_link.specs.LinkedFiles.{truth_in};
-ghost use Rattle.yv_expand_uses.specs.On.{is_marked};
+ghost use Rattle.yv_base_graph.specs.Marks.{is_marked};
 ghost use Rattle.yv_expand_refines.specs.Changes.{each};
 ghost use Rattle.yv_expand_changes.specs.{IfFeatures.{is_on, item_marks, statement_marks}, InnerIfFeatures.{is_on_in}, InnerSequences.{known_of}};
 
 use crate::sequences::known_of;
 use std::alloc::{AllocError, Global};
+use yv_base_graph::is_marked;
 use yv_expand_refines::Changes;
 use yv_expand_uses::Spot;
 use yv_link::Linked;
@@ -65,13 +66,6 @@ pub fn statement_marks<'a, 'b>(
         marks.push(is_statement_on(linked, rows, entry.file, number))?;
     }
     Ok(marks)
-}
-
-// Whether a number has a mark.
-fn is_marked(marks: &[bool], number: usize) -> bool
-    ensures { result ≡ is_marked marks.now number }
-{
-    marks.get(number).copied().unwrap_or(false)
 }
 
 // Whether each of these numbers has a mark.

@@ -16,7 +16,7 @@ use Rattle.yv_link_features.specs.On.{AllHoldBy, Holds, is_if_feature_of}
 use Rattle.yv_expand.specs.Origin.{number_of}
 use Rattle.yv_expand_rounds.specs.Tree.{Tree, item, none as no_item}
 use Rattle.yv_expand_augments.specs.Remains.{is_left, is_some_uses}
-use Rattle.yv_expand_uses.specs.On.{is_marked}
+use Rattle.yv_base_graph.specs.Marks.{is_marked}
 use Rattle.yv_expand_augments.specs.Remains as by_number
 use Rattle.yv_expand_uses.specs.On.{AreOn}
 use Rattle.yv_expand_augments.specs.RefineMeanings.{refined_all}

@@ -19,7 +19,7 @@ use Rattle.yv_expand_uses.specs.Ends.{end_at}
 use Rattle.yv_expand.specs.StatementBlocks.{is_augment}
 use Rattle.yv_expand_rounds.specs.Kinds.{is_uses}
 use Rattle.yv_expand_uses.specs.Kinds.{kind_of}
-use Rattle.yv_expand_uses.specs.On.{is_marked}
+use Rattle.yv_base_graph.specs.Marks.{is_marked}
 use Rattle.yv_expand_augments.specs.Placement.{augment_around, augment_at}
 use Rattle.yv_expand_uses.specs.On.{above_on, augment_on, block_on, uses_on}
 use Rattle.yv_expand_augments.specs.RefineMeanings.{refined_all}

@@ -14,7 +14,7 @@ use Rattle.yv_expand.specs.declared.origin.Origin.TheVariants.{Statement, Input,
 use Rattle.yv_expand.specs.Expansion.{IsWhole}
 use Rattle.yv_expand_rounds.specs.declared.statement_kind.StatementKind.{StatementKind}
 use Rattle.yv_expand_rounds.specs.Kinds.{is_node, kind_of_keyword}
-use Rattle.yv_expand_uses.specs.On.{is_marked}
+use Rattle.yv_base_graph.specs.Marks.{is_marked}
 use Rattle.yv_expand_uses.specs.On.{AreOn}
 use Rattle.yv_expand_augments.specs.RefineMeanings.{refined_all}
 use Rattle.yv_expand_uses.specs.Spots.{layout_of}

@@ -12,7 +12,7 @@ use Rattle.yv_expand_rounds.specs.declared.row.ItemRow.{ItemRow}
 use Rattle.yv_expand_rounds.specs.Kinds.{is_uses}
 use Rattle.yv_expand_uses.specs.Kinds.{kind_of}
 use Rattle.yv_expand_augments.specs.Remains.{is_left, is_some_uses, remains}
-use Rattle.yv_expand_uses.specs.On.{is_marked}
+use Rattle.yv_base_graph.specs.Marks.{is_marked}
 use Rattle.yv_expand_uses.specs.Spots.{LayoutView, Whole, layout_of, laid_from, one_more, spot_of}
 use Rattle.yv_expand_uses.specs.declared.spot.Spot.{Spot}
 use Rattle.yv_expand_tree.specs.Remains.{nodes_of}

@@ -7,7 +7,7 @@ use Rattle.yv_link_scopes.specs.Rows.{Row}
 use Rattle.yv_expand.specs.ItemLimit.{ParentsComeFirst}
 use Rattle.yv_expand.specs.Origin.{number_of}
 use Rattle.yv_expand.specs.Tree.{Item}
-use Rattle.yv_expand_uses.specs.On.{is_marked}
+use Rattle.yv_base_graph.specs.Marks.{is_marked}
 use Rattle.yv_expand_uses.specs.On.{AreOn, above_on, augment_on, uses_on}
 use Rattle.yv_expand_uses.specs.declared.spot.Spot.{Spot}
 

@@ -1,16 +1,12 @@
 -- Which items are there by their conditions, and by those of what gave them (RFC 7950, sections
 -- 7.13, 7.17 and 7.20.2).
-use Rattle.std.specs.Prelude.{◌≡◌, ℕ, ◌&&◌, Bool, true, false, List, if◌then◌else◌, Option, Some, None, length, slice_get, slice_index_or}
+use Rattle.std.specs.Prelude.{◌≡◌, ℕ, ◌&&◌, Bool, true, false, List, if◌then◌else◌, Option, Some, None, length, slice_get}
 use Rattle.yv_link_scopes.specs.Rows.{Row}
 use Rattle.yv_expand.specs.Origin.{number_of}
 use Rattle.yv_expand.specs.Tree.{Item}
 use Rattle.yv_expand_rounds.specs.Kinds.{is_uses}
 use Rattle.yv_expand.specs.StatementBlocks.{is_augment}
 use Rattle.yv_expand_uses.specs.declared.spot.Spot.{Spot}
-
--- a number has a mark
-abbrev pub is_marked : List Bool → ℕ → Bool
-is_marked marks number = slice_index_or marks number false
 
 -- an item that isn't a `uses` is on; one that is, by this mark
 abbrev pub uses_on : Option Spot → Bool → Bool

@@ -2,22 +2,17 @@
 ghost use Rattle.std.specs.Prelude.{◌≡◌, ◌&&◌, Some, slice_get, IfOk};
 ghost use Rattle.yv_link_scopes.specs.{Views.{rows_in}, Rows.{row}};
 ghost use Rattle.yv_expand.specs.{ItemLimit.{ParentsComeFirst}, Origin.{number_of}};
-ghost use Rattle.yv_expand_uses.specs.On.{AreOn, above_on, augment_on, block_on, is_marked, uses_on};
+ghost use Rattle.yv_base_graph.specs.Marks.{is_marked};
+ghost use Rattle.yv_expand_uses.specs.On.{AreOn, above_on, augment_on, block_on, uses_on};
 ghost use Rattle.yv_expand.specs.StatementBlocks.{is_augment};
 
 use crate::kinds::is_uses;
 use crate::spot::Spot;
 use std::alloc::{AllocError, Global};
+use yv_base_graph::is_marked;
 use yv_expand::Item;
 use yv_link_scopes::{Entry, Rows};
 use yv_text_statement::Keyword;
-
-/// Whether a number has a mark.
-pub fn is_marked(marks: &[bool], number: usize) -> bool
-    ensures { result ≡ is_marked marks.now number }
-{
-    marks.get(number).copied().unwrap_or(false)
-}
 
 // Whether what is in an item is there by the conditions of the item, if that is a uses.
 fn uses_on(spot: Option<Spot>, mark: bool) -> bool

@@ -20,7 +20,7 @@ mod refine_targets;
 mod spot;
 
 pub use ends::item_ends;
-pub use if_features::{is_augment, is_marked, items_on};
+pub use if_features::{is_augment, items_on};
 pub use kinds::is_uses;
 pub use layout::{Layout, source_in, spot_at};
 pub use plan::Plan;

@@ -1,19 +1,13 @@
 //! What is wrong with the names of definitions.
-ghost use Rattle.std.specs.Prelude.{◌≡◌, ◌↔◌, ◌||◌, IsTrue, false, if◌then◌else◌, Some, None, slice_get, slice_index_or};
+ghost use Rattle.std.specs.Prelude.{◌≡◌, ◌↔◌, ◌||◌, IsTrue, false, if◌then◌else◌, Some, None, slice_get};
 ghost use Rattle.yv_text_statement.specs.Order.{IsLeast, refusal_at};
 ghost use Rattle.yv_link_scopes.specs.{Rows.{row}, Views.{files_in, rows_in}};
 ghost use Rattle.yv_link_definitions.specs.{Duplicates.{kind_defined}, Refers.{is_type, is_uses}, Refusals.{BadIn, BadRow, IsOnCycle}, InnerGraph.{AreDefinitionCycles}, InnerAnswers.{AreMeant}};
 
 use crate::draft::{Draft, is_of};
+use yv_base_graph::is_marked;
 use yv_link_scopes::{Entry, NameKind};
 use yv_text_statement::{Code, Keyword, Refusal, lesser, refusal_if};
-
-// Whether a number is marked.
-fn is_marked(marks: &[bool], number: usize) -> bool
-    ensures { result ≡ slice_index_or marks.now number false }
-{
-    marks.get(number).copied().unwrap_or(false)
-}
 
 // Whether one of five holds.
 fn any(first: bool, second: bool, third: bool, fourth: bool, fifth: bool) -> bool

@@ -1,10 +1,11 @@
 //! What is wrong with identities and bases.
-ghost use Rattle.std.specs.Prelude.{◌≡◌, ◌↔◌, slice_index_or, false, IsTrue};
+ghost use Rattle.std.specs.Prelude.{◌≡◌, ◌↔◌, IsTrue};
 ghost use Rattle.yv_text_statement.specs.Order.{IsLeast};
 ghost use Rattle.yv_link_scopes.specs.{Rows.{row}, Views.{files_in, rows_in}};
 ghost use Rattle.yv_link_identities.specs.{Derivation.{IsDerivedFrom}, Refusals.{BadIdentities, BadRow, is_unknown}, InnerPairs.{AreIdentityCycles}};
 
 use crate::draft::{Draft, is_base};
+use yv_base_graph::is_marked;
 use yv_link_scopes::Entry;
 use yv_text_statement::{Code, Refusal, lesser, refusal_if};
 
@@ -14,13 +15,6 @@ fn is_unknown<'a, 'b>(draft: &Draft<'_, 'a, 'b>, entry: &Entry<'a, 'b>) -> bool
         ≡ is_unknown (files_in draft.now.rows.now) (rows_in draft.now.rows.now) (row entry.now) }
 {
     is_base(entry) && draft.meaning(entry).is_none()
-}
-
-// Whether a number is marked.
-fn is_marked(marks: &[bool], number: usize) -> bool
-    ensures { result ≡ slice_index_or marks.now number false }
-{
-    marks.get(number).copied().unwrap_or(false)
 }
 
 // Whether a statement is an identity that is marked.

@@ -8,7 +8,7 @@ use Rattle.yv_link_scopes.specs.RowList.{rows_of}
 use Rattle.yv_link_features.specs.Refusals.{BadFeatures}
 use Rattle.yv_expand.specs.Tree.{Item, Node, Nodes, all_of, item_list, join}
 use Rattle.yv_expand_augments.specs.Remains.{is_left, remains}
-use Rattle.yv_expand_uses.specs.On.{is_marked}
+use Rattle.yv_base_graph.specs.Marks.{is_marked}
 use Rattle.yv_expand_uses.specs.Spots.{whole}
 use Rattle.yv_expand_uses.specs.declared.spot.Spot.{Spot}
 use Rattle.yv_expand_changes.specs.Truth.{Truth}

@@ -5,7 +5,8 @@ use Rattle.std.proofs.lemmas.Bool.{cases_eq, cases_lt, false≢true}
 use Rattle.std.proofs.lemmas.Option.{same_Some, slice_get_within}
 use Rattle.yv_link_scopes.specs.Rows.{Row}
 use Rattle.yv_type_chains.specs.Refusals.{IsChild}
-use Rattle.yv_type_chains.specs.InnerMarks.{AreMarked, is_marked}
+use Rattle.yv_base_graph.specs.Marks.{is_marked}
+use Rattle.yv_type_chains.specs.InnerMarks.{AreMarked}
 
 abbrev pub HasChild : (ℕ → Row → Type 0) → List Row → ℕ → ℕ → Type 0
 HasChild P rows n k = (c : ℕ) × (s : Row) × (c < n) × IsChild rows k c s × P k s

@@ -11,7 +11,8 @@ use Rattle.yv_type_chains.specs.Kinds.{is_foreign}
 use Rattle.yv_type_chains.specs.Types.{HasKind}
 use Rattle.yv_type_chains.specs.Refusals.{IsMisfit, foreign, not_inheritable}
 use Rattle.yv_type_chains.specs.InnerMarks.{IsForeign, IsInherited, Passes}
-use Rattle.yv_type_chains.specs.InnerTables.{AreBased, at}
+use Rattle.yv_base_tables.specs.Slots.{at}
+use Rattle.yv_type_chains.specs.InnerTables.{AreBased}
 
 no_text : (t : List ℕ) → None ≡ Some t → ⊥
 no_text t e = cc

@@ -10,7 +10,8 @@ use Rattle.yv_type_chains.specs.Types.{Follows, IsTypeAt, RestsOn, is_leafref, i
 use Rattle.yv_type_chains.specs.Counts.{Counts, CountAll, leafref, union, plain, through_typedef, none, more}
 use Rattle.yv_type_chains.specs.InnerBase.{NamesBuiltIn}
 use Rattle.yv_type_chains.specs.InnerCounts.{IsCount, cap, total_from}
-use Rattle.yv_type_chains.specs.InnerTables.{AreFollowed, at}
+use Rattle.yv_base_tables.specs.Slots.{at}
+use Rattle.yv_type_chains.specs.InnerTables.{AreFollowed}
 use Rattle.yv_link_definitions.specs.BuiltIn.{is_built_in}
 use Rattle.yv_link_definitions.specs.Refers.{is_type}
 use Rattle.std.specs.Str.{bytes_eq}

@@ -7,7 +7,8 @@ use Rattle.yv_link_scopes.specs.Rows.{Row, name_in}
 use Rattle.yv_link_definitions.specs.BuiltIn.{is_built_in}
 use Rattle.yv_type_chains.specs.Types.{Follows, HasBase, IsTypeAt, built_in, through_typedef}
 use Rattle.yv_type_chains.specs.InnerBase.{NamesBuiltIn}
-use Rattle.yv_type_chains.specs.InnerTables.{AreFollowed, at}
+use Rattle.yv_base_tables.specs.Slots.{at}
+use Rattle.yv_type_chains.specs.InnerTables.{AreFollowed}
 use Rattle.yv_type_chains.proofs.FollowedTypes.{names_type}
 
 not_both : (b : Bool) → b ≡ true → not b ≡ true → ⊥

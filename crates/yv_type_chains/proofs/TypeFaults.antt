@@ -11,7 +11,8 @@ use Rattle.yv_link_scopes.specs.Rows.{Row, name_in}
 use Rattle.yv_link_definitions.specs.Refers.{is_type}
 use Rattle.yv_type_chains.specs.Kinds.{needs, needs_any}
 use Rattle.yv_type_chains.specs.Refusals.{IsBadType, misfit, lacks_one, leafref_in_union, IsChild, IsMisfit}
-use Rattle.yv_type_chains.specs.InnerMarks.{AreMarked, IsJoined, Meets, is_marked}
+use Rattle.yv_base_graph.specs.Marks.{is_marked}
+use Rattle.yv_type_chains.specs.InnerMarks.{AreMarked, IsJoined, Meets}
 use Rattle.yv_type_chains.proofs.Words.{both_true, true_both}
 
 -- a refusal where what a test decides holds

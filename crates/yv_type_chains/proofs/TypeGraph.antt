@@ -10,7 +10,8 @@ use Rattle.std.proofs.lemmas.Option.{same_Some, slice_get_within, slice_get-get_
 use Rattle.yv_link_scopes.specs.Rows.{Row}
 use Rattle.yv_base_graph.specs.Graph.{Graph, HasEdge}
 use Rattle.yv_type_chains.specs.Types.{is_union}
-use Rattle.yv_type_chains.specs.InnerTables.{at, items_at}
+use Rattle.yv_base_tables.specs.Slots.{at}
+use Rattle.yv_type_chains.specs.InnerTables.{items_at}
 use Rattle.yv_type_chains.specs.InnerSteps.{AreEdges, AreSteps}
 use Rattle.yv_type_chains.proofs.Blocks.{type_in}
 

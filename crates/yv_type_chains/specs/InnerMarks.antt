@@ -1,13 +1,11 @@
 -- Only private clauses cite this: parts of what is wrong with a type, and marks by number.
-use Rattle.std.specs.Prelude.{◌≡◌, ◌↔◌, ℕ, Bool, true, false, List, Some, codes, slice_get, slice_index_or}
+use Rattle.std.specs.Prelude.{◌≡◌, ◌↔◌, ℕ, Bool, true, List, Some, codes, slice_get}
+use Rattle.yv_base_graph.specs.Marks.{is_marked}
 use Rattle.yv_link_scopes.specs.Files.{Briefs}
 use Rattle.yv_link_scopes.specs.Rows.{Row, name_in}
 use Rattle.yv_type_chains.specs.Kinds.{is_of_built_in, is_foreign, needs}
 use Rattle.yv_type_chains.specs.Types.{HasKind, is_union}
 use Rattle.yv_type_chains.specs.Refusals.{IsChild, is_derived}
-
-abbrev pub is_marked : List Bool → ℕ → Bool
-is_marked marks k = slice_index_or marks k false
 
 -- those are marked in whose block a statement is of which P holds
 abbrev pub AreMarked : (ℕ → Row → Type 0) → List Row → List Bool → Type 0

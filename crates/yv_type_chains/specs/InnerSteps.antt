@@ -4,7 +4,8 @@ use Rattle.std.specs.List.{Contains}
 use Rattle.yv_link_scopes.specs.Rows.{Row}
 use Rattle.yv_base_graph.specs.Graph.{Graph, IsGraph}
 use Rattle.yv_type_chains.specs.Types.{is_union, types_in}
-use Rattle.yv_type_chains.specs.InnerTables.{at, items_at}
+use Rattle.yv_base_tables.specs.Slots.{at}
+use Rattle.yv_type_chains.specs.InnerTables.{items_at}
 
 -- the edges of statement k: to a union's members, else to the type that it follows
 pub record AreEdges (rows : List Row) (follows : List (Option ℕ)) (k : ℕ) (r : Row)

@@ -1,12 +1,13 @@
 //! The built-in types to which types lead.
 ghost use Rattle.std.specs.Prelude.{◌≡◌, ◌↔◌, ℕ, Some, IfOk, IsTrue};
 ghost use Rattle.yv_link_scopes.specs.Views.{files_in, rows_in};
-ghost use Rattle.yv_type_chains.specs.{Types.{Follows, HasBase, IsOrderOfTypes}, InnerBase.{NamesBuiltIn}, InnerTables.{AreBased, AreFollowed, at}};
+ghost use Rattle.yv_base_tables.specs.Slots.{at};
+ghost use Rattle.yv_type_chains.specs.{Types.{Follows, HasBase, IsOrderOfTypes}, InnerBase.{NamesBuiltIn}, InnerTables.{AreBased, AreFollowed}};
 
 use crate::draft::Draft;
 use crate::inside::is_type;
-use crate::slots::{get, no_numbers, put};
 use std::alloc::{AllocError, Global};
+use yv_base_tables::slots;
 use yv_link_definitions::is_built_in;
 use yv_link_scopes::name_of;
 
@@ -34,8 +35,8 @@ impl Draft<'_, '_, '_> {
         if self.names_built_in(number) {
             return Some(number);
         }
-        match get(&self.follows, number) {
-            Some(followed) => get(bases, followed),
+        match slots::get(&self.follows, number) {
+            Some(followed) => slots::get(bases, followed),
             None => None,
         }
     }
@@ -52,10 +53,10 @@ impl Draft<'_, '_, '_> {
             → IsOrderOfTypes (files_in self.now.rows.now) (rows_in self.now.rows.now) order.now
             → AreBased (files_in self.now.rows.now) (rows_in self.now.rows.now) bases.items) }
     {
-        let mut bases = no_numbers(alloc, self.rows.entries().len())?;
+        let mut bases = slots::empty(alloc, self.rows.entries().len())?;
         for number in order {
             let base = self.base(&bases, *number);
-            put(&mut bases, *number, base);
+            slots::put(&mut bases, *number, base);
         }
         Ok(bases)
     }

@@ -6,8 +6,8 @@ ghost use Rattle.yv_link_definitions.specs.Meanings.{AreNames};
 
 use crate::draft::Draft;
 use crate::findings::Findings;
-use crate::slots::get;
 use std::alloc::{AllocError, Global};
+use yv_base_tables::slots;
 use yv_link_definitions::Names;
 use yv_link_scopes::Rows;
 use yv_text_statement::Refusal;
@@ -54,7 +54,7 @@ impl Bases {
         ensures { (files : Files) → AreBases files self.now
             → (b : ℕ) → (result ≡ Some b) ↔ HasBase (map brief_of files) (rows_of files) number b }
     {
-        get(&self.bases, number)
+        slots::get(&self.bases, number)
     }
 
     /// The number of the type of the typedef that the type of this number names. None for other
@@ -63,7 +63,7 @@ impl Bases {
         ensures { (files : Files) → AreBases files self.now
             → (j : ℕ) → (result ≡ Some j) ↔ Follows (map brief_of files) (rows_of files) number j }
     {
-        get(&self.follows, number)
+        slots::get(&self.follows, number)
     }
 
     /// The numbers of all type statements, each once, after the type that it follows and after its

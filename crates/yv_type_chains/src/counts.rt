@@ -1,12 +1,13 @@
 //! How many plain types the values of a type may have.
 ghost use Rattle.std.specs.Prelude.{◌≡◌, ◌+◌, ℕ, IfOk};
 ghost use Rattle.yv_link_scopes.specs.Views.{files_in, rows_in};
-ghost use Rattle.yv_type_chains.specs.{Types.{IsOrderOfTypes, RestsOn}, InnerTables.{AreFollowed, at}, InnerCounts.{AreCounts, IsCount, cap, total_from}};
+ghost use Rattle.yv_base_tables.specs.Slots.{at};
+ghost use Rattle.yv_type_chains.specs.{Types.{IsOrderOfTypes, RestsOn}, InnerTables.{AreFollowed}, InnerCounts.{AreCounts, IsCount, cap, total_from}};
 
 use crate::draft::Draft;
-use crate::slots::{get, no_numbers, put};
 use crate::steps::is_kind;
 use std::alloc::{AllocError, Global};
+use yv_base_tables::slots;
 
 // The sum of two counts, up to 65.
 fn sum(first: usize, second: usize) -> usize
@@ -25,7 +26,7 @@ fn total(counts: &[Option<usize>], members: &[usize]) -> Option<usize>
 {
     let mut total = 0;
     for member in members {
-        let Some(count) = get(counts, *member) else {
+        let Some(count) = slots::get(counts, *member) else {
             return None;
         };
         total = sum(total, count);
@@ -54,8 +55,8 @@ impl Draft<'_, '_, '_> {
         if self.names_built_in(number) {
             return Some(1);
         }
-        match get(&self.follows, number) {
-            Some(followed) => get(counts, followed),
+        match slots::get(&self.follows, number) {
+            Some(followed) => slots::get(counts, followed),
             None => None,
         }
     }
@@ -72,10 +73,10 @@ impl Draft<'_, '_, '_> {
             → IsOrderOfTypes (files_in self.now.rows.now) (rows_in self.now.rows.now) order.now
             → AreCounts (files_in self.now.rows.now) (rows_in self.now.rows.now) counts.items) }
     {
-        let mut counts = no_numbers(alloc, self.rows.entries().len())?;
+        let mut counts = slots::empty(alloc, self.rows.entries().len())?;
         for number in order {
             let count = self.count(&counts, *number);
-            put(&mut counts, *number, count);
+            slots::put(&mut counts, *number, count);
         }
         Ok(counts)
     }

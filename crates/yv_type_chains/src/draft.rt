@@ -2,7 +2,8 @@
 ghost use Rattle.std.specs.Prelude.{◌≡◌, ◌<◌, ℕ, [], Some, length, IfOk, slice_index_or};
 ghost use Rattle.yv_link_scopes.specs.Views.{files_in, lent_in, rows_in};
 ghost use Rattle.yv_link_definitions.specs.Meanings.{AreNames};
-ghost use Rattle.yv_type_chains.specs.{Types.{types_in}, InnerTables.{AreFollowed, at}};
+ghost use Rattle.yv_base_tables.specs.Slots.{at};
+ghost use Rattle.yv_type_chains.specs.{Types.{types_in}, InnerTables.{AreFollowed}};
 
 use crate::by_block::types_by_block;
 use crate::follows::all_followed;

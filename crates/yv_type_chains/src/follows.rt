@@ -2,7 +2,8 @@
 ghost use Rattle.std.specs.Prelude.{◌≡◌, ◌↔◌, ◌<◌, ℕ, [], Some, length, IfOk, slice_get, slice_index_or};
 ghost use Rattle.yv_link_scopes.specs.{Rows.{row}, Views.{files_in, lent_in, rows_in}};
 ghost use Rattle.yv_link_definitions.specs.Meanings.{AreNames};
-ghost use Rattle.yv_type_chains.specs.{Types.{Follows, types_in}, InnerTables.{AreFollowed, at}};
+ghost use Rattle.yv_base_tables.specs.Slots.{at};
+ghost use Rattle.yv_type_chains.specs.{Types.{Follows, types_in}, InnerTables.{AreFollowed}};
 
 use crate::inside::is_type;
 use std::alloc::{AllocError, Global};

@@ -18,7 +18,6 @@ mod marks;
 mod misfits;
 mod order;
 mod refusals;
-mod slots;
 mod steps;
 
 pub use bases::Bases;

@@ -1,17 +1,11 @@
 //! Marks on the blocks that contain statements.
 ghost use Rattle.std.specs.Prelude.{◌≡◌, ◌≢◌, ◌<◌, ℕ, true, length, IfOk};
 ghost use Rattle.yv_link_scopes.specs.Views.{files_in, rows_in};
-ghost use Rattle.yv_type_chains.specs.{Refusals.{IsMisfit}, InnerTables.{AreBased}, InnerMarks.{AreMarked, Meets, is_marked}};
+ghost use Rattle.yv_base_graph.specs.Marks.{is_marked};
+ghost use Rattle.yv_type_chains.specs.{Refusals.{IsMisfit}, InnerTables.{AreBased}, InnerMarks.{AreMarked, Meets}};
 
 use crate::draft::Draft;
 use std::alloc::{AllocError, Global};
-
-/// Whether a number is marked.
-pub(crate) fn is_marked(marks: &[bool], number: usize) -> bool
-    ensures { result ≡ is_marked marks.now number }
-{
-    marks.get(number).copied().unwrap_or(false)
-}
 
 // Marks a number that there is.
 fn mark(marks: &mut Vec<bool>, number: usize)

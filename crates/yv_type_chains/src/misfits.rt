@@ -6,8 +6,8 @@ ghost use Rattle.yv_type_chains.specs.{Kinds.{is_of_built_in, needs}, Types.{Has
 use crate::draft::Draft;
 use crate::inside::is_type;
 use crate::kinds::{is_foreign, is_of_built_in, needs};
-use crate::slots::get;
 use crate::steps::is_kind;
+use yv_base_tables::slots;
 use yv_link_definitions::is_built_in;
 use yv_link_scopes::{Entry, name_of};
 use yv_text_statement::Statement;
@@ -26,7 +26,7 @@ impl<'a, 'b> Draft<'_, 'a, 'b> {
             → (name : List ℕ) → (option_map (λ text. text.now) result ≡ Some name)
             ↔ HasKind (files_in self.now.rows.now) (rows_in self.now.rows.now) number name }
     {
-        let base = get(bases, number)?;
+        let base = slots::get(bases, number)?;
         let entry = self.rows.entries().get(base)?;
         Some(name_of(entry.statement))
     }

@@ -3,14 +3,15 @@ ghost use Rattle.std.specs.Prelude.{◌≡◌, ◌↔◌, ◌&&◌, ◌||◌, no
 ghost use Rattle.yv_text_statement.specs.Order.{IsLeast};
 ghost use Rattle.yv_link_scopes.specs.{Rows.{row, name_in}, Views.{files_in, rows_in}};
 ghost use Rattle.yv_link_definitions.specs.Refers.{is_type};
-ghost use Rattle.yv_type_chains.specs.{Kinds.{needs_any}, Counts.{HasTooMany}, Refusals.{BadIn, BadRow, IsBadType}, InnerFindings.{AreFound}, InnerMarks.{is_marked}};
+ghost use Rattle.yv_base_graph.specs.Marks.{is_marked};
+ghost use Rattle.yv_type_chains.specs.{Kinds.{needs_any}, Counts.{HasTooMany}, Refusals.{BadIn, BadRow, IsBadType}, InnerFindings.{AreFound}};
 
 use crate::draft::Draft;
 use crate::findings::Findings;
 use crate::inside::is_type;
 use crate::kinds::needs_any;
-use crate::marks::is_marked;
-use crate::slots::get;
+use yv_base_graph::is_marked;
+use yv_base_tables::slots;
 use yv_link_scopes::{Entry, name_of};
 use yv_text_statement::{Code, Refusal, lesser, refusal_if};
 
@@ -51,7 +52,7 @@ impl<'a, 'b> Draft<'_, 'a, 'b> {
             → IsTrue result
             ↔ HasTooMany (files_in self.now.rows.now) (rows_in self.now.rows.now) number }
     {
-        match get(&found.counts, number) {
+        match slots::get(&found.counts, number) {
             Some(count) => count > 64,
             None => false,
         }

@@ -5,8 +5,8 @@ ghost use Rattle.yv_type_chains.specs.{Types.{is_kind}, InnerSteps.{AreEdges, Ar
 
 use crate::draft::Draft;
 use crate::inside::is_type;
-use crate::slots::get;
 use std::alloc::{AllocError, Global};
+use yv_base_tables::slots;
 use yv_link_scopes::{Entry, name_of};
 
 /// Whether a statement is a type that names this built-in type.
@@ -43,7 +43,7 @@ impl<'a, 'b> Draft<'_, 'a, 'b> {
         if is_kind("union", entry) {
             self.inside.at(number).to_vec(alloc)
         } else {
-            let followed = get(&self.follows, number);
+            let followed = slots::get(&self.follows, number);
             let list = one_or_none(alloc, followed)?;
             Ok(list)
         }

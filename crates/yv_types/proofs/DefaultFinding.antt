@@ -11,7 +11,7 @@ use Rattle.yv_link_scopes.specs.Rows.{Row}
 use Rattle.yv_link_scopes.specs.RowList.{rows_of}
 use Rattle.yv_link_scopes.specs.declared.kind.NameKind.TheVariants.{Typedef}
 use Rattle.yv_link_definitions.specs.Refers.{RefersTo, is_type}
-use Rattle.yv_type_chains.specs.InnerTables.{at}
+use Rattle.yv_base_tables.specs.Slots.{at}
 use Rattle.yv_type_chains.specs.Types.{IsTypeAt, type_of}
 use Rattle.yv_type_chains.proofs.FollowedTypes.{names_type, refers_type}
 use Rattle.yv_type_chains.proofs.TableWalk.{walk_more}

@@ -12,7 +12,8 @@ use Rattle.yv_link_scopes.specs.RowList.{rows_of}
 use Rattle.yv_link_definitions.specs.BuiltIn.{is_built_in}
 use Rattle.yv_link_definitions.specs.Refers.{is_type}
 use Rattle.yv_type_chains.specs.Types.{IsTypeAt}
-use Rattle.yv_types.specs.InnerLeafrefTables.{AreFound, at}
+use Rattle.yv_base_tables.specs.Slots.{at}
+use Rattle.yv_types.specs.InnerLeafrefTables.{AreFound}
 use Rattle.yv_types.specs.Referrals.{HasReferral, other}
 use Rattle.yv_types.specs.declared.leafref_path.TypeLeafref.{TypeLeafref}
 use Rattle.yv_types.proofs.LeafrefOnce.{both_true}

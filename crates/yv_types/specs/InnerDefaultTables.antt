@@ -7,7 +7,7 @@ use Rattle.yv_link_scopes.specs.Rows.{Row}
 use Rattle.yv_link_scopes.specs.RowList.{rows_of, statements_of}
 use Rattle.yv_link_scopes.specs.declared.kind.NameKind.TheVariants.{Typedef}
 use Rattle.yv_link_definitions.specs.Duplicates.{is_of}
-use Rattle.yv_type_chains.specs.InnerTables.{at}
+use Rattle.yv_base_tables.specs.Slots.{at}
 use Rattle.yv_type_chains.specs.Types.{Follows}
 use Rattle.yv_text_statement.specs.TextInFile.{TextInFile, written_of}
 use Rattle.yv_text_statement.specs.declared.written_text.WrittenText.{WrittenText}

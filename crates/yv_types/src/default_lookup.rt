@@ -5,7 +5,8 @@ ghost use Rattle.yv_link_definitions.specs.Meanings.{AreNames};
 ghost use Rattle.yv_type_chains.specs.{Bases.{AreBases}, Types.{IsTypeAt}};
 ghost use Rattle.yv_types.specs.{Defaults.{HasDefault}, InnerDefaultTables.{AreFound, AreSaid, IsFollowed, text_from}};
 
-use crate::default_table::{get, text};
+use crate::default_table::text;
+use yv_base_tables::slots;
 use yv_link_definitions::Names;
 use yv_text_statement::WrittenText;
 use yv_type_chains::Bases;
@@ -32,7 +33,7 @@ pub(crate) fn found_at(
         return Some(definition);
     }
     match bases.follows(number) {
-        Some(followed) => get(found, followed),
+        Some(followed) => slots::get(found, followed),
         None => None,
     }
 }

@@ -6,10 +6,9 @@ ghost use Rattle.yv_type_chains.specs.Bases.{AreBases};
 ghost use Rattle.yv_text_statement.specs.TextInFile.{written_of};
 
 use crate::default_lookup::found_at;
-use crate::default_table::{no_numbers, put};
 use crate::typedef_defaults::all_said;
 use std::alloc::{AllocError, Global};
-use yv_base_tables::Sparse;
+use yv_base_tables::{Sparse, slots};
 use yv_link_definitions::Names;
 use yv_link_scopes::Rows;
 use yv_text_statement::WrittenText;
@@ -43,10 +42,10 @@ impl TypedefDefaults {
     {
         let order = bases.order();
         let said = all_said(alloc, rows)?;
-        let mut found = no_numbers(alloc, rows.entries().len())?;
+        let mut found = slots::empty(alloc, rows.entries().len())?;
         for number in order {
             let typedef = found_at(names, bases, &said, &found, *number);
-            put(&mut found, *number, typedef);
+            slots::put(&mut found, *number, typedef);
         }
         let texts = Sparse::of(alloc, said)?;
         let kept = Sparse::of(alloc, found)?;

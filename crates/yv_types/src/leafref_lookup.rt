@@ -5,8 +5,8 @@ ghost use Rattle.yv_type_chains.specs.{Bases.{AreBases}, Types.{is_leafref}};
 ghost use Rattle.yv_types.specs.{InnerLeafrefTables.{AreFound}, Referrals.{FollowsIn, HasReferral, IsLeafrefAt, derived_at, own_at}};
 
 use crate::leafref_path::TypeLeafref;
-use crate::leafref_table::get;
 use crate::require_instance::required_at;
+use yv_base_tables::slots;
 use yv_link_scopes::{Entry, Rows, name_of};
 use yv_text_statement::Keyword;
 use yv_type_chains::Bases;
@@ -71,6 +71,6 @@ pub(crate) fn found_at(
         return Some(own_at(rows, number));
     }
     let followed = bases.follows(number)?;
-    let base = get(found, followed)?;
+    let base = slots::get(found, followed)?;
     Some(derived_at(rows, number, base))
 }

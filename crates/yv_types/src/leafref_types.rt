@@ -5,9 +5,8 @@ ghost use Rattle.yv_type_chains.specs.Bases.{AreBases};
 
 use crate::leafref_lookup::found_at;
 use crate::leafref_path::TypeLeafref;
-use crate::leafref_table::{nothing, put};
 use std::alloc::{AllocError, Global};
-use yv_base_tables::Sparse;
+use yv_base_tables::{Sparse, slots};
 use yv_link_scopes::Rows;
 use yv_type_chains::Bases;
 
@@ -32,10 +31,10 @@ impl LeafrefTypes {
             → AreLeafrefTypes files types) }
     {
         let order = bases.order();
-        let mut found = nothing(alloc, rows.entries().len())?;
+        let mut found = slots::empty(alloc, rows.entries().len())?;
         for number in order {
             let referring = found_at(rows, bases, &found, *number);
-            put(&mut found, *number, referring);
+            slots::put(&mut found, *number, referring);
         }
         let kept = Sparse::of(alloc, found)?;
         Ok(LeafrefTypes { found: kept })

@@ -15,7 +15,6 @@ mod layers;
 pub mod leafref_laws;
 mod leafref_lookup;
 mod leafref_path;
-mod leafref_table;
 mod leafref_types;
 mod path;
 mod require_instance;

@@ -4,7 +4,7 @@ use Rattle.std.specs.Option.{unwrap_or}
 use Rattle.std.specs.Prelude.{None}
 use Rattle.yv_expand_augments.specs.MandatoryNodes.{inside, is_some_operation, told_in}
 use Rattle.yv_expand_augments.specs.InnerMandatoryNodes.{around_marks}
-use Rattle.yv_expand_uses.specs.On.{is_marked}
+use Rattle.yv_base_graph.specs.Marks.{is_marked}
 use Rattle.yv_expand_augments.proofs.ItemConfiguration.{around_entered}
 use Rattle.yv_expand_augments.proofs.mandatory_nodes.enter.Goals as goal
 

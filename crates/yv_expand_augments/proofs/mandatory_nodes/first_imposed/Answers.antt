@@ -4,7 +4,7 @@ use Rattle.yv_text_statement.specs.Order.{IsLeast}
 use Rattle.yv_link_scopes.specs.Views.{rows_in}
 use Rattle.yv_expand_augments.specs.MandatoryNodes.{nothing_around, told_in}
 use Rattle.yv_expand_augments.specs.InnerMandatoryNodes.{AreShallow, ImposesMandatoryIn}
-use Rattle.yv_expand_uses.specs.On.{is_marked}
+use Rattle.yv_base_graph.specs.Marks.{is_marked}
 use Rattle.yv_expand_augments.proofs.ItemConfiguration.{configured_all, configured_each, listed_shallow, shallow_fits}
 use Rattle.yv_expand_augments.proofs.Meeting.{found_more, imposed_all, imposed_more}
 use Rattle.yv_expand_augments.proofs.MisplacementRefusals.{imposed_at}

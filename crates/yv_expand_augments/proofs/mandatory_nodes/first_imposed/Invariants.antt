@@ -3,7 +3,7 @@ use Rattle.yv_text_statement.specs.Order.{IsLeast}
 use Rattle.yv_link_scopes.specs.Views.{rows_in}
 use Rattle.yv_expand_augments.specs.MandatoryNodes.{told_in}
 use Rattle.yv_expand_augments.specs.InnerMandatoryNodes.{AreShallow, ImposesMandatoryIn, found_in}
-use Rattle.yv_expand_uses.specs.On.{is_marked}
+use Rattle.yv_base_graph.specs.Marks.{is_marked}
 use Rattle.yv_expand_augments.proofs.mandatory_nodes.first_imposed.Given as goal
 
 abbrev pub invariant-loop-left : goal.invariant-loop-left

@@ -2,7 +2,7 @@ use Rattle.std.proofs.Common.{arith}
 use Rattle.std.proofs.lemmas.Option.{slice_get-get_or}
 use Rattle.yv_expand_augments.specs.MandatoryNodes.{told_in}
 use Rattle.yv_expand_augments.specs.InnerMandatoryNodes.{around_marks}
-use Rattle.yv_expand_uses.specs.On.{is_marked}
+use Rattle.yv_base_graph.specs.Marks.{is_marked}
 use Rattle.yv_expand_augments.proofs.ItemConfiguration.{configured_done, configured_more, shallow_fits}
 use Rattle.yv_expand_augments.proofs.mandatory_nodes.mark_configuration.Goals as goal
 

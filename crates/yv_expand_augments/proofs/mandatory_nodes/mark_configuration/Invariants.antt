@@ -1,7 +1,7 @@
 use Rattle.std.proofs.Common.{◌≡◌, ◌++◌, drop}
 use Rattle.yv_expand_augments.specs.MandatoryNodes.{nothing_around, told_in}
 use Rattle.yv_expand_augments.specs.InnerMandatoryNodes.{AreShallow, around_marks, configuration_marks}
-use Rattle.yv_expand_uses.specs.On.{is_marked}
+use Rattle.yv_base_graph.specs.Marks.{is_marked}
 use Rattle.yv_expand_augments.proofs.mandatory_nodes.mark_configuration.Given as goal
 
 abbrev pub invariant-loop-row : goal.invariant-loop-row

@@ -1,7 +1,7 @@
 use Rattle.std.proofs.Common.{length, ap, arith}
 use Rattle.std.proofs.lemmas.Option.{slice_get-get_or}
 use Rattle.yv_link_scopes.specs.Views.{rows_in}
-use Rattle.yv_expand_uses.specs.On.{is_marked}
+use Rattle.yv_base_graph.specs.Marks.{is_marked}
 use Rattle.yv_expand_uses.proofs.ItemMarks.{asking_all, asking_step}
 use Rattle.yv_expand_uses.proofs.if_features.items_on.Goals as goal
 

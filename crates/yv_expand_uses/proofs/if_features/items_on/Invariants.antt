@@ -1,5 +1,5 @@
 use Rattle.yv_link_scopes.specs.Views.{rows_in}
-use Rattle.yv_expand_uses.specs.On.{is_marked}
+use Rattle.yv_base_graph.specs.Marks.{is_marked}
 use Rattle.yv_expand_uses.proofs.ItemMarks.{Asking}
 use Rattle.yv_expand_uses.proofs.if_features.items_on.Given as goal
 

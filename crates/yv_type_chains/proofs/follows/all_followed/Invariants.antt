@@ -2,7 +2,7 @@ use Rattle.std.proofs.Common.{◌≡◌, ◌<◌, ℕ, length, Some}
 use Rattle.yv_link_scopes.specs.Views.{files_in, lent_in, rows_in}
 use Rattle.yv_link_definitions.specs.Meanings.{AreNames}
 use Rattle.yv_type_chains.specs.Types.{Follows}
-use Rattle.yv_type_chains.specs.InnerTables.{at}
+use Rattle.yv_base_tables.specs.Slots.{at}
 use Rattle.yv_type_chains.proofs.NumberTables.{Told}
 use Rattle.yv_type_chains.proofs.follows.all_followed.Given as goal
 

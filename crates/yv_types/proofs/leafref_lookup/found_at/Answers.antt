@@ -2,7 +2,7 @@ use Rattle.std.proofs.Common.{◌≡◌, Some, None, sym, ◌∙◌, ap}
 use Rattle.std.specs.Option.{option_map}
 use Rattle.yv_link_scopes.specs.Files.{Files}
 use Rattle.yv_link_scopes.specs.Views.{lent_in}
-use Rattle.yv_types.specs.InnerLeafrefTables.{at}
+use Rattle.yv_base_tables.specs.Slots.{at}
 use Rattle.yv_types.specs.Referrals.{derived_at}
 use Rattle.yv_types.proofs.LeafrefFinding.{found_derived, found_none, found_own}
 use Rattle.yv_types.proofs.leafref_lookup.found_at.Goals as goal

@@ -1,5 +1,5 @@
 use Rattle.std.proofs.Common.{◌≡◌, sym, ◌∙◌, ap}
-use Rattle.yv_type_chains.specs.InnerTables.{at}
+use Rattle.yv_base_tables.specs.Slots.{at}
 use Rattle.yv_type_chains.proofs.bases.Bases.base.Goals as goal
 
 pub returns : goal.returns

@@ -1,7 +1,7 @@
 use Rattle.std.proofs.Common.{◌≡◌, Some, None, sym, ◌∙◌, ap}
 use Rattle.std.proofs.lemmas.Bool.{false≢true}
 use Rattle.yv_link_scopes.specs.Views.{files_in, rows_in}
-use Rattle.yv_type_chains.specs.InnerTables.{at}
+use Rattle.yv_base_tables.specs.Slots.{at}
 use Rattle.yv_type_chains.proofs.TypeBases.{base_along, base_itself, base_none}
 use Rattle.yv_type_chains.proofs.draft.Draft.base.Goals as goal
 

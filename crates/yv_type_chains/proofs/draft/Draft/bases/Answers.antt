@@ -4,7 +4,7 @@ use Rattle.yv_link_scopes.specs.Rows.{Row}
 use Rattle.yv_link_scopes.specs.Files.{Briefs}
 use Rattle.yv_link_scopes.specs.Views.{files_in, rows_in}
 use Rattle.yv_type_chains.specs.Types.{Follows, HasBase}
-use Rattle.yv_type_chains.specs.InnerTables.{at}
+use Rattle.yv_base_tables.specs.Slots.{at}
 use Rattle.yv_type_chains.proofs.TypeBases.{base_type, no_number}
 use Rattle.yv_type_chains.proofs.TableWalk.{keep_empty, order_within, walk_more, walk_types}
 use Rattle.yv_type_chains.proofs.draft.Draft.bases.Goals as goal

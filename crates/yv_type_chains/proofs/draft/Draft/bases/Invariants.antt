@@ -2,7 +2,8 @@ use Rattle.std.proofs.Common.{◌≡◌, ◌↔◌, ℕ, length, take, None, Som
 use Rattle.std.specs.List.{Contains}
 use Rattle.yv_link_scopes.specs.Views.{files_in, rows_in}
 use Rattle.yv_type_chains.specs.Types.{HasBase, IsOrderOfTypes}
-use Rattle.yv_type_chains.specs.InnerTables.{AreFollowed, at}
+use Rattle.yv_base_tables.specs.Slots.{at}
+use Rattle.yv_type_chains.specs.InnerTables.{AreFollowed}
 use Rattle.yv_type_chains.proofs.draft.Draft.bases.Given as goal
 
 abbrev pub invariant-loop-number : goal.invariant-loop-number

@@ -6,7 +6,7 @@ use Rattle.yv_link_scopes.specs.Rows.{Row, row}
 use Rattle.yv_link_scopes.specs.Views.{files_in, rows_in}
 use Rattle.yv_type_chains.specs.Types.{types_in}
 use Rattle.yv_type_chains.specs.InnerCounts.{total_from}
-use Rattle.yv_type_chains.specs.InnerTables.{at}
+use Rattle.yv_base_tables.specs.Slots.{at}
 use Rattle.yv_type_chains.proofs.Words.{row_read}
 use Rattle.yv_type_chains.proofs.PlainTypeCounts.{count_along, count_leafref, count_none, count_plain, count_union}
 use Rattle.yv_type_chains.proofs.draft.Draft.count.Goals as goal

@@ -5,7 +5,7 @@ use Rattle.yv_link_scopes.specs.Files.{Briefs}
 use Rattle.yv_link_scopes.specs.Views.{files_in, rows_in}
 use Rattle.yv_type_chains.specs.Types.{RestsOn}
 use Rattle.yv_type_chains.specs.InnerCounts.{IsCount}
-use Rattle.yv_type_chains.specs.InnerTables.{at}
+use Rattle.yv_base_tables.specs.Slots.{at}
 use Rattle.yv_type_chains.proofs.TypeBases.{no_number}
 use Rattle.yv_type_chains.proofs.PlainTypeCounts.{count_type}
 use Rattle.yv_type_chains.proofs.TableWalk.{keep_empty, order_within, walk_more, walk_types}

@@ -3,7 +3,8 @@ use Rattle.std.specs.List.{Contains}
 use Rattle.yv_link_scopes.specs.Views.{files_in, rows_in}
 use Rattle.yv_type_chains.specs.Types.{IsOrderOfTypes}
 use Rattle.yv_type_chains.specs.InnerCounts.{IsCount}
-use Rattle.yv_type_chains.specs.InnerTables.{AreFollowed, at}
+use Rattle.yv_base_tables.specs.Slots.{at}
+use Rattle.yv_type_chains.specs.InnerTables.{AreFollowed}
 use Rattle.yv_type_chains.proofs.draft.Draft.counts.Given as goal
 
 abbrev pub invariant-loop-number : goal.invariant-loop-number

@@ -3,7 +3,7 @@ use Rattle.yv_link_scopes.specs.Rows.{row, name_in}
 use Rattle.yv_link_scopes.specs.Views.{files_in, rows_in}
 use Rattle.yv_link_definitions.specs.Refers.{is_type}
 use Rattle.yv_type_chains.specs.Kinds.{needs_any}
-use Rattle.yv_type_chains.specs.InnerMarks.{is_marked}
+use Rattle.yv_base_graph.specs.Marks.{is_marked}
 use Rattle.yv_type_chains.specs.InnerTables.{AreBased}
 use Rattle.yv_type_chains.proofs.TypeFaults.{judged}
 use Rattle.yv_type_chains.proofs.draft.Draft.is_bad.Goals as goal

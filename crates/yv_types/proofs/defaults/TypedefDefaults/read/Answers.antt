@@ -5,7 +5,7 @@ use Rattle.yv_link_scopes.specs.Files.{Files, brief_of}
 use Rattle.yv_link_scopes.specs.RowList.{rows_of}
 use Rattle.yv_link_scopes.specs.Views.{lent_in}
 use Rattle.yv_link_definitions.specs.Meanings.{AreNames}
-use Rattle.yv_type_chains.specs.InnerTables.{at}
+use Rattle.yv_base_tables.specs.Slots.{at}
 use Rattle.yv_type_chains.specs.Bases.{AreBases}
 use Rattle.yv_type_chains.specs.Types.{IsOrderOfTypes, IsTypeAt}
 use Rattle.yv_text_statement.specs.TextInFile.{TextInFile}

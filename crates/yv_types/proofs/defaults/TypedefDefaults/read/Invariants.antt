@@ -2,7 +2,7 @@ use Rattle.std.proofs.Common.{◌≡◌, ℕ, length, take, None}
 use Rattle.std.specs.List.{Contains}
 use Rattle.yv_link_scopes.specs.Views.{lent_in, rows_in}
 use Rattle.yv_link_definitions.specs.Meanings.{AreNames}
-use Rattle.yv_type_chains.specs.InnerTables.{at}
+use Rattle.yv_base_tables.specs.Slots.{at}
 use Rattle.yv_type_chains.specs.Bases.{AreBases}
 use Rattle.yv_type_chains.specs.Types.{IsTypeAt}
 use Rattle.yv_types.specs.InnerDefaultTables.{AreFound}

@@ -6,7 +6,8 @@ use Rattle.yv_link_scopes.specs.RowList.{rows_of}
 use Rattle.yv_link_scopes.specs.Views.{lent_in}
 use Rattle.yv_type_chains.specs.Bases.{AreBases}
 use Rattle.yv_type_chains.specs.Types.{IsOrderOfTypes, IsTypeAt}
-use Rattle.yv_types.specs.InnerLeafrefTables.{AreFound, at}
+use Rattle.yv_base_tables.specs.Slots.{at}
+use Rattle.yv_types.specs.InnerLeafrefTables.{AreFound}
 use Rattle.yv_types.specs.LeafrefTypes.{AreLeafrefTypes}
 use Rattle.yv_types.specs.Referrals.{FollowsIn, HasReferral}
 use Rattle.yv_types.specs.declared.leafref_types.LeafrefTypes.{LeafrefTypes}

@@ -3,7 +3,8 @@ use Rattle.std.specs.List.{Contains}
 use Rattle.yv_link_scopes.specs.Views.{lent_in, rows_in}
 use Rattle.yv_type_chains.specs.Bases.{AreBases}
 use Rattle.yv_type_chains.specs.Types.{IsTypeAt}
-use Rattle.yv_types.specs.InnerLeafrefTables.{AreFound, at}
+use Rattle.yv_base_tables.specs.Slots.{at}
+use Rattle.yv_types.specs.InnerLeafrefTables.{AreFound}
 use Rattle.yv_types.proofs.leafref_types.LeafrefTypes.read.Given as goal
 
 abbrev pub invariant-loop-number : goal.invariant-loop-number
