@@ -1,4 +1,4 @@
-pub mod Marks
+pub mod RowMarks
 pub mod Reachability
 pub mod Ranks
 pub mod Among

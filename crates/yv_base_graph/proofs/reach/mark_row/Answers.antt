@@ -1,6 +1,6 @@
 use Rattle.std.proofs.Common.{ap, sym, ◌∙◌, arith}
 use Rattle.std.proofs.lemmas.List.{take_more}
-use Rattle.yv_base_graph.proofs.Marks.{marks_seen, marks_new}
+use Rattle.yv_base_graph.proofs.RowMarks.{marks_seen, marks_new}
 use Rattle.yv_base_graph.proofs.reach.mark_row.Goals as goal
 use Rattle.yv_base_graph.proofs.reach.mark_row.Goals.{then-not-known+in_ok-push, else-not-known}
 
