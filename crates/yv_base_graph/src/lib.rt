@@ -1,6 +1,6 @@
 //! Graphs of numbered nodes: the nodes that a node leads to, and the nodes that lead to themselves,
-//! or else ranks that fall along each edge; and marks on nodes. All takes time linear in nodes and edges, and nothing
-//! recurses.
+//! or else ranks that fall along each edge; and marks on nodes. All takes time linear in nodes and
+//! edges, and nothing recurses.
 #![tactic(auto)]
 
 mod cycles;
