@@ -4,6 +4,7 @@ use Rattle.std.specs.Prelude.{◌≡◌, ℕ, ◌&&◌, Bool, true, false, List,
 use Rattle.yv_link_scopes.specs.Rows.{Row}
 use Rattle.yv_expand.specs.Origin.{number_of}
 use Rattle.yv_expand.specs.Tree.{Item}
+use Rattle.yv_base_graph.specs.Marks.{is_marked}
 use Rattle.yv_expand_rounds.specs.Kinds.{is_uses}
 use Rattle.yv_expand.specs.StatementBlocks.{is_augment}
 use Rattle.yv_expand_uses.specs.declared.spot.Spot.{Spot}
