@@ -196,7 +196,7 @@ impl Findings {
         if !links.is_target(node) {
             return Ok(());
         }
-        self.uses.add(node, position)
+        self.uses.add(self.alloc, node, position)
     }
 
     /// Notes a value of a leafref in the object with this number, where the leafref has a link;

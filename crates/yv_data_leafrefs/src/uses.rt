@@ -14,7 +14,6 @@ use yv_values::KeyPlaces;
 /// and many cost the same as one.
 #[derive(Drop)]
 pub(crate) struct Uses {
-    alloc: Global,
     places: BTreeMap<u32, KeyPlaces>,
 }
 
@@ -32,32 +31,36 @@ impl Uses {
         ensures { result ≡ [] }
     {
         Uses {
-            alloc,
             places: BTreeMap::new(alloc),
         }
     }
 
     /// Adds a place where the defaults of a target are in use. It costs least where its places come
     /// in ascending order.
-    pub(crate) fn add(&mut self, target: NodeId, place: u64) -> Result<(), AllocError>
+    pub(crate) fn add(
+        &mut self,
+        alloc: Global,
+        target: NodeId,
+        place: u64,
+    ) -> Result<(), AllocError>
         ensures adds { OnOk result
             (Spreads self.old self.new (record { target = target.0; place = place } ∷ [])) }
         ensures same { OnErr result (self.new ≡ self.old) }
     {
         match self.places.get_mut(&target.0) {
             Some(places) => places.add(place),
-            None => self.add_first(target, place),
+            None => self.add_first(alloc, target, place),
         }
     }
 
     // Adds the first place of a target.
-    fn add_first(&mut self, target: NodeId, place: u64) -> Result<(), AllocError>
+    fn add_first(&mut self, alloc: Global, target: NodeId, place: u64) -> Result<(), AllocError>
         requires { places_of self.old target.0 ≡ [] }
         ensures adds { OnOk result
             (Spreads self.old self.new (record { target = target.0; place = place } ∷ [])) }
         ensures same { OnErr result (self.new ≡ self.old) }
     {
-        let places = KeyPlaces::new(self.alloc, place)?;
+        let places = KeyPlaces::new(alloc, place)?;
         self.places.insert(target.0, places)?;
         Ok(())
     }

@@ -431,7 +431,7 @@ module _ (files : Files) (marks : List Bool) (order : List ℕ) (own : ℕ) (ite
           first_same e = cc
 
 pub impositions_are_one : (files : Files) → RefersToOne files → EachOnce → AllWithin → ImpositionsAreOne files
-impositions_are_one files one_meant once all_within choice f its m r sound roots optional final tells E =
+impositions_are_one files one_meant once all_within optional choice f its m r sound roots final tells E =
     let marks : List Bool = marks_of choice files in
     let w : Whole = expansion_of files marks f.items in
     let grafted : AreAugmented w f.items f.state =

@@ -24,14 +24,15 @@ use Rattle.yv_expand_tree.specs.Refusals.{BadStanding}
 use Rattle.yv_expand_definition.specs.Expansion.{AllRefer, AreMarked, Expand}
 use Rattle.yv_expand_definition.specs.Gives.{Product, Wrong}
 use Rattle.yv_expand_definition.specs.Refusals.{BadExpanded, IsWrong}
+use Rattle.yv_expand_laws.specs.AlikeRefusals.{RefusesModuleAugment, RefusesUsesAugment}
 use Rattle.yv_expand_laws.specs.Depths.{DepthsAreOne, RefusesDepth}
 use Rattle.yv_expand_laws.specs.Files.{ItemsShow}
 use Rattle.yv_expand_laws.specs.Impositions.{ImpositionsAreOne, RefusesImposition}
 use Rattle.yv_expand_laws.specs.Misplacements.{MisplacementsAreOne, RefusesBlock}
 use Rattle.yv_expand_laws.specs.Refines.{RefinesAreOne, RefusesRefine}
 use Rattle.yv_expand_laws.specs.Refusals.{FinalRefusalsAreOne, RefusalsAreOne}
-use Rattle.yv_expand_laws.specs.Targets.{RefusesTarget, TargetsAreOne}
-use Rattle.yv_expand_laws.specs.UsesTargets.{RefusesUsesTarget, UsesTargetsAreOne}
+use Rattle.yv_expand_laws.specs.Targets.{TargetsAreOne}
+use Rattle.yv_expand_laws.specs.UsesTargets.{UsesTargetsAreOne}
 use Rattle.yv_expand_laws.proofs.Among.{is_or_not}
 use Rattle.yv_expand_laws.proofs.FileMarks.{order_marked}
 use Rattle.yv_expand_laws.proofs.RefusedKinds.{IsOfEither, refused_is}
@@ -58,8 +59,8 @@ module _ (files : Files) (choice : ModuleChoice) (f : Final) (m : Product) (r : 
   record AreOne : Type 0 where
     depths : TooDeep (rows_of files) (spots_of files f) (final_items f) r ↔ RefusesDepth files m.nodes r
     refines : BadRefines files (spots_of files f) (refined_of files f) (final_items f) r ↔ RefusesRefine files m r
-    targets : BadTarget (whole_of files f) f.items f.state r ↔ RefusesTarget files marks m r
-    uses_targets : MissesTarget (whole_of files f) f.items (final_items f) r ↔ RefusesUsesTarget files marks m r
+    targets : BadTarget (whole_of files f) f.items f.state r ↔ RefusesModuleAugment files code.AugmentTarget marks m r
+    uses_targets : MissesTarget (whole_of files f) f.items (final_items f) r ↔ RefusesUsesAugment files code.AugmentTarget marks m r
     misplacements : PutsMisplaced (rows_of files) (spots_of files f) (final_items f) r ↔ RefusesBlock files m r
     impositions : ImposesMandatory (rows_of files) (spots_of files f) f.augments (told_of (said_of files f)) None nothing_around f.tree r ↔ RefusesImposition files m.nodes r
 
@@ -74,10 +75,10 @@ module _ (files : Files) (choice : ModuleChoice) (f : Final) (m : Product) (r : 
     of_refine : RefusesRefine files m r → BadExpanded choice files r
     of_refine (e, kind, there, q, at, is) = refused e q (inl there) at is
 
-    of_target : RefusesTarget files marks m r → BadExpanded choice files r
+    of_target : RefusesModuleAugment files code.AugmentTarget marks m r → BadExpanded choice files r
     of_target (a, own, there, q, at, is) = refused (record { code = code.AugmentTarget; statement = a }) q (inl there) at is
 
-    of_uses_target : RefusesUsesTarget files marks m r → BadExpanded choice files r
+    of_uses_target : RefusesUsesAugment files code.AugmentTarget marks m r → BadExpanded choice files r
     of_uses_target (a, never, there, q, at, is) = refused (record { code = code.AugmentTarget; statement = a }) q (inl there) at is
 
     of_block : RefusesBlock files m r → BadExpanded choice files r
@@ -141,7 +142,7 @@ refusals_are_one files to_one to_some show depths refines targets uses_targets m
       targets = targets choice f its m r sound roots final tells expand;
       uses_targets = uses_targets choice f its m r sound roots final tells expand;
       misplacements = misplacements choice f its m r sound roots final tells expand;
-      impositions = impositions choice f its m r sound roots optional final tells expand;
+      impositions = impositions optional choice f its m r sound roots final tells expand;
     } in
     (to_expanded files choice f m r expand one, to_standing files choice f m r expand one to_one)
 

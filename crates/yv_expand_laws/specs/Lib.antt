@@ -21,6 +21,7 @@ pub mod Files
 pub mod FinalTree
 pub mod Conditions
 pub mod Schema
+pub mod AlikeRefusals
 pub mod Depths
 pub mod Impositions
 pub mod Targets

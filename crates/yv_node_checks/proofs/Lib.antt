@@ -3,3 +3,4 @@ pub mod Here
 pub mod AncestryTable
 pub mod Below
 mod Namesakes
+mod NearestNodes

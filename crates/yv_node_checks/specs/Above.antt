@@ -6,21 +6,11 @@ use Rattle.yv_text_statement.specs.Order.{Among, Stands}
 use Rattle.yv_node_content.specs.declared.kind.NodeKind.{NodeKind}
 use Rattle.yv_node_content.specs.declared.kind.NodeKind.TheVariants as kind
 use Rattle.yv_node_content.specs.Definition.{is_empty}
-use Rattle.yv_node_content.specs.Kinds.{is_case, is_list, is_operation_or_notification}
+use Rattle.yv_node_content.specs.Kinds.{is_case, is_list}
+use Rattle.yv_nodes.specs.Labels.{in_operation_or_notification, inherited_config}
 use Rattle.yv_nodes.specs.Tree.{Label, Forest}
 use Rattle.yv_nodes.specs.Places.{Place, places}
 use Rattle.yv_nodes.specs.Refusals.{refusal_of}
-
--- a node is an action
-abbrev pub is_action : NodeKind → Bool
-is_action kind.Action = true
-is_action _ = false
-
--- what may be below a data node, and not only at the top
-abbrev pub is_nested : NodeKind → Bool
-is_nested kind.Action = true
-is_nested kind.Notification = true
-is_nested _ = false
 
 -- a list without key
 abbrev pub is_keyless : Label → Bool
@@ -30,12 +20,6 @@ is_keyless l = is_list l.defined.kind && is_empty l.defined.keys
 -- 7.20.2)
 abbrev pub has_if_feature : Label → Bool
 has_if_feature l = not (length l.defined.features == 0)
-
--- one of these nodes is an operation or a notification
-abbrev pub in_operation_or_notification : List Label → Bool
-in_operation_or_notification [] = false
-in_operation_or_notification (l ∷ ls) =
-    is_operation_or_notification l.defined.kind || in_operation_or_notification ls
 
 -- one of these nodes is a list without key
 abbrev pub in_keyless : List Label → Bool
@@ -52,11 +36,6 @@ abbrev pub is_top : List Label → Bool
 is_top [] = true
 is_top (l ∷ ls) = false
 
--- the nearest of these nodes is configuration: the root is
-abbrev pub in_config : List Label → Bool
-in_config [] = true
-in_config (l ∷ ls) = l.is_config
-
 -- the node of a place and those above it
 abbrev pub line : Place → List Label
 line p = p.label ∷ p.above
@@ -70,15 +49,22 @@ says_true (Some stated) = stated
 -- 7950, section 7.21.1)
 abbrev pub is_misconfigured : Place → Bool
 is_misconfigured p = not (in_operation_or_notification (line p))
-    && (says_true p.label.defined.stated_config && not (in_config p.above))
+    && (says_true p.label.defined.stated_config && not (inherited_config p.above))
 
--- an action or notification in an operation or notification, in a list without key, in a case, or
--- an action at the top (RFC 7950, sections 7.15 and 7.16)
+-- no action and no notification may be below these nodes: one is an operation, a notification or a
+-- list without key, or the nearest is a case (RFC 7950, sections 7.15 and 7.16)
+abbrev pub bars_nested : List Label → Bool
+bars_nested ls = in_operation_or_notification ls || in_keyless ls || in_case ls
+
+-- a node of a kind may not be below these: an action may also not be at the top
+abbrev pub is_barred : NodeKind → (above : List Label) → Bool
+is_barred kind.Action above = bars_nested above || is_top above
+is_barred kind.Notification above = bars_nested above
+is_barred _ above = false
+
+-- an action or a notification is where none may be
 abbrev pub is_misplaced : Place → Bool
-is_misplaced p =
-    is_nested p.label.defined.kind
-    && (in_operation_or_notification p.above || in_keyless p.above || in_case p.above
-    || is_action p.label.defined.kind && is_top p.above)
+is_misplaced p = is_barred p.label.defined.kind p.above
 
 -- a list of configuration without key (RFC 7950, section 7.8.2)
 abbrev pub lacks_key : Place → Bool
@@ -95,7 +81,7 @@ abbrev pub is_misfit : Place → Bool
 is_misfit p =
     p.label.is_key
     && (has_if_feature p.label || not (in_operation_or_notification (line p))
-    && differ p.label.is_config (in_config p.above))
+    && differ p.label.is_config (inherited_config p.above))
 
 -- f is at the nearest of these nodes, the list of a key
 abbrev pub AtNearest : List Label → Bool → Refusal → Type 0

@@ -6,15 +6,9 @@ ghost use Rattle.yv_node_checks.specs.{Above.{is_keyless}, InnerAncestry.{ancest
 use yv_node_content::NodeKind;
 use yv_nodes::Node;
 
-/// What a node and those above it say of what is below them.
+/// What a node and those above it are to what is below them.
 #[derive(Clone, Copy)]
 pub(crate) struct Ancestry {
-    /// There is no such node.
-    pub(crate) is_top: bool,
-    /// The node is a case.
-    pub(crate) in_case: bool,
-    /// The node is configuration: the root is.
-    pub(crate) in_config: bool,
     /// One of them is an operation or a notification.
     pub(crate) in_operation: bool,
     /// One of them is a list without key.
@@ -24,9 +18,6 @@ pub(crate) struct Ancestry {
 impl Ancestry {
     /// That of no node.
     pub(crate) const TOP: Ancestry = Ancestry {
-        is_top: true,
-        in_case: false,
-        in_config: true,
         in_operation: false,
         in_keyless: false,
     };
@@ -37,9 +28,6 @@ impl Ancestry {
             ≡ ancestry_of (node.now.label ∷ ls) }
     {
         Ancestry {
-            is_top: false,
-            in_case: node.kind() == NodeKind::Case,
-            in_config: node.config(),
             in_operation: node.kind().is_operation_or_notification() || self.in_operation,
             in_keyless: is_keyless(node) || self.in_keyless,
         }

@@ -17,8 +17,8 @@ fn place_of(number: NodeId) -> Option<u32>
     }
 }
 
-// The place just above a node.
-fn parent_of(node: &Node) -> Option<u32>
+/// The place just above a node.
+pub(crate) fn parent_of(node: &Node) -> Option<u32>
     ensures { result ≡ parent_of node.now }
 {
     place_of(node.parent())

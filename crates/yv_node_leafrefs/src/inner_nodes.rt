@@ -1,21 +1,11 @@
 //! The containers and lists above nodes.
 ghost use Rattle.std.specs.{Prelude.{◌≡◌, ◌<◌, ◌≤◌, ◌↔◌, ℕ, None, Some, length, IfOk}, List.{slice_index_or}};
-ghost use Rattle.yv_node_leafrefs.specs.{Above.{AreBehind, Closest, parent_of, place_of}, Links.{IsInner}, InnerWays.{AreAbove}};
+ghost use Rattle.yv_node_leafrefs.specs.{Above.{AreBehind, Closest, parent_of}, Links.{IsInner}, InnerWays.{AreAbove}};
 
+use crate::above::parent_of;
 use std::alloc::{AllocError, Global};
 use yv_node_content::NodeKind;
-use yv_nodes::{Node, NodeId};
-
-// The place of a number: none is that of the document.
-fn place_of(number: NodeId) -> Option<u32>
-    ensures { result ≡ place_of number }
-{
-    if number.number() == 4_294_967_295 {
-        None
-    } else {
-        Some(number.number())
-    }
-}
+use yv_nodes::Node;
 
 /// The place above a node, of those above nodes: none beyond them.
 pub(crate) fn above_at(above: &[Option<u32>], number: u32) -> Option<u32>
@@ -49,7 +39,7 @@ pub(crate) fn inner_above(alloc: Global, nodes: &[Node]) -> Result<Vec<Option<u3
 {
     let mut above = Vec::new(alloc);
     for node in nodes {
-        let place = closest(nodes, &above, place_of(node.parent()));
+        let place = closest(nodes, &above, parent_of(node));
         above.push(place)?;
     }
     Ok(above)

@@ -2,7 +2,7 @@
 ghost use Rattle.std.specs.Prelude.{◌≡◌, ◌<◌, ◌↔◌, ℕ, Some, None, length, slice_get, IsTrue};
 ghost use Rattle.yv_text_statement.specs.Order.{IsLeast};
 ghost use Rattle.yv_nodes.specs.Rows.{Row};
-ghost use Rattle.yv_node_leafrefs.specs.{Bad.{BadLeafrefs, BadLeafref, IsLost}, Targets.{RefersTo}, InnerOutline.{rows_in, schema_in}, InnerIndex.{IsDraft}, InnerGraph.{AreTargets, AreLeafrefCycles}};
+ghost use Rattle.yv_node_leafrefs.specs.{Bad.{BadLeafrefs, BadLeafref, IsLost}, Targets.{LeadsTo, RefersTo}, InnerOutline.{rows_in, schema_in}, InnerIndex.{IsDraft}, InnerGraph.{AreTargets, AreLeafrefCycles}};
 
 use crate::draft::Draft;
 use crate::outline::Outline;
@@ -23,27 +23,25 @@ fn is_lost(outline: &Outline<'_>, draft: &Draft<'_>, target: Option<u32>, number
     target.is_none()
 }
 
-// The least that is wrong with a node.
+// The least that is wrong with a node with this target, if the mark says whether a cycle is.
 fn node_refusal(
     outline: &Outline<'_>,
     draft: &Draft<'_>,
-    targets: &[Option<u32>],
-    marks: &[bool],
     number: usize,
+    target: Option<u32>,
+    is_cyclic: bool,
 ) -> Option<Refusal>
     requires draft { IsDraft outline.now draft.now }
-    requires each { length targets.now ≡ length (rows_in outline.now) }
-    requires targets { AreTargets (schema_in outline.now) targets.now }
-    requires each_mark { length marks.now ≡ length (rows_in outline.now) }
-    requires marks { AreLeafrefCycles (schema_in outline.now) marks.now }
     requires within { number < length (rows_in outline.now) }
+    requires target { (x : ℕ) → (target ≡ Some x) ↔ RefersTo (schema_in outline.now) number x }
+    requires cycle { IsTrue is_cyclic ↔ LeadsTo (schema_in outline.now) number number }
     ensures { (row : Row) → slice_get (rows_in outline.now) number ≡ Some row
         → IsLeast (BadLeafref (schema_in outline.now) number row) result }
 {
     let node = &outline.nodes[number];
-    let is_lost = is_lost(outline, draft, targets[number], number as u32);
+    let is_lost = is_lost(outline, draft, target, number as u32);
     let lost = node.refusal_if(is_lost, Code::BadPath);
-    let cycle = node.refusal_if(marks[number], Code::PathCycle);
+    let cycle = node.refusal_if(is_cyclic, Code::PathCycle);
     lesser(lost, cycle)
 }
 
@@ -63,7 +61,7 @@ pub(crate) fn first_refusal(
 {
     let mut least = None;
     for number in 0..outline.nodes.len() {
-        let fault = node_refusal(outline, draft, targets, marks, number);
+        let fault = node_refusal(outline, draft, number, targets[number], marks[number]);
         least = lesser(least, fault);
     }
     least

@@ -173,7 +173,7 @@ module _ (left_is_schema : (files : Files) → LeftIsSchema files) (are_items : 
         basis = shown_basis s.its n.basis;
         of_files = refl;
         is_basis = s.is_basis;
-        are = n.are ∙ notes_are choice n.basis s.its n.is_basis s.told;
+        is = n.is ∙ notes_are choice n.basis s.its n.is_basis s.told;
       }) sound roots fine
 
   -- notes by the tree are notes by numbered items, where there is a final tree by number
@@ -185,5 +185,5 @@ module _ (left_is_schema : (files : Files) → LeftIsSchema files) (are_items : 
         basis = s.basis;
         of_files = s.of_files;
         is_basis = s.is_basis;
-        are = n.are ∙ (ap (by_tree.notes_of choice) s.same ∙ sym (notes_are choice s.basis s.its s.is_basis s.told));
+        is = n.is ∙ (ap (by_tree.notes_of choice) s.same ∙ sym (notes_are choice s.basis s.its s.is_basis s.told));
       }) sound roots fine final

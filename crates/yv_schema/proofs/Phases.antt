@@ -23,7 +23,7 @@ use Rattle.yv_node_checks.specs.Mandatory.{BadOfDefault}
 use Rattle.yv_schema_tables.specs.Bad.{BadRows}
 use Rattle.yv_schema_tables.specs.DuplicateNodes.{HasDuplicate, HasRepeat, names_that_differ}
 use Rattle.yv_schema_build.specs.InnerBasis.{leafrefs_of}
-use Rattle.yv_schema_build.specs.Refusals.{BadFile, BadTyping}
+use Rattle.yv_schema_build.specs.Refusals.{BadFile, BadNodes, BadTyping}
 use Rattle.yv_schema_build.specs.InnerRefuses.{BadNumberedSchema}
 use Rattle.yv_schema_build.proofs.FileRefusals.{is_own}
 use Rattle.yv_schema_build.proofs.TypePhases.{names_phase, types_phase}
@@ -102,11 +102,7 @@ tree_phase top f h = elim h [ inl x ↦ below_phase x.2 f x.4 | inr x ↦ defaul
 leafrefs_phase : (s : Schema) (f : Refusal) → BadLeafrefs s f → phase_of f.code ≡ 10
 leafrefs_phase s f h = elim h.4 [ inl x ↦ of_phase 10 f _ x.1 refl | inr x ↦ of_phase 10 f _ x.1 refl ]
 
--- what is wrong with a tree whose leafrefs are these
-abbrev pub BadWith : Schema → Forest → Refusal → Type 0
-BadWith s top f = BadRows top f ⊎ (BadTree top f ⊎ BadLeafrefs s f)
-
-pub nodes_phase : (s : Schema) (top : Forest) (f : Refusal) → BadWith s top f → phase_of f.code ≡ 10
+pub nodes_phase : (s : Schema) (top : Forest) (f : Refusal) → BadNodes s top f → phase_of f.code ≡ 10
 nodes_phase s top f (inl h) = rows_phase top f h
 nodes_phase s top f (inr (inl h)) = tree_phase top f h
 nodes_phase s top f (inr (inr h)) = leafrefs_phase s f h
@@ -115,7 +111,7 @@ module _ (phases : ExpansionsHavePhases) (choice : ModuleChoice) (files : Files)
   typing_late : (f : Refusal) → BadTyping choice files f → 6 < phase_of f.code
   typing_late f h = let e : phase_of f.code ≡ 9 = types_phase files h.truth f h.bad in omega (arith, e)
 
-  nodes_late : (s : Schema) (top : Forest) (f : Refusal) → BadWith s top f → 6 < phase_of f.code
+  nodes_late : (s : Schema) (top : Forest) (f : Refusal) → BadNodes s top f → 6 < phase_of f.code
   nodes_late s top f h = let e : phase_of f.code ≡ 10 = nodes_phase s top f h in omega (arith, e)
 
   -- what is refused from the expansion on comes late, by numbered items

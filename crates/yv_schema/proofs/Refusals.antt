@@ -20,20 +20,20 @@ use Rattle.yv_node_leafrefs.specs.Schema.{Schema}
 use Rattle.yv_schema_build.specs.InnerBasis.{NumberedBasis}
 use Rattle.yv_schema_build.specs.InnerBasis as by_number
 use Rattle.yv_schema_build.specs.InnerRefuses.{BadNumberedSchema, RefusesByNumber}
-use Rattle.yv_schema_build.specs.Refusals.{BadTyping, in_file}
+use Rattle.yv_schema_build.specs.Refusals.{BadNodes, BadTyping, in_file}
 use Rattle.yv_schema_build.specs.InnerSchema.{IsNumberedBasis}
 use Rattle.yv_schema.specs.Schema.{IsBasis, Basis}
 use Rattle.yv_schema.specs.Schema as by_tree
 use Rattle.yv_schema.specs.Refuses.{RefusesExpansion, BadSchema, Refuses}
 use Rattle.yv_schema_build.specs.Refusals.{RefusesBeforeExpansion}
-use Rattle.yv_schema.proofs.Phases.{BadWith, ExpansionsHavePhases, LinksHavePhases, early, late, same_least, tree_late}
+use Rattle.yv_schema.proofs.Phases.{ExpansionsHavePhases, LinksHavePhases, early, late, same_least, tree_late}
 use Rattle.yv_schema.proofs.Schemas.{LeftAreItems, OneNodes, shown, shown_same, shows}
 use Rattle.yv_schema.proofs.Trees.{AreSame, same_leafrefs, same_stated, shown_basis}
 
 module _ (left_is_schema : (files : Files) → LeftIsSchema files) (are_items : LeftAreItems) where
   bad_of : (choice : ModuleChoice) (b : NumberedBasis) (top : schema.Forest) (f : Refusal) → AreSound b.files → HaveRoots b.files
       → IsLeast (BadFeatures b.files) None → IsNumberedBasis choice b → IsTyped (by_number.leafrefs_of b) (by_number.stated_of b) top
-      → BadWith (by_number.leafrefs_of b) top f → BadSchema choice b.files f
+      → BadNodes (by_number.leafrefs_of b) top f → BadSchema choice b.files f
   bad_of choice b top f sound roots fine is typed bad =
       let s = shown left_is_schema are_items choice b sound roots fine is in
       let each : AreSame s.its b = shown_same left_is_schema are_items choice b s.its is s.told in
@@ -47,7 +47,7 @@ module _ (left_is_schema : (files : Files) → LeftIsSchema files) (are_items : 
               subst (λ (schema : Schema). IsTyped schema (by_tree.stated_of (shown_basis s.its b)) top) (same_leafrefs s.its b each)
               (subst (λ (stated : schema.Forest). IsTyped (by_number.leafrefs_of b) stated top) (same_stated s.its b each) typed);
         };
-        stands = subst (λ (schema : Schema). BadWith schema top f) (same_leafrefs s.its b each) bad;
+        stands = subst (λ (schema : Schema). BadNodes schema top f) (same_leafrefs s.its b each) bad;
       }
 
   -- what is wrong with a schema tree by numbered items is wrong with that of the tree
@@ -59,7 +59,7 @@ module _ (left_is_schema : (files : Files) → LeftIsSchema files) (are_items : 
 
   tree_bad_of : OneNodes → (choice : ModuleChoice) (t : Basis) (top : schema.Forest) (final : Final) (f : Refusal) → AreSound t.files
       → HaveRoots t.files → IsLeast (BadFeatures t.files) None → IsFinal choice t.files final → IsBasis choice t
-      → IsTyped (by_tree.leafrefs_of t) (by_tree.stated_of t) top → BadWith (by_tree.leafrefs_of t) top f → BadNumberedSchema choice t.files f
+      → IsTyped (by_tree.leafrefs_of t) (by_tree.stated_of t) top → BadNodes (by_tree.leafrefs_of t) top f → BadNumberedSchema choice t.files f
   tree_bad_of one choice t top final f sound roots fine is_final is typed bad =
       let s = shows left_is_schema are_items one choice t final sound roots fine is_final is in
       let each : AreSame s.its s.basis = shown_same left_is_schema are_items choice s.basis s.its s.is_basis s.told in
@@ -75,8 +75,8 @@ module _ (left_is_schema : (files : Files) → LeftIsSchema files) (are_items : 
               (subst (λ (t : Basis). IsTyped (by_tree.leafrefs_of t) (by_tree.stated_of t) top) s.same typed));
         };
         stands =
-            subst (λ (schema : Schema). BadWith schema top f) (sym (same_leafrefs s.its s.basis each))
-            (subst (λ (t : Basis). BadWith (by_tree.leafrefs_of t) top f) s.same bad);
+            subst (λ (schema : Schema). BadNodes schema top f) (sym (same_leafrefs s.its s.basis each))
+            (subst (λ (t : Basis). BadNodes (by_tree.leafrefs_of t) top f) s.same bad);
       }
 
   -- and the other way round, where there is a final tree by number

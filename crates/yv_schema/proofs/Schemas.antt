@@ -166,7 +166,7 @@ module _ (left_is_schema : (files : Files) → LeftIsSchema files) (are_items : 
         basis = shown_basis s.its r.basis;
         of_files = refl;
         is_basis = s.is_basis;
-        are = subst (λ (schema : Schema). AreLinks schema links) (same_leafrefs s.its r.basis (shown_same choice r.basis s.its r.is_basis s.told)) r.are;
+        is = subst (λ (schema : Schema). AreLinks schema links) (same_leafrefs s.its r.basis (shown_same choice r.basis s.its r.is_basis s.told)) r.is;
       }) sound roots fine
 
   -- links by the tree are links by numbered items, where there is a final tree by number
@@ -178,7 +178,7 @@ module _ (left_is_schema : (files : Files) → LeftIsSchema files) (are_items : 
         basis = s.basis;
         of_files = s.of_files;
         is_basis = s.is_basis;
-        are =
+        is =
             subst (λ (schema : Schema). AreLinks schema links) (sym (same_leafrefs s.its s.basis (shown_same choice s.basis s.its s.is_basis s.told)))
-            (subst (λ (t : Basis). AreLinks (by_tree.leafrefs_of t) links) s.same r.are);
+            (subst (λ (t : Basis). AreLinks (by_tree.leafrefs_of t) links) s.same r.is);
       }) sound roots fine final

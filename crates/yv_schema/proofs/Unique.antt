@@ -73,9 +73,9 @@ module _ (one_truth : HasOneTruth) (one_typing : HaveOneTyping) (one_nodes : One
   pub one_list : HasOneList → (a b : List (Option Link)) → AreReferences choice files a → AreReferences choice files b → a ≡ b
   one_list one a b p q =
       let same : p.basis ≡ q.basis = one_basis p.basis q.basis p.of_files q.of_files p.is_basis q.is_basis in
-      let are : AreLinks (leafrefs_of q.basis) a = subst (λ (x : Basis). AreLinks (leafrefs_of x) a) same p.are in
-      one (leafrefs_of q.basis) (leafrefs_of q.basis) a b (record { rows = refl; says = λ n. refl }) are q.are
+      let are : AreLinks (leafrefs_of q.basis) a = subst (λ (x : Basis). AreLinks (leafrefs_of x) a) same p.is in
+      one (leafrefs_of q.basis) (leafrefs_of q.basis) a b (record { rows = refl; says = λ n. refl }) are q.is
 
   pub one_notes : (a b : List Note) → AreNotes choice files a → AreNotes choice files b → a ≡ b
   one_notes a b p q =
-      p.are ∙ ap (notes_of choice) (one_basis p.basis q.basis p.of_files q.of_files p.is_basis q.is_basis) ∙ sym q.are
+      p.is ∙ ap (notes_of choice) (one_basis p.basis q.basis p.of_files q.of_files p.is_basis q.is_basis) ∙ sym q.is

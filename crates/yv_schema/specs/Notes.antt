@@ -10,6 +10,7 @@ use Rattle.yv_expand.specs.StatementBlocks.{augments_of}
 use Rattle.yv_expand_tree.specs.FileOrder.{marks_of}
 use Rattle.yv_expand_definition.specs.Nodes.{Forest, Node, node, none}
 use Rattle.yv_nodes.specs.Rows.{Note}
+use Rattle.yv_schema_build.specs.OfBasis.{HoldsOfBasis}
 use Rattle.yv_schema.specs.Schema.{IsBasis, Basis, node_list}
 
 -- the numbers of the nodes that the augment of a module gives
@@ -61,8 +62,7 @@ notes_of choice b =
     notes_from b (augments_of (map brief_of b.files) (rows_of b.files) (marks_of choice b.files))
 
 -- these are the augments of the files' modules that add nodes to the tree to which files expand
-pub record AreNotes (choice : ModuleChoice) (files : Files) (notes : List Note) : Type 0 where
-  pub basis : Basis
-  pub of_files : basis.files ≡ files
-  pub is_basis : IsBasis choice basis
-  pub are : notes ≡ notes_of choice basis
+abbrev pub AreNotes : ModuleChoice → Files → List Note → Type 0
+AreNotes choice files notes =
+    HoldsOfBasis (λ (b : Basis). b.files) IsBasis choice files
+    (λ b. notes ≡ notes_of choice b)

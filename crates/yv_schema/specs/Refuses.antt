@@ -8,22 +8,14 @@ use Rattle.yv_expand.specs.Limit.{TooMany}
 use Rattle.yv_expand_tree.specs.FileOrder.{marks_of}
 use Rattle.yv_expand_definition.specs.Refusals.{BadExpanded}
 use Rattle.yv_nodes.specs.Tree.{Forest}
-use Rattle.yv_node_leafrefs.specs.Bad.{BadLeafrefs}
-use Rattle.yv_node_checks.specs.Bad.{BadTree}
-use Rattle.yv_schema_tables.specs.Bad.{BadRows}
-use Rattle.yv_schema_build.specs.Refusals.{BadTyping, RefusesBeforeExpansion}
-use Rattle.yv_schema.specs.Schema.{IsSchema, Basis, leafrefs_of}
-
--- f is in the schema tree of a basis: a duplicate name, a list whose key or `unique` statements
--- name what they may not, a leafref that leads nowhere or to itself, or what is wrong else
-abbrev pub BadNodes : Basis → Forest → Refusal → Type 0
-BadNodes b top f = BadRows top f ⊎ (BadTree top f ⊎ BadLeafrefs (leafrefs_of b) f)
+use Rattle.yv_schema_build.specs.Refusals.{BadNodes, BadTyping, RefusesBeforeExpansion}
+use Rattle.yv_schema.specs.Schema.{IsSchema, leafrefs_of}
 
 -- f is in the schema tree of the files
 pub record BadSchema (choice : ModuleChoice) (files : Files) (f : Refusal) : Type 0 where
   pub tree : Forest
   pub schema : IsSchema choice files tree
-  pub stands : BadNodes schema.basis tree f
+  pub stands : BadNodes (leafrefs_of schema.basis) tree f
 
 -- the expansion passes the limit, or something is wrong with what the files expand to
 abbrev pub RefusesExpansion : ModuleChoice → Files → (limit : ℕ) → Refusal → Type 0

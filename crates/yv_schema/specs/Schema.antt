@@ -1,6 +1,6 @@
 -- The schema of files as that of the tree to which they expand (RFC 7950, sections 5.6.5, 7.5 to
 -- 7.17, and 9.9).
-use Rattle.std.specs.Prelude.{◌≡◌, List, [], ◌∷◌, ◌++◌, Option, slice_get}
+use Rattle.std.specs.Prelude.{List, [], ◌∷◌, ◌++◌, Option, slice_get}
 use Rattle.std.specs.Option.{option_and_then}
 use Rattle.yv_text_statement.specs.Selection.{ModuleChoice}
 use Rattle.yv_link_scopes.specs.Files.{Files}
@@ -18,6 +18,7 @@ use Rattle.yv_node_leafrefs.specs.Links.{AreLinks}
 use Rattle.yv_node_leafrefs.specs.Resolution.{IsTyped}
 use Rattle.yv_node_leafrefs.specs.Schema.{Referral, Schema}
 use Rattle.yv_schema_build.specs.Module.{module_name}
+use Rattle.yv_schema_build.specs.OfBasis.{HoldsOfBasis}
 use Rattle.yv_schema_build.specs.Referrals.{referral_at}
 
 -- what a schema is made of: the statements of files, which of their conditions hold, what their
@@ -72,17 +73,14 @@ pub record IsBasis (choice : ModuleChoice) (b : Basis) : Type 0 where
 
 -- this is the schema tree of the files: the nodes to which they expand, as their statements say
 -- them, with the leafrefs resolved (section 9.9)
-pub record IsSchema (choice : ModuleChoice) (files : Files) (tree : Forest) : Type 0 where
-  pub basis : Basis
-  pub of_files : basis.files ≡ files
-  pub is_basis : IsBasis choice basis
-  pub is : IsTyped (leafrefs_of basis) (stated_of basis) tree
+abbrev pub IsSchema : ModuleChoice → Files → Forest → Type 0
+IsSchema choice files tree =
+    HoldsOfBasis (λ (b : Basis). b.files) IsBasis choice files
+    (λ b. IsTyped (leafrefs_of b) (stated_of b) tree)
 
 -- this is where the paths of its leafrefs lead that require an instance, each at the number of its
 -- node (sections 9.9.2 and 9.9.3)
-pub record AreReferences (choice : ModuleChoice) (files : Files)
-    (links : List (Option Link)) : Type 0 where
-  pub basis : Basis
-  pub of_files : basis.files ≡ files
-  pub is_basis : IsBasis choice basis
-  pub are : AreLinks (leafrefs_of basis) links
+abbrev pub AreReferences : ModuleChoice → Files → List (Option Link) → Type 0
+AreReferences choice files links =
+    HoldsOfBasis (λ (b : Basis). b.files) IsBasis choice files
+    (λ b. AreLinks (leafrefs_of b) links)

@@ -14,7 +14,7 @@ use Rattle.yv_schema_tables.specs.Bad.{BadRows}
 use Rattle.yv_node_checks.specs.Bad.{BadTree}
 use Rattle.yv_node_leafrefs.specs.Bad.{BadLeafrefs}
 use Rattle.yv_schema_build.specs.InnerBasis.{NumberedBasis, leafrefs_of}
-use Rattle.yv_schema_build.specs.InnerRefuses.{BadNumberedNodes}
+use Rattle.yv_schema_build.specs.Refusals.{BadNodes}
 use Rattle.yv_schema_build.specs.InnerBuild.{IsFirst, of_tree, of_both}
 use Rattle.yv_schema_build.specs.InnerParts.{BadOther}
 
@@ -36,12 +36,12 @@ pub least_other : (b : NumberedBasis) (top : Forest) (wrong fault both : Option 
 least_other b top wrong fault both p q lesser = least_lesser (BadTree top) (BadLeafrefs (leafrefs_of b)) wrong fault both lesser p q
 
 -- nothing is wrong with a tree
-pub both_clear : (b : NumberedBasis) (top : Forest) → IsLeast (BadRows top) None → IsLeast (BadOther b top) None → IsLeast (BadNumberedNodes b top) None
+pub both_clear : (b : NumberedBasis) (top : Forest) → IsLeast (BadRows top) None → IsLeast (BadOther b top) None → IsLeast (BadNodes (leafrefs_of b) top) None
 both_clear b top duplicate wrong = least_lesser (BadRows top) (BadOther b top) None None None refl duplicate wrong
 
 -- the first refusal is the least of all that is wrong with a tree
 pub first_stands : (b : NumberedBasis) (top : Forest) (numbered : Result Rows Stop) (wrong : Option Refusal) (r : Refusal) → OnOk numbered (IsLeast (BadRows top) None)
-    → ((d : Refusal) → numbered ≡ Err (Fault d) → IsLeast (BadRows top) (Some d)) → IsLeast (BadOther b top) wrong → IsFirst numbered wrong r → IsLeast (BadNumberedNodes b top) (Some r)
+    → ((d : Refusal) → numbered ≡ Err (Fault d) → IsLeast (BadRows top) (Some d)) → IsLeast (BadOther b top) wrong → IsFirst numbered wrong r → IsLeast (BadNodes (leafrefs_of b) top) (Some r)
 first_stands b top numbered wrong r clear duplicate least (of_tree s is told) =
     least_lesser (BadRows top) (BadOther b top) None (Some r) (Some r) refl (subst (λ (o : Result Rows Stop). OnOk o (IsLeast (BadRows top) None)) is clear) (subst (λ (o : Option Refusal). IsLeast (BadOther b top) o) told least)
 first_stands b top numbered wrong r clear duplicate least (of_both d is lesser) =

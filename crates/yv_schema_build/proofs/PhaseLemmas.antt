@@ -52,8 +52,8 @@ use Rattle.yv_schema_tables.specs.DuplicateNodes.{HasDuplicate, HasRepeat, names
 use Rattle.yv_node_checks.specs.Above.{AtNearest, BadBelow, is_misfit}
 use Rattle.yv_node_checks.specs.Mandatory.{BadOfDefault}
 use Rattle.yv_node_checks.specs.Bad.{BadTree}
-use Rattle.yv_schema_build.specs.Refusals.{BadFile, BadTyping}
-use Rattle.yv_schema_build.specs.InnerRefuses.{BadNumberedNodes, BadNumberedSchema, RefusesByNumber, RefusesBeforeTypesByNumber}
+use Rattle.yv_schema_build.specs.Refusals.{BadFile, BadNodes, BadTyping}
+use Rattle.yv_schema_build.specs.InnerRefuses.{BadNumberedSchema, RefusesByNumber, RefusesBeforeTypesByNumber}
 use Rattle.yv_schema_build.specs.InnerSchema.{AreNumberedNotes, AreNumberedReferences, IsNumberedBasis, IsNumberedSchema}
 use Rattle.yv_schema_tables.specs.NodeNumbers.{HasNoColon}
 use Rattle.yv_schema_build.specs.InnerBuild.{AreNames}
@@ -328,6 +328,29 @@ module _ (choice : ModuleChoice) (files : Files) (limit : ℕ) where
       → IsLeast (BadExpansion choice files limit) o → IsLeast (RefusesBeforeTypesByNumber choice files limit) o
   least_expanded o p q h e = behind Own (λ f. BadLinks files f ⊎ Names f) o p (behind (BadLinks files) Names o q (behind (BadNames files) Expansion o h e))
 
+-- files have one basis
+abbrev pub HaveOneBasis : ModuleChoice → Files → Type 0
+HaveOneBasis choice files =
+    (p q : NumberedBasis) → p.files ≡ files → q.files ≡ files → IsNumberedBasis choice p → IsNumberedBasis choice q → p ≡ q
+
+module _ (choice : ModuleChoice) (files : Files) (one : HaveOneBasis choice files) where
+  -- so they give one schema tree, and one list of augments that add to it
+  pub one_schema : IsTypedOnce → (a b : Forest) → IsNumberedSchema choice files a → IsNumberedSchema choice files b → a ≡ b
+  one_schema once a b p q =
+      let same : p.basis ≡ q.basis = one p.basis q.basis p.of_files q.of_files p.is_basis q.is_basis in
+      let is : IsTyped (leafrefs_of q.basis) (stated_of q.basis) a = subst (λ (x : NumberedBasis). IsTyped (leafrefs_of x) (stated_of x) a) same p.is in
+      once (leafrefs_of q.basis) (leafrefs_of q.basis) (stated_of q.basis) a b (record { rows = refl; says = λ n. refl }) is q.is
+
+  pub one_list : HasOneList → (a b : List (Option Link)) → AreNumberedReferences choice files a → AreNumberedReferences choice files b → a ≡ b
+  one_list list a b p q =
+      let same : p.basis ≡ q.basis = one p.basis q.basis p.of_files q.of_files p.is_basis q.is_basis in
+      let are : AreLinks (leafrefs_of q.basis) a = subst (λ (x : NumberedBasis). AreLinks (leafrefs_of x) a) same p.is in
+      list (leafrefs_of q.basis) (leafrefs_of q.basis) a b (record { rows = refl; says = λ n. refl }) are q.is
+
+  pub one_notes : (a b : List Note) → AreNumberedNotes choice files a → AreNumberedNotes choice files b → a ≡ b
+  one_notes a b p q =
+      p.is ∙ ap notes_of (one p.basis q.basis p.of_files q.of_files p.is_basis q.is_basis) ∙ sym q.is
+
 module _ (choice : ModuleChoice) (files : Files) (limit : ℕ) (one : HasOneTruth) (before : IsLeast (RefusesBeforeTypesByNumber choice files limit) None) where
   pub one_truth : (a b : Truth) → IsTruth files choice a → IsTruth files choice b → a ≡ b
   one_truth a b p q = same_truth a b (λ n text. one files choice n text (a n text) (b n text) (λ f h. links_clear choice files limit before f (inr (inl h))) (p n text) (q n text))
@@ -374,32 +397,15 @@ module _ (choice : ModuleChoice) (files : Files) (limit : ℕ) (one : HasOneTrut
       basis : Files → Truth → TypeMeanings → Final → Nodes → NumberedBasis
       basis files truth typing final nodes = record { files = files; truth = truth; typing = typing; final = final; nodes = nodes }
 
-  -- so they give one schema tree, and one list of augments that add to it
-  pub one_schema : HaveOneTyping → HaveOneFinal → IsOneLeft → IsTypedOnce → (a b : Forest) → IsNumberedSchema choice files a → IsNumberedSchema choice files b → a ≡ b
-  one_schema one_typing one_final one_left once a b p q =
-      let same : p.basis ≡ q.basis = one_basis one_typing one_final one_left p.basis q.basis p.of_files q.of_files p.is_basis q.is_basis in
-      let is : IsTyped (leafrefs_of q.basis) (stated_of q.basis) a = subst (λ (x : NumberedBasis). IsTyped (leafrefs_of x) (stated_of x) a) same p.is in
-      once (leafrefs_of q.basis) (leafrefs_of q.basis) (stated_of q.basis) a b (record { rows = refl; says = λ n. refl }) is q.is
-
-  pub one_list : HaveOneTyping → HaveOneFinal → IsOneLeft → HasOneList → (a b : List (Option Link)) → AreNumberedReferences choice files a → AreNumberedReferences choice files b → a ≡ b
-  one_list one_typing one_final one_left one a b p q =
-      let same : p.basis ≡ q.basis = one_basis one_typing one_final one_left p.basis q.basis p.of_files q.of_files p.is_basis q.is_basis in
-      let are : AreLinks (leafrefs_of q.basis) a = subst (λ (x : NumberedBasis). AreLinks (leafrefs_of x) a) same p.are in
-      one (leafrefs_of q.basis) (leafrefs_of q.basis) a b (record { rows = refl; says = λ n. refl }) are q.are
-
-  pub one_notes : HaveOneTyping → HaveOneFinal → IsOneLeft → (a b : List Note) → AreNumberedNotes choice files a → AreNumberedNotes choice files b → a ≡ b
-  one_notes one_typing one_final one_left a b p q =
-      p.are ∙ ap notes_of (one_basis one_typing one_final one_left p.basis q.basis p.of_files q.of_files p.is_basis q.is_basis) ∙ sym q.are
-
   -- where all this refuses nothing, the least of the schema tree is the least of all
   pub least_last : HaveOneTyping → HaveOneFinal → IsOneLeft → IsTypedOnce → (truth : Truth) (o : Option Refusal) (top : Forest) → IsTruth files choice truth → (schema : IsNumberedSchema choice files top)
-      → IsLeast (BadTypes files truth) None → IsLeast (BadNumberedNodes schema.basis top) o → IsLeast (RefusesByNumber choice files limit) o
+      → IsLeast (BadTypes files truth) None → IsLeast (BadNodes (leafrefs_of schema.basis) top) o → IsLeast (RefusesByNumber choice files limit) o
   least_last one_typing one_final one_left once truth o top is schema p r =
       let least : IsLeast (BadNumberedSchema choice files) o =
-      least_same (BadNumberedNodes schema.basis top) (BadNumberedSchema choice files) o
+      least_same (BadNodes (leafrefs_of schema.basis) top) (BadNumberedSchema choice files) o
       (λ f h. record { tree = top; schema = schema; stands = h })
-      (λ f h. subst (λ (ts : Forest). BadNumberedNodes schema.basis ts f) (one_schema one_typing one_final one_left once h.tree top h.schema schema)
-      (subst (λ (x : NumberedBasis). BadNumberedNodes x h.tree f)
+      (λ f h. subst (λ (ts : Forest). BadNodes (leafrefs_of schema.basis) ts f) (one_schema choice files (one_basis one_typing one_final one_left) once h.tree top h.schema schema)
+      (subst (λ (x : NumberedBasis). BadNodes (leafrefs_of x) h.tree f)
       (one_basis one_typing one_final one_left h.schema.basis schema.basis h.schema.of_files schema.of_files h.schema.is_basis schema.is_basis) h.stands)) r in
       behind (Before choice files limit) (Later choice files limit) o before
       (behind (BadTyping choice files) (BadNumberedSchema choice files) o (typed truth None is p) least)

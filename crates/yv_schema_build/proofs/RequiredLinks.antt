@@ -1,5 +1,5 @@
 -- Leafrefs of files that conform, and their links.
-use Rattle.std.proofs.Common.{inl, inr, ◌≡◌, ◌≢◌, ℕ, ◌<◌, true, List, length, Option, Some, None, refl, sym, ap, ◌∙◌, subst}
+use Rattle.std.proofs.Common.{inl, inr, ◌≡◌, ◌≢◌, ℕ, ◌<◌, Bool, true, if◌then◌else◌, List, length, Option, Some, None, refl, sym, ap, ◌∙◌, subst}
 use Rattle.std.specs.List.{slice_get}
 use Rattle.std.specs.Option.{option_and_then}
 use Rattle.std.proofs.lemmas.Option.{same_Some, slice_get_within}
@@ -12,7 +12,7 @@ use Rattle.yv_text_grammar.specs.Fits.{Fits}
 use Rattle.yv_text_statement.specs.Selection.{ModuleChoice}
 use Rattle.yv_link_scopes.specs.Files.{Files}
 use Rattle.yv_expand.specs.Tree.{Node}
-use Rattle.yv_nodes.specs.Link.{Link, link_in, reference_in}
+use Rattle.yv_nodes.specs.Link.{Link, if_required, link_in, reference_in}
 use Rattle.yv_nodes.specs.Refusals.{refusal_of}
 use Rattle.yv_nodes.specs.Rows.{Row}
 use Rattle.yv_nodes.specs.Tree.{Forest}
@@ -26,9 +26,10 @@ use Rattle.yv_schema_build.specs.InnerRefuses.{RefusesByNumber}
 use Rattle.yv_schema_build.specs.Refusals.{in_file}
 use Rattle.yv_schema_build.specs.InnerSchema.{AreNumberedReferences, IsNumberedBasis, IsNumberedSchema}
 use Rattle.yv_node_leafrefs.specs.Links.{AreLinks}
-use Rattle.yv_node_leafrefs.proofs.LeafrefLinks.{has_link, has_reference}
+use Rattle.yv_node_leafrefs.proofs.LeafrefLinks.{has_reference}
 use Rattle.yv_schema_build.proofs.LeafrefPathStarts.{Conform, Headed, Origins, begins, no_value}
 use Rattle.yv_schema_build.proofs.Interior.{NothingBelow, basis_inner}
+use Rattle.yv_schema_build.proofs.PhaseLemmas.{HaveOneBasis}
 
 module _ (choice : ModuleChoice) (b : NumberedBasis) (is : IsNumberedBasis choice b) (fine : Conform b.files) (headed : Headed b.files) (origins : Origins) where
   at_node : (x : Option Node) (ref : Referral) → option_and_then (said_of b) x ≡ Some ref → ref.climbs ≢ Some 0
@@ -67,18 +68,24 @@ module _ (headed : (files : Files) → Headed files) (origins : Origins) (spared
   all_led links are n target refers =
       let fine : Conform files = conform_of spared choice files limit clear in
       let conform : Conform are.basis.files = λ k root at. fine k root (ap (λ (fs : Files). slice_get fs k) (sym are.of_files) ∙ at) in
-      has_reference (leafrefs_of are.basis) links n target are.are (basis_inner are.basis choice are.is_basis conform (headed are.basis.files) below) refers
+      has_reference (leafrefs_of are.basis) links n target are.is (basis_inner are.basis choice are.is_basis conform (headed are.basis.files) below) refers
       (leafref_begins choice are.basis are.is_basis conform (headed are.basis.files) origins n refers.ref refers.is_leafref.says)
 
+-- leafrefs have their links (yv_schema_build::laws::leafrefs_have_links)
+abbrev pub AllLed : Type 0
+AllLed =
+    (choice : ModuleChoice) (files : Files) (limit : ℕ) (links : List (Option Link)) → IsLeast (RefusesByNumber choice files limit) None
+    → (are : AreNumberedReferences choice files links) → (n target : ℕ) → (refers : RefersTo (leafrefs_of are.basis) n target)
+    → (link : Link) × (reference_in links n ≡ Some link) × (link.target ≡ target) × (link.is_required ≡ refers.ref.is_required)
+
+module _ (led : AllLed) (choice : ModuleChoice) (files : Files) (limit : ℕ) (clear : IsLeast (RefusesByNumber choice files limit) None) where
   pub all_linked : (links : List (Option Link)) (are : AreNumberedReferences choice files links) (n target : ℕ) (refers : RefersTo (leafrefs_of are.basis) n target)
       → refers.ref.is_required ≡ true → (link : Link) × (link_in links n ≡ Some link) × (link.target ≡ target)
   all_linked links are n target refers required =
-      let fine : Conform files = conform_of spared choice files limit clear in
-      let conform : Conform are.basis.files = λ k root at. fine k root (ap (λ (fs : Files). slice_get fs k) (sym are.of_files) ∙ at) in
-      has_link (leafrefs_of are.basis) links n target are.are (basis_inner are.basis choice are.is_basis conform (headed are.basis.files) below) refers required
-      (leafref_begins choice are.basis are.is_basis conform (headed are.basis.files) origins n refers.ref refers.is_leafref.says)
+      let (link, at, leads, says) = led choice files limit links clear are n target refers in
+      (link, ap if_required at ∙ ap (λ (b : Bool). if b then Some link else None) (says ∙ required), leads)
 
-  pub each_linked : ((p q : NumberedBasis) → p.files ≡ files → q.files ≡ files → IsNumberedBasis choice p → IsNumberedBasis choice q → p ≡ q) → (tree : Forest) (links : List (Option Link))
+  pub each_linked : HaveOneBasis choice files → (tree : Forest) (links : List (Option Link))
       (schema : IsNumberedSchema choice files tree) → AreNumberedReferences choice files links → (n : ℕ) (row : Row) (ref : Referral) → IsLeafref (leafrefs_of schema.basis) n row ref
       → (link : Link) × (reference_in links n ≡ Some link) × RefersTo (leafrefs_of schema.basis) n link.target × (link.is_required ≡ ref.is_required)
   each_linked one tree links schema are n row ref leafref =
@@ -88,10 +95,10 @@ module _ (headed : (files : Files) → Headed files) (origins : Origins) (spared
         basis = schema.basis;
         of_files = schema.of_files;
         is_basis = schema.is_basis;
-        are = subst (λ (x : NumberedBasis). AreLinks (leafrefs_of x) links) same are.are;
+        is = subst (λ (x : NumberedBasis). AreLinks (leafrefs_of x) links) same are.is;
       } in
       let (target, refers) = refers_of s (stated_of schema.basis) tree schema.is
       (λ f bad. clear f (inr (inr (record { tree = tree; schema = schema; stands = inr (inr bad) })))) n row ref leafref in
       let says : refers.ref ≡ ref = same_Some refers.ref ref (sym refers.is_leafref.says ∙ leafref.says) in
-      let (link, at, leads, required) = all_led links its n target refers in
+      let (link, at, leads, required) = led choice files limit links clear its n target refers in
       (link, at, subst (RefersTo s n) (sym leads) refers, required ∙ ap (λ (r : Referral). r.is_required) says)

@@ -18,7 +18,7 @@ use Rattle.yv_nodes.specs.Tree.{Forest}
 use Rattle.yv_node_leafrefs.specs.Resolution.{IsTyped}
 use Rattle.yv_schema_tables.specs.NodeNumbers.{HasNoColon}
 use Rattle.yv_schema_build.specs.InnerBasis.{NumberedBasis, leafrefs_of, stated_of}
-use Rattle.yv_schema_build.specs.InnerRefuses.{BadNumberedNodes}
+use Rattle.yv_schema_build.specs.Refusals.{BadNodes}
 
 -- the modules of files: nothing is wrong with a file as such, the names of modules have no colon
 -- and differ, and the files of those that are implemented have these
@@ -35,7 +35,7 @@ pub record AreNames (choice : ModuleChoice) (files : Files) : Type 0 where
 pub record HasLeast (b : NumberedBasis) (o : Option Refusal) : Type 0 where
   pub tree : Forest
   pub is : IsTyped (leafrefs_of b) (stated_of b) tree
-  pub least : IsLeast (BadNumberedNodes b tree) o
+  pub least : IsLeast (BadNodes (leafrefs_of b) tree) o
 
 -- the first refusal of what is built of nodes, or of what is wrong with them
 pub data IsFirst (numbered : Result Rows Stop) (wrong : Option Refusal) (r : Refusal) : Type 0 where

@@ -7,24 +7,16 @@ use Rattle.yv_link_scopes.specs.Files.{Files}
 use Rattle.yv_link.specs.Links.{BadLinks}
 use Rattle.yv_link_definitions.specs.Refusals.{BadNames}
 use Rattle.yv_expand_tree.specs.Refusals.{BadExpansion}
-use Rattle.yv_schema_tables.specs.Bad.{BadRows}
-use Rattle.yv_node_checks.specs.Bad.{BadTree}
 use Rattle.yv_nodes.specs.Tree.{Forest}
-use Rattle.yv_node_leafrefs.specs.Bad.{BadLeafrefs}
-use Rattle.yv_schema_build.specs.Refusals.{BadFile, BadTyping}
-use Rattle.yv_schema_build.specs.InnerBasis.{NumberedBasis, leafrefs_of}
+use Rattle.yv_schema_build.specs.Refusals.{BadFile, BadNodes, BadTyping}
+use Rattle.yv_schema_build.specs.InnerBasis.{leafrefs_of}
 use Rattle.yv_schema_build.specs.InnerSchema.{IsNumberedSchema}
-
--- f is in the schema tree of a basis: a duplicate name, a list whose key or `unique` statements
--- name what they may not, a leafref that leads nowhere or to itself, or what is wrong else
-abbrev pub BadNumberedNodes : NumberedBasis → Forest → Refusal → Type 0
-BadNumberedNodes b top f = BadRows top f ⊎ (BadTree top f ⊎ BadLeafrefs (leafrefs_of b) f)
 
 -- f is in the schema tree of the files
 pub record BadNumberedSchema (choice : ModuleChoice) (files : Files) (f : Refusal) : Type 0 where
   pub tree : Forest
   pub schema : IsNumberedSchema choice files tree
-  pub stands : BadNumberedNodes schema.basis tree f
+  pub stands : BadNodes (leafrefs_of schema.basis) tree f
 
 -- what is refused before types are read: every file is looked at as such, by its links to others,
 -- its features and its identities, and by the names of its definitions; and then what the

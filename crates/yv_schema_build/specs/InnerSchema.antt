@@ -12,6 +12,7 @@ use Rattle.yv_node_leafrefs.specs.Resolution.{IsTyped}
 use Rattle.yv_node_leafrefs.specs.Links.{AreLinks}
 use Rattle.yv_schema_build.specs.InnerBasis.{NumberedBasis, leafrefs_of, stated_of}
 use Rattle.yv_schema_build.specs.InnerNotes.{notes_of}
+use Rattle.yv_schema_build.specs.OfBasis.{HoldsOfBasis}
 use Rattle.yv_expand_changes.specs.Truth.{IsTruth}
 
 -- a basis is that of files under a choice: their conditions hold so, their `type` statements stand
@@ -24,24 +25,19 @@ pub record IsNumberedBasis (choice : ModuleChoice) (b : NumberedBasis) : Type 0 
 
 -- this is the schema tree of the files: the one that their statements say, with its leafrefs
 -- resolved (section 9.9)
-pub record IsNumberedSchema (choice : ModuleChoice) (files : Files) (tree : Forest) : Type 0 where
-  pub basis : NumberedBasis
-  pub of_files : basis.files ≡ files
-  pub is_basis : IsNumberedBasis choice basis
-  pub is : IsTyped (leafrefs_of basis) (stated_of basis) tree
+abbrev pub IsNumberedSchema : ModuleChoice → Files → Forest → Type 0
+IsNumberedSchema choice files tree =
+    HoldsOfBasis (λ (b : NumberedBasis). b.files) IsNumberedBasis choice files
+    (λ b. IsTyped (leafrefs_of b) (stated_of b) tree)
 
 -- these are the augments of the files' modules that add nodes to the schema tree
-pub record AreNumberedNotes (choice : ModuleChoice) (files : Files) (notes : List Note) : Type 0 where
-  pub basis : NumberedBasis
-  pub of_files : basis.files ≡ files
-  pub is_basis : IsNumberedBasis choice basis
-  pub are : notes ≡ notes_of basis
+abbrev pub AreNumberedNotes : ModuleChoice → Files → List Note → Type 0
+AreNumberedNotes choice files notes =
+    HoldsOfBasis (λ (b : NumberedBasis). b.files) IsNumberedBasis choice files
+    (λ b. notes ≡ notes_of b)
 
--- this is where the paths of the leafrefs lead that require an instance, each at the number of its
--- node (sections 9.9.2 and 9.9.3)
-pub record AreNumberedReferences (choice : ModuleChoice) (files : Files)
-    (links : List (Option Link)) : Type 0 where
-  pub basis : NumberedBasis
-  pub of_files : basis.files ≡ files
-  pub is_basis : IsNumberedBasis choice basis
-  pub are : AreLinks (leafrefs_of basis) links
+-- these are the links of the leafrefs that require an instance (sections 9.9.2 and 9.9.3)
+abbrev pub AreNumberedReferences : ModuleChoice → Files → List (Option Link) → Type 0
+AreNumberedReferences choice files links =
+    HoldsOfBasis (λ (b : NumberedBasis). b.files) IsNumberedBasis choice files
+    (λ b. AreLinks (leafrefs_of b) links)

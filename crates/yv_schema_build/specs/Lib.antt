@@ -12,6 +12,7 @@ pub mod InnerRows
 pub mod InnerModuleNames
 pub mod InnerPhases
 pub mod InnerBasis
+pub mod OfBasis
 pub mod InnerSchema
 pub mod Units
 pub mod InnerNotes

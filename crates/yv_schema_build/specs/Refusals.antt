@@ -1,4 +1,5 @@
--- What is refused of single files, and of the types of all (RFC 7950, sections 7 and 9).
+-- What is refused of single files, of the types of all, and of the nodes of a schema tree (RFC
+-- 7950, sections 7 and 9).
 use Rattle.std.specs.Prelude.{◌≡◌, ◌⊎◌, ℕ, length}
 use Rattle.yv_text_statement.specs.Tree.{Tree}
 use Rattle.yv_text_statement.specs.declared.refusal.Refusal.{Refusal}
@@ -10,6 +11,11 @@ use Rattle.yv_link.specs.Links.{BadLinks}
 use Rattle.yv_link_definitions.specs.Refusals.{BadNames}
 use Rattle.yv_types.specs.Refusals.{BadTypes}
 use Rattle.yv_expand_changes.specs.Truth.{Truth, IsTruth}
+use Rattle.yv_nodes.specs.Tree.{Forest}
+use Rattle.yv_node_checks.specs.Bad.{BadTree}
+use Rattle.yv_node_leafrefs.specs.Bad.{BadLeafrefs}
+use Rattle.yv_node_leafrefs.specs.Schema.{Schema}
+use Rattle.yv_schema_tables.specs.Bad.{BadRows}
 
 -- a refusal that names the file as 0, told of the file of this number
 abbrev pub in_file : ℕ → Refusal → Refusal
@@ -26,6 +32,12 @@ pub record BadTyping (choice : ModuleChoice) (files : Files) (f : Refusal) : Typ
   pub truth : Truth
   pub is_truth : IsTruth files choice truth
   pub bad : BadTypes files truth f
+
+-- f is in a schema tree whose nodes say this as leafrefs: a duplicate name, a list whose key or
+-- `unique` statements name what they may not, a leafref that leads nowhere or to itself, or what is
+-- wrong else
+abbrev pub BadNodes : Schema → Forest → Refusal → Type 0
+BadNodes said top f = BadRows top f ⊎ (BadTree top f ⊎ BadLeafrefs said f)
 
 -- what is refused before files are expanded: of every file as such, of its links to others, its
 -- features and its identities, and of the names of its definitions

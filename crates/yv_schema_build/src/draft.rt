@@ -44,30 +44,8 @@ impl<'a> Draft<'a> {
         self.known.get(&statement).copied()
     }
 
-    // Asks a statement.
-    fn ask(
-        &mut self,
-        alloc: Global,
-        rows: &Rows<'a, '_>,
-        definitions: &Definitions<'_, 'a, '_>,
-        statement: usize,
-    ) -> Result<Option<usize>, AllocError>
-        requires same { files_in definitions.now ≡ lent_in rows.now }
-        requires draft { IsDraft (typing_in definitions.now) (lent_in rows.now) self.old }
-        ensures draft { OnOk result
-            (IsDraft (typing_in definitions.now) (lent_in rows.now) self.new) }
-        ensures keeps { OnOk result (KeepsNumbers (leafrefs_in self.old) (leafrefs_in self.new)) }
-        ensures number { IfOk result (λ number. IsNumbered (leafrefs_in self.new) number
-            (referral_at (typing_in definitions.now) (lent_in rows.now)
-            (Origin.Statement statement))) }
-    {
-        let referring = definitions.leafref_of(Origin::Statement(statement));
-        let number = self.numbered.of(alloc, rows, referring)?;
-        self.known.insert(statement, number)?;
-        Ok(number)
-    }
-
-    /// The number of what a node of this origin says. None where it is not a leafref.
+    /// The number of what a node of this origin says: its statement is asked, if it wasn't before.
+    /// None where it is not a leafref.
     pub(crate) fn of(
         &mut self,
         alloc: Global,
@@ -86,10 +64,13 @@ impl<'a> Draft<'a> {
         let Origin::Statement(statement) = origin else {
             return Ok(None);
         };
-        match self.find(statement) {
-            Some(number) => Ok(number),
-            None => self.ask(alloc, rows, definitions, statement),
+        if let Some(number) = self.find(statement) {
+            return Ok(number);
         }
+        let referring = definitions.leafref_of(origin);
+        let number = self.numbered.of(alloc, rows, referring)?;
+        self.known.insert(statement, number)?;
+        Ok(number)
     }
 
     /// What is said, by number.

@@ -2,9 +2,22 @@
 ghost use Rattle.std.specs.Prelude.{◌≡◌, ◌≤◌, ◌⊎◌, ℕ, List, Option, None, Some, true};
 ghost use Rattle.yv_text_statement.specs.{Codes.{phase_of}, Order.{IsLeast}, declared.refusal.Refusal.{Refusal}, Selection.{ModuleChoice}};
 ghost use Rattle.yv_link_scopes.specs.Files.{Files};
-ghost use Rattle.yv_schema_build.specs.{InnerRefuses.{RefusesByNumber, RefusesBeforeTypesByNumber}, InnerSchema.{AreNumberedNotes, AreNumberedReferences, IsNumberedSchema}, Units.{TakeUnits}, InnerBasis.{leafrefs_of}};
+ghost use Rattle.yv_schema_build.specs.{InnerRefuses.{RefusesByNumber, RefusesBeforeTypesByNumber}, InnerSchema.{AreNumberedNotes, AreNumberedReferences, IsNumberedBasis, IsNumberedSchema}, Units.{TakeUnits}, InnerBasis.{NumberedBasis, leafrefs_of}};
 ghost use Rattle.yv_node_leafrefs.specs.{Schema.{Referral}, Targets.{IsLeafref, RefersTo}};
 ghost use Rattle.yv_nodes.specs.{Link.{Link, link_in, reference_in}, Rows.{Note, Row}, Tree.{Forest, count}};
+
+// Where nothing is refused before types, files have one basis under a choice.
+fn files_have_one_basis()
+    ensures { (choice : ModuleChoice) (files : Files) (limit : ℕ) (a b : NumberedBasis)
+        → IsLeast (RefusesBeforeTypesByNumber choice files limit) None
+        → a.files ≡ files → b.files ≡ files
+        → IsNumberedBasis choice a → IsNumberedBasis choice b → a ≡ b }
+{
+    yv_link_features::laws::an_expression_has_one_truth();
+    yv_node_statements::laws::files_have_one_typing();
+    yv_expand_tree::laws::files_have_one_final_tree();
+    yv_expand_tree::laws::what_is_left_is_one();
+}
 
 /// Where nothing is refused, files have one schema tree under a choice, their augments add to it in
 /// one way, and its leafrefs lead one way.
@@ -23,10 +36,7 @@ pub fn files_have_one_schema()
         → IsLeast (RefusesByNumber choice files limit) None
         → AreNumberedReferences choice files a → AreNumberedReferences choice files b → a ≡ b }
 {
-    yv_link_features::laws::an_expression_has_one_truth();
-    yv_node_statements::laws::files_have_one_typing();
-    yv_expand_tree::laws::files_have_one_final_tree();
-    yv_expand_tree::laws::what_is_left_is_one();
+    files_have_one_basis();
     yv_node_leafrefs::laws::a_tree_is_typed_once();
     yv_node_leafrefs::link_laws::a_schema_has_one_list_of_links();
 }
@@ -73,10 +83,7 @@ pub fn required_leafrefs_have_links()
         → refers.ref.is_required ≡ true → (link : Link) × (link_in links n ≡ Some link)
         × (link.target ≡ target) }
 {
-    yv_expand::conformance_laws::what_is_not_refused_fits();
-    yv_link_scopes::laws::statements_have_their_rows();
-    yv_expand_tree::laws::nothing_stands_below_a_leaf();
-    yv_types::leafref_laws::an_origin_is_a_leafref();
+    leafrefs_have_links();
 }
 
 /// Where nothing is refused, each leafref outside operations and notifications refers to a node,
@@ -91,12 +98,6 @@ pub fn each_leafref_has_its_link()
         × RefersTo (leafrefs_of schema.basis) n link.target
         × (link.is_required ≡ ref.is_required) }
 {
-    yv_expand::conformance_laws::what_is_not_refused_fits();
-    yv_link_scopes::laws::statements_have_their_rows();
-    yv_link_features::laws::an_expression_has_one_truth();
-    yv_node_statements::laws::files_have_one_typing();
-    yv_expand_tree::laws::files_have_one_final_tree();
-    yv_expand_tree::laws::nothing_stands_below_a_leaf();
-    yv_expand_tree::laws::what_is_left_is_one();
-    yv_types::leafref_laws::an_origin_is_a_leafref();
+    leafrefs_have_links();
+    files_have_one_basis();
 }

@@ -43,28 +43,8 @@ impl<'a> NumberTable<'a> {
             .copied()
     }
 
-    // Reads what such types say.
-    fn read(
-        &mut self,
-        alloc: Global,
-        rows: &Rows<'a, '_>,
-        referring: TypeLeafref,
-    ) -> Result<Option<usize>, AllocError>
-        requires { AreNumbered (lent_in rows.now) self.old }
-        ensures numbers { OnOk result (AreNumbered (lent_in rows.now) self.new) }
-        ensures keeps { OnOk result (KeepsNumbers (said_in self.old) (said_in self.new)) }
-        ensures number { IfOk result
-            (λ number. IsNumbered (said_in self.new) number
-            (referral_of (lent_in rows.now) (Some referring))) }
-    {
-        let said = read_leafref(alloc, rows, &self.paths, referring)?;
-        let number = put(&mut self.leafrefs, said)?;
-        self.known
-            .insert((referring.origin, referring.is_required), number)?;
-        Ok(number)
-    }
-
-    /// The number of what a type says. None where it says nothing.
+    /// The number of what a type says, which is read if no such type was met. None where it says
+    /// nothing.
     pub(crate) fn of(
         &mut self,
         alloc: Global,
@@ -81,9 +61,13 @@ impl<'a> NumberTable<'a> {
         let Some(referring) = referring else {
             return Ok(None);
         };
-        match self.find(referring) {
-            Some(number) => Ok(number),
-            None => self.read(alloc, rows, referring),
+        if let Some(number) = self.find(referring) {
+            return Ok(number);
         }
+        let said = read_leafref(alloc, rows, &self.paths, referring)?;
+        let number = put(&mut self.leafrefs, said)?;
+        self.known
+            .insert((referring.origin, referring.is_required), number)?;
+        Ok(number)
     }
 }

@@ -202,10 +202,10 @@ module _ (rows : List Row) (around : Option ℕ) where
   called_namesake (d ∷ ds) (suc n) l h = elim (some_cases (has (front_of around l) l.defined.name d) d (member_called rows around (take n ds) (front_of around l) l.defined.name) h) [
     | inl here ↦
         let same = called_as (label_at d) l here in
-        record { place = 0; first = label_at d; before = omega arith; at = refl; same_module_file = same.0; same_name = same.1 }
+        record { place = 0; first = label_at d; before = omega arith; at = refl; same_module = same.0; same_name = same.1 }
     | inr later ↦
         let r : IsNamesake (labels_at rows ds) n l = called_namesake ds n l later in
-        record { place = suc r.place; first = r.first; before = omega (arith, r.before); at = r.at; same_module_file = r.same_module_file; same_name = r.same_name }
+        record { place = suc r.place; first = r.first; before = omega (arith, r.before); at = r.at; same_module = r.same_module; same_name = r.same_name }
   ]
 
   namesake_at : (cs : List NodeId) (n place : ℕ) (first l : Label) → place < n → slice_get (labels_at rows cs) place ≡ Some first → first.module_file ≡ l.module_file → first.defined.name ≡ l.defined.name → is_met cs n l ≡ true
@@ -237,7 +237,7 @@ module _ (rows : List Row) (around : Option ℕ) where
       let own_name : is_some (by_name old front l.defined.name) ≡ is_some (old (record { module_file = front; name = number })) = ap (λ (o : Option ℕ). is_some (at_number old front o)) known in
       let found : repeated ≡ is_met cs n l =
       seen ∙ sym own_name ∙ ap is_some (h.met front l.defined.name) ∙ ap (λ (o : Option ℕ). is_some (member_called rows around (take n cs) o l.defined.name)) fronted in
-      let from : P → repeated ≡ true = λ p. found ∙ namesake_at cs n p.place p.first l p.before p.at p.same_module_file p.same_name in
+      let from : P → repeated ≡ true = λ p. found ∙ namesake_at cs n p.place p.first l p.before p.at p.same_module p.same_name in
       let own : IsLeast (Stands P (duplicate_at l)) here = rw made (least_refused P repeated (duplicate_at l) (λ e. called_namesake cs n l (sym found ∙ e)) from) in
       record {
         met = λ other text. number_kept (names_of rows) old new front l.defined.name number c known kept other text

@@ -105,10 +105,10 @@ abbrev pub SameBoth : Label → Label → Type 0
 SameBoth a b = (a.module_name ≡ b.module_name) × (a.defined.name ≡ b.defined.name)
 
 pub namesakes_pair : (ls : List Label) (f : Refusal) → Namesakes ls f → Pair SameModuleFile ls f
-namesakes_pair ls f h = record { i = h.4.0.place; k = h.0; a = h.4.0.first; b = h.2; before = h.4.0.before; at_i = h.4.0.at; at_k = h.3; alike = (h.4.0.same_module_file, h.4.0.same_name); is = h.4.1 }
+namesakes_pair ls f h = record { i = h.4.0.place; k = h.0; a = h.4.0.first; b = h.2; before = h.4.0.before; at_i = h.4.0.at; at_k = h.3; alike = (h.4.0.same_module, h.4.0.same_name); is = h.4.1 }
 
 pub pair_namesakes : (ls : List Label) (f : Refusal) → Pair SameModuleFile ls f → Namesakes ls f
-pair_namesakes ls f p = (p.k, slice_get_within ls p.k p.b p.at_k, p.b, p.at_k, (record { place = p.i; first = p.a; before = p.before; at = p.at_i; same_module_file = p.alike.0; same_name = p.alike.1 }, p.is))
+pair_namesakes ls f p = (p.k, slice_get_within ls p.k p.b p.at_k, p.b, p.at_k, (record { place = p.i; first = p.a; before = p.before; at = p.at_i; same_module = p.alike.0; same_name = p.alike.1 }, p.is))
 
 pub repeated_pair : (ls : List Label) (f : Refusal) → HasRepeat ls f → Pair SameBoth ls f
 repeated_pair ls f h =

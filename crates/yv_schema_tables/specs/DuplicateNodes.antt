@@ -27,18 +27,24 @@ family kind kids =
 abbrev pub duplicate_at : Label → Refusal
 duplicate_at l = refusal_of code.DuplicateNode l
 
--- a node before number k has the module and the name of this one
-pub record IsRepeated (ls : List Label) (k : ℕ) (l : Label) : Type 0 where
+-- a node before number k has the name of this one, and is of the same module by `module_of`
+pub record IsRepeated {A : Type 0} (module_of : Label → A) (ls : List Label) (k : ℕ)
+    (l : Label) : Type 0 where
   pub place : ℕ
   pub first : Label
   pub before : place < k
   pub at : slice_get ls place ≡ Some first
-  pub same_module : first.module_name ≡ l.module_name
+  pub same_module : module_of first ≡ module_of l
   pub same_name : first.defined.name ≡ l.defined.name
 
--- two of these nodes have one module and one name: the later is refused
+-- two of these nodes have one name, and are of one module by `module_of`: the later is refused
+abbrev pub RepeatsBy : {A : Type 0} → (module_of : Label → A) → List Label → Refusal → Type 0
+RepeatsBy module_of ls f =
+    Among ls (λ k l. Stands (IsRepeated module_of ls k l) (duplicate_at l)) (length ls) f
+
+-- two of these nodes have one module, by its name, and one name
 abbrev pub HasRepeat : List Label → Refusal → Type 0
-HasRepeat ls f = Among ls (λ k l. Stands (IsRepeated ls k l) (duplicate_at l)) (length ls) f
+HasRepeat ls f = RepeatsBy (λ (l : Label). l.module_name) ls f
 
 -- two nodes have one module and one name where they have to differ (RFC 7950, section 6.2.1): at
 -- the top, or below a node

@@ -1,12 +1,11 @@
 -- Only private clauses cite this: the directories by which a child is found.
-use Rattle.std.specs.Prelude.{◌≡◌, ◌<◌, ◌≤◌, ℕ, ◌==◌, ◌&&◌, Bool, true, false, List, [], ◌∷◌, ◌++◌, map, length, Option, Some, None, if◌then◌else◌}
+use Rattle.std.specs.Prelude.{◌≡◌, ◌≤◌, ℕ, ◌==◌, ◌&&◌, Bool, true, false, List, [], ◌∷◌, ◌++◌, map, length, Option, Some, None, if◌then◌else◌}
 use Rattle.std.specs.List.{slice_get, slice_index_or}
 use Rattle.std.specs.Str.{bytes_eq}
 use Rattle.std.specs.BTreeMap.{BTreeMap}
 use Rattle.std.specs.declared.rc.RcStr.{RcStr}
 use Rattle.std.specs.declared.alloc.Global.{Global}
 use Rattle.indexmap.specs.IndexMap.{get}
-use Rattle.yv_text_statement.specs.Order.{Among, Stands}
 use Rattle.yv_text_statement.specs.declared.refusal.Refusal.{Refusal}
 use Rattle.yv_nodes.specs.declared.node.NodeId.{NodeId}
 use Rattle.yv_nodes.specs.Member.{is_module_file}
@@ -19,7 +18,7 @@ use Rattle.yv_schema_tables.specs.declared.directory.Directory.TheVariants.{Few,
 use Rattle.yv_schema_tables.specs.declared.directory.HeldNode.{HeldNode}
 use Rattle.yv_schema_tables.specs.declared.member.Member.{Member}
 use Rattle.yv_schema_tables.specs.declared.names.NameTable.{NameTable}
-use Rattle.yv_schema_tables.specs.DuplicateNodes.{duplicate_at}
+use Rattle.yv_schema_tables.specs.DuplicateNodes.{IsRepeated, RepeatsBy}
 use Rattle.yv_schema_tables.specs.InnerNames.{HaveNumbers, get_by_name, names_of, number_in}
 use Rattle.yv_schema_tables.specs.InnerSits.{members_of}
 use Rattle.yv_schema_tables.specs.NodeNumbers.{HasNoColon}
@@ -103,17 +102,12 @@ abbrev pub labels_at : List Row → List NodeId → List Label
 labels_at rows cs = map (λ (c : NodeId). (slice_index_or rows c.0 blank_row).label) cs
 
 -- a node before number k has this one's module, by its file, and name
-pub record IsNamesake (ls : List Label) (k : ℕ) (l : Label) : Type 0 where
-  pub place : ℕ
-  pub first : Label
-  pub before : place < k
-  pub at : slice_get ls place ≡ Some first
-  pub same_module_file : first.module_file ≡ l.module_file
-  pub same_name : first.defined.name ≡ l.defined.name
+abbrev pub IsNamesake : List Label → ℕ → Label → Type 0
+IsNamesake ls k l = IsRepeated (λ (x : Label). x.module_file) ls k l
 
--- two of these nodes have one module and one name: the later is refused
+-- two of these nodes have one module, by its file, and one name: the later is refused
 abbrev pub Namesakes : List Label → Refusal → Type 0
-Namesakes ls f = Among ls (λ k l. Stands (IsNamesake ls k l) (duplicate_at l)) (length ls) f
+Namesakes ls f = RepeatsBy (λ (l : Label). l.module_file) ls f
 
 -- the number of the file of the first of these modules that has this name
 abbrev pub module_file_named : List Module → List ℕ → Option ℕ

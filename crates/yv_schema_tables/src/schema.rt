@@ -40,27 +40,15 @@ pub struct Schema {
 
 impl Model for Schema {
     ghost use Rattle.yv_nodes.specs.Rows.{Rows};
-    ghost use Rattle.yv_schema_tables.specs.InnerTables.{IsHeld};
+    ghost use Rattle.yv_schema_tables.specs.{InnerTables.{IsHeld}, NodeNumbers.{made_of}};
 
     ghost Value = { Rows };
 
-    ghost view = { λ s. record {
-      nodes = s.nodes.rows;
-      top = s.top.items;
-      limit = s.nodes.limit;
-      modules = s.implemented.items;
-      augments = s.notes.items;
-      links = s.links;
-    } };
+    ghost view = { λ s. made_of s.nodes.rows s.top.items s.nodes.limit s.implemented.items
+        s.notes.items s.links };
 
-    ghost invariant = { λ s. IsHeld s.module_files s.names s.at_top s.directories.items s.leafs (record {
-      nodes = s.nodes.rows;
-      top = s.top.items;
-      limit = s.nodes.limit;
-      modules = s.implemented.items;
-      augments = s.notes.items;
-      links = s.links;
-    }) };
+    ghost invariant = { λ s. IsHeld s.module_files s.names s.at_top s.directories.items s.leafs
+        (made_of s.nodes.rows s.top.items s.nodes.limit s.implemented.items s.notes.items s.links) };
 }
 
 impl Schema {

@@ -5,7 +5,7 @@ ghost use Rattle.yv_node_content.specs.Kinds.{is_data};
 ghost use Rattle.yv_values.specs.Count.{count_up};
 ghost use Rattle.yv_nodes.specs.{declared.node.NodeId.{NodeId}, Rows.{Rows, below, children_of, rank, row_at, tree_of}};
 ghost use Rattle.yv_schema_tables.specs.Sound.{object_trees};
-ghost use Rattle.yv_walk.specs.{InnerNextExisting.{Ascend, IsUnkept, is_before}, Marks.{with_node, mark_at}, Existence.{ChildrenStand, child_exists, count_standing, holds, is_there as exists, passes, row_standing, stands_in, tree_standing}};
+ghost use Rattle.yv_walk.specs.{InnerNextExisting.{Ascend, IsCount, IsUnkept, is_before}, Marks.{with_node, mark_at}, Existence.{ChildrenStand, child_exists, count_standing, holds, is_there as exists, passes, row_standing, stands_in, tree_standing}};
 
 use crate::existence::Existence;
 use crate::exists::is_there;
@@ -160,10 +160,7 @@ impl<'v> Context<'v> {
     // Asks each child: where there are few, this takes the least time.
     fn count_each(&self, schema: &Schema, id: NodeId) -> usize
         requires { id.0 < length schema.now.nodes }
-        ensures { IsContext schema.now self.now → stands_in schema.now (parent_of self.now) id
-            ≡ true
-            → passes schema.now id ≡ true → result
-            ≡ count_standing (rank id) (below schema.now id) (members_of self.now) }
+        ensures { IsCount schema.now self.now id result }
     {
         let mut total = 0;
         for child in schema.children(id) {
@@ -177,10 +174,7 @@ impl<'v> Context<'v> {
     // Goes from one that exists to the next.
     fn count_existing(&self, schema: &Schema, id: NodeId) -> usize
         requires { id.0 < length schema.now.nodes }
-        ensures { IsContext schema.now self.now → stands_in schema.now (parent_of self.now) id
-            ≡ true
-            → passes schema.now id ≡ true → result
-            ≡ count_standing (rank id) (below schema.now id) (members_of self.now) }
+        ensures { IsCount schema.now self.now id result }
     {
         let _children = schema.children(id);
         let mut total = 0;

@@ -13,10 +13,10 @@ use Rattle.yv_node_checks.proofs.above.wrong_below.Goals as goal
 pub returns : goal.returns
 returns c = λ p l a n.
     let o : c.below-own.result ≡ ancestry_of (line p) = c.below-own.ensures p.above a ∙ ap (λ (m : Label). ancestry_of (m ∷ p.above)) l in
-    let config = least_here code.BadConfig _ p.label _ (is_misconfigured p) _ c.refusal_if-config.ensures l (c.is_misconfigured.ensures p l a o) in
-    let operation = least_here code.BadOperation _ p.label _ (is_misplaced p) _ c.refusal_if-operation.ensures l (c.is_misplaced.ensures p l a) in
+    let config = least_here code.BadConfig _ p.label _ (is_misconfigured p) _ c.refusal_if-config.ensures l (c.is_misconfigured.ensures p l n o) in
+    let operation = least_here code.BadOperation _ p.label _ (is_misplaced p) _ c.refusal_if-operation.ensures l (c.is_misplaced.ensures p l a n) in
     let keyless = least_here code.BadKey _ p.label _ (lacks_key p) _ c.refusal_if-keyless.ensures l (c.lacks_key.ensures p l) in
-    let misfit = rw (c.is_misfit.ensures p l a o) at (c.at_nearest-misfit.ensures p.above n) in
+    let misfit = rw (c.is_misfit.ensures p l n o) at (c.at_nearest-misfit.ensures p.above n) in
     let P : Refusal → Type 0 = λ f. Stands (is_misconfigured p ≡ true) (refusal_of code.BadConfig p.label) f in
     let Q : Refusal → Type 0 = λ f. Stands (is_misplaced p ≡ true) (refusal_of code.BadOperation p.label) f in
     let R : Refusal → Type 0 = λ f. Stands (lacks_key p ≡ true) (refusal_of code.BadKey p.label) f in

@@ -7,6 +7,12 @@ use Rattle.yv_node_leafrefs.specs.InnerOutline.{rows_in, schema_in}
 use Rattle.yv_node_leafrefs.proofs.Faulty.{least_all}
 use Rattle.yv_node_leafrefs.proofs.refusals.first_refusal.Goals as goal
 
+pub node_refusal-fault-requires-clause-target : goal.node_refusal-fault-requires-clause-target
+node_refusal-fault-requires-clause-target c x = c.requires.targets c.loop-number.number x
+
+pub node_refusal-fault-requires-clause-cycle : goal.node_refusal-fault-requires-clause-cycle
+node_refusal-fault-requires-clause-cycle c = c.requires.marks c.loop-number.number
+
 pub loop-number-preserved : goal.loop-number-preserved
 loop-number-preserved c =
     let o = c.args.outline.now in

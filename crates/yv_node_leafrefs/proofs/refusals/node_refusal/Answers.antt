@@ -9,9 +9,6 @@ use Rattle.yv_node_leafrefs.specs.InnerOutline.{rows_in, schema_in}
 use Rattle.yv_node_leafrefs.proofs.Faulty.{decided}
 use Rattle.yv_node_leafrefs.proofs.refusals.node_refusal.Goals as goal
 
-pub is_lost-is_lost-requires-clause-target : goal.is_lost-is_lost-requires-clause-target
-is_lost-is_lost-requires-clause-target c x = c.requires.targets c.args.number x
-
 pub returns : goal.returns
 returns c row at =
     let o = c.args.outline.now in
@@ -22,4 +19,4 @@ returns c row at =
     let read = sym c.index-outline-number.is ∙ same in
     least_lesser _ _ _ _ _ c.lesser.ensures
     (decided (IsLost s n row) c.is_lost-is_lost.result (refusal_of code.BadPath row.label) c.refusal_if-lost.result (c.is_lost-is_lost.ensures row at) (rw read at c.refusal_if-lost.ensures))
-    (decided (LeadsTo s n n) _ (refusal_of code.PathCycle row.label) c.refusal_if-cycle.result (c.requires.marks n) (rw read at c.refusal_if-cycle.ensures))
+    (decided (LeadsTo s n n) _ (refusal_of code.PathCycle row.label) c.refusal_if-cycle.result c.requires.cycle (rw read at c.refusal_if-cycle.ensures))

@@ -4,15 +4,13 @@ use Rattle.yv_schema_build.proofs.laws.files_have_one_schema.Goals as goal
 
 pub returns-clause-tree : goal.returns-clause-tree
 returns-clause-tree c = λ choice files limit a b clear p q.
-    one_schema choice files limit c.an_expression_has_one_truth.ensures (λ f h. clear f (inl h)) c.files_have_one_typing.ensures c.files_have_one_final_tree.ensures
-    c.what_is_left_is_one.ensures c.a_tree_is_typed_once.ensures a b p q
+    one_schema choice files (λ x y. c.files_have_one_basis.ensures choice files limit x y (λ f h. clear f (inl h))) c.a_tree_is_typed_once.ensures a b p q
 
 pub returns-clause-augments : goal.returns-clause-augments
 returns-clause-augments c = λ choice files limit a b clear p q.
-    one_notes choice files limit c.an_expression_has_one_truth.ensures (λ f h. clear f (inl h)) c.files_have_one_typing.ensures c.files_have_one_final_tree.ensures
-    c.what_is_left_is_one.ensures a b p q
+    one_notes choice files (λ x y. c.files_have_one_basis.ensures choice files limit x y (λ f h. clear f (inl h))) a b p q
 
 pub returns-clause-references : goal.returns-clause-references
 returns-clause-references c = λ choice files limit a b clear p q.
-    one_list choice files limit c.an_expression_has_one_truth.ensures (λ f h. clear f (inl h)) c.files_have_one_typing.ensures c.files_have_one_final_tree.ensures
-    c.what_is_left_is_one.ensures c.a_schema_has_one_list_of_links.ensures a b p q
+    one_list choice files (λ x y. c.files_have_one_basis.ensures choice files limit x y (λ f h. clear f (inl h)))
+    c.a_schema_has_one_list_of_links.ensures a b p q

@@ -92,7 +92,7 @@ returns-clause-augments c = λ files given.
     let is_of : IsBasisOf choice (lent_in c.rows.result.now) c.in-Ok.types c.args.tree b = record { of_files = sym read; typing = refl; kept = k; final = refl; nodes = refl } in
     let parts : AreParts b c.in_ok-parts.parts = c.in_ok-parts.ensures.parts b is_of in
     let found = c.build.ensures.augments b parts in
-    IfOk-weaker c.build.result _ _ (λ s e. let x : AreNumberedNotes choice files s.augments = record { basis = b; of_files = refl; is_basis = is_basis; are = e } in x) found
+    IfOk-weaker c.build.result _ _ (λ s e. let x : AreNumberedNotes choice files s.augments = record { basis = b; of_files = refl; is_basis = is_basis; is = e } in x) found
 
 pub returns-clause-references : goal.returns-clause-references
 returns-clause-references c = λ files given.
@@ -110,7 +110,7 @@ returns-clause-references c = λ files given.
     let is_of : IsBasisOf choice (lent_in c.rows.result.now) c.in-Ok.types c.args.tree b = record { of_files = sym read; typing = refl; kept = k; final = refl; nodes = refl } in
     let parts : AreParts b c.in_ok-parts.parts = c.in_ok-parts.ensures.parts b is_of in
     let found = c.build.ensures.references b parts in
-    IfOk-weaker c.build.result _ _ (λ s e. let x : AreNumberedReferences choice files s.links = record { basis = b; of_files = refl; is_basis = is_basis; are = e } in x) found
+    IfOk-weaker c.build.result _ _ (λ s e. let x : AreNumberedReferences choice files s.links = record { basis = b; of_files = refl; is_basis = is_basis; is = e } in x) found
 
 pub returns-clause-clear : goal.returns-clause-clear
 returns-clause-clear c = λ files given.
