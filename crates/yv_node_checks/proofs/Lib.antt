@@ -3,4 +3,3 @@ pub mod Here
 pub mod AncestryTable
 pub mod Below
 mod Namesakes
-mod NearestNodes
