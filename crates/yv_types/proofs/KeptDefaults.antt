@@ -2,7 +2,7 @@
 use Rattle.std.proofs.Common.{◌≡◌, ℕ, List, Option, Some, None, refl, ap, ◌∙◌}
 use Rattle.std.specs.List.{slice_get}
 use Rattle.std.specs.Option.{option_and_then, option_map}
-use Rattle.yv_type_chains.specs.InnerTables as numbers
+use Rattle.yv_base_tables.specs.Slots as slots
 use Rattle.yv_base_tables.specs.Sparse.{at, item_at}
 use Rattle.yv_base_tables.specs.declared.sparse.Sparse.{Sparse}
 use Rattle.yv_text_statement.specs.TextInFile.{written_of}
@@ -24,5 +24,5 @@ module _ (texts : List (Option WrittenText)) (said : Sparse WrittenText) (kept :
 
   -- the default of a type is the one that was found
   pub kept_text : (found : List (Option ℕ)) (places : Sparse ℕ) → ((k : ℕ) → at places k ≡ item_at found k) → (k : ℕ)
-      → option_and_then (text_in said) (at places k) ≡ text_from texts (numbers.at found k)
+      → option_and_then (text_in said) (at places k) ≡ text_from texts (slots.at found k)
   kept_text found places is k = ap (option_and_then (text_in said)) (is k) ∙ same_from (item_at found k)
