@@ -1,7 +1,7 @@
 //! The reason why a text is not JSON, by what is at the place where reading stopped (RFC 8259).
 use crate::json_number::number_reason;
 use std::alloc::{AllocError, Global};
-use yv_note_text::{has_curly_quote, is_blank};
+use yv_note_text::{has_curly_quote, is_blank, quoted_size};
 
 /// How deep objects and arrays nest at most.
 const MOST_DEPTH: usize = 127;
@@ -30,31 +30,36 @@ impl Before {
     // What is before the place at which these bytes end. Takes time linear in the bytes.
     fn of(alloc: Global, bytes: &[u8]) -> Result<Before, AllocError> {
         let mut before = Before {
-            last: None,
+            last: last_sign(bytes),
             open: Vec::new(alloc),
             is_text: false,
             has_colon: false,
             lacks_value: false,
         };
-        let mut is_escaped = false;
-        for byte in bytes {
-            if before.is_text {
-                before.is_text = is_escaped || *byte != b'"';
-                is_escaped = *byte == b'\\' && !is_escaped;
-            } else {
-                before.take(*byte)?;
-            }
-            if !is_blank(*byte) {
-                before.last = Some(*byte);
+        let mut rest = bytes;
+        for _ in 0..bytes.len() {
+            match rest {
+                [b'"', text @ ..] => rest = before.skip_text(text),
+                [byte, after @ ..] => {
+                    before.take(*byte)?;
+                    rest = after;
+                }
+                [] => break,
             }
         }
         Ok(before)
     }
 
+    // Skips a text, by what is after its first quote. What is after the text.
+    fn skip_text<'b>(&mut self, rest: &'b [u8]) -> &'b [u8] {
+        let after = quoted_size(rest).and_then(|size| rest.get(size..));
+        self.is_text = after.is_none();
+        after.unwrap_or(&[])
+    }
+
     // Takes a byte that is in no text.
     fn take(&mut self, byte: u8) -> Result<(), AllocError> {
         match byte {
-            b'"' => self.is_text = true,
             b'{' => self.enter(Bracket::Object)?,
             b'[' => self.enter(Bracket::Array)?,
             b'}' | b']' => {
@@ -104,6 +109,11 @@ impl Before {
             None => false,
         }
     }
+}
+
+// The last byte that isn't blank.
+fn last_sign(bytes: &[u8]) -> Option<u8> {
+    bytes.iter().rev().copied().find(|byte| !is_blank(*byte))
 }
 
 /// Why no JSON goes on at this place, as the end of a sentence.

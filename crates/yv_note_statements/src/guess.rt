@@ -59,10 +59,11 @@ pub fn nearest_definition<'a>(
     keyword: &str,
     written: &str,
 ) -> Option<Guess<'a>> {
+    let name = local(written);
     Sites::all(entries)
         .filter(|site| site.is(keyword))
         .fold(None, |nearest, site| {
-            let guess = Guess::of(local(written), site.argument(), Some(site.number));
+            let guess = Guess::of(name, site.argument(), Some(site.number));
             Guess::nearer(nearest, guess)
         })
 }

@@ -1,5 +1,5 @@
 //! Numbered items in lists.
-ghost use Rattle.std.specs.Prelude.{◌≡◌, ◌<◌, ℕ, length, IfOk, Option, None};
+ghost use Rattle.std.specs.Prelude.{◌≡◌, ◌<◌, ℕ, length, IfOk, Option, None, slice_index_or};
 ghost use Rattle.yv_note_statements.specs.Lists.{Puts, first_at, item_of, next_at};
 
 use std::alloc::{AllocError, Global};
@@ -13,11 +13,15 @@ pub(crate) struct Links {
     next: Vec<usize>,
 }
 
-// The item that is kept as this number.
-fn item_of(kept: usize) -> Option<usize>
-    ensures { result ≡ item_of kept }
+// The item that is kept at a place of a table, if it has that place.
+fn item_at(kept: &[usize], place: usize) -> Option<usize>
+    ensures { result ≡ item_of (slice_index_or kept.now place 0) }
 {
-    kept.checked_sub(1)
+    if place < kept.len() {
+        kept[place].checked_sub(1)
+    } else {
+        None
+    }
 }
 
 impl Links {
@@ -50,21 +54,13 @@ impl Links {
     pub(crate) fn first(&self, list: usize) -> Option<usize>
         ensures { result ≡ first_at self.now list }
     {
-        if list < self.first.len() {
-            item_of(self.first[list])
-        } else {
-            None
-        }
+        item_at(&self.first, list)
     }
 
     /// The next item of the list in which an item is.
     pub(crate) fn next(&self, item: usize) -> Option<usize>
         ensures { result ≡ next_at self.now item }
     {
-        if item < self.next.len() {
-            item_of(self.next[item])
-        } else {
-            None
-        }
+        item_at(&self.next, item)
     }
 }

@@ -1,6 +1,6 @@
 //! The statements of a file up to a place, whether or not the file can be read whole.
 use std::alloc::{AllocError, Global};
-use yv_note_text::is_blank;
+use yv_note_text::{is_blank, quoted_size};
 
 #[derive(Clone, Copy, PartialEq, Eq)]
 pub(crate) enum Kind {
@@ -34,18 +34,6 @@ pub(crate) struct Head<'a> {
     indent: Option<usize>,
 }
 
-impl<'a> Head<'a> {
-    // The same with an argument, unless it has one.
-    fn with_argument(self, argument: &'a [u8]) -> Head<'a> {
-        Head {
-            keyword: self.keyword,
-            argument: Some(self.argument.unwrap_or(argument)),
-            line: self.line,
-            indent: self.indent,
-        }
-    }
-}
-
 /// A brace that closes a block and is indented differently from the statement of the block.
 #[derive(Clone, Copy)]
 pub(crate) struct Odd<'a> {
@@ -72,8 +60,7 @@ pub(crate) struct Outline<'a> {
 }
 
 impl<'a> Outline<'a> {
-    /// What the tokens of these bytes show. A mark of the order of bytes is skipped. Takes time
-    /// linear in the bytes.
+    /// What the tokens of these bytes show. Takes time linear in the bytes.
     pub(crate) fn read(alloc: Global, bytes: &'a [u8]) -> Result<Outline<'a>, AllocError> {
         let mut outline = Outline {
             open: Vec::new(alloc),
@@ -85,10 +72,7 @@ impl<'a> Outline<'a> {
             line: 1,
             indent: Some(0),
         };
-        let mut rest = match bytes {
-            [0xEF, 0xBB, 0xBF, rest @ ..] => rest,
-            _ => bytes,
-        };
+        let mut rest = after_mark(bytes);
         for _ in 0..bytes.len() {
             if rest.is_empty() {
                 break;
@@ -112,7 +96,10 @@ impl<'a> Outline<'a> {
             [b' ' | b'\t' | b'\r' | b'\n', ..] => (Kind::Gap, blanks(rest)),
             [b'/', b'/', ..] => (Kind::Gap, up_to(rest, b'\n')),
             [b'/', b'*', after @ ..] => (Kind::Gap, comment(after).saturating_add(2)),
-            [b'"', after @ ..] => (Kind::Quoted, double(after).saturating_add(1)),
+            [b'"', after @ ..] => (
+                Kind::Quoted,
+                quoted_size(after).unwrap_or(after.len()).saturating_add(1),
+            ),
             [b'\'', after @ ..] => (Kind::Quoted, up_to(after, b'\'').saturating_add(2)),
             [b';', ..] => (Kind::Semicolon, 1),
             [b'{', ..] => (Kind::Open, 1),
@@ -170,15 +157,23 @@ impl<'a> Outline<'a> {
         } else {
             bytes
         };
-        self.unfinished = Some(match self.unfinished {
-            Some(head) => head.with_argument(argument),
-            None => Head {
-                keyword: bytes,
-                argument: None,
-                line: self.line,
-                indent: self.indent,
-            },
-        });
+        match &mut self.unfinished {
+            Some(
+                Head {
+                    argument: Some(_),
+                    ..
+                },
+            ) => {}
+            Some(head) => head.argument = Some(argument),
+            None => {
+                self.unfinished = Some(Head {
+                    keyword: bytes,
+                    argument: None,
+                    line: self.line,
+                    indent: self.indent,
+                });
+            }
+        }
     }
 
     // Opens the block of a statement.
@@ -203,22 +198,45 @@ impl<'a> Outline<'a> {
         }
     }
 
-    // Counts the lines of what was read.
+    // Counts the lines of what was read. Only gaps and quoted texts can have several.
     fn advance(&mut self, kind: Kind, bytes: &[u8]) {
-        let mut is_blank = kind == Kind::Gap;
-        for byte in bytes {
-            if *byte == b'\n' {
-                self.line = self.line.saturating_add(1);
-                self.indent = Some(0);
-                is_blank = kind == Kind::Gap;
-            } else {
-                is_blank = is_blank && (*byte == b' ' || *byte == b'\t');
-                self.indent = match self.indent {
-                    Some(count) if is_blank => Some(count.saturating_add(1)),
-                    _ => None,
-                };
-            }
+        let is_gap = kind == Kind::Gap;
+        if !is_gap && kind != Kind::Quoted {
+            self.indent = None;
+            return;
         }
+        let (feeds, last) = last_line(bytes);
+        let before = if feeds > 0 { Some(0) } else { self.indent };
+        self.line = self.line.saturating_add(feeds as u64);
+        self.indent = match before {
+            Some(count) if last.is_empty() || (is_gap && are_blanks(last)) => {
+                Some(count.saturating_add(last.len()))
+            }
+            _ => None,
+        };
+    }
+}
+
+// How many line feeds a text has, and what is after the last one.
+fn last_line(bytes: &[u8]) -> (usize, &[u8]) {
+    let feeds = bytes.iter().filter(|byte| **byte == b'\n').count();
+    let last = match bytes.iter().rposition(|byte| *byte == b'\n') {
+        Some(place) => bytes.get(place.saturating_add(1)..).unwrap_or(&[]),
+        None => bytes,
+    };
+    (feeds, last)
+}
+
+// Whether a text only has blanks and tabs.
+fn are_blanks(bytes: &[u8]) -> bool {
+    bytes.iter().all(|byte| *byte == b' ' || *byte == b'\t')
+}
+
+/// A text without a mark of the order of bytes.
+pub(crate) fn after_mark(bytes: &[u8]) -> &[u8] {
+    match bytes {
+        [0xEF, 0xBB, 0xBF, rest @ ..] => rest,
+        _ => bytes,
     }
 }
 
@@ -270,18 +288,6 @@ fn comment(bytes: &[u8]) -> usize {
     bytes.len()
 }
 
-// How many bytes a text in double quotes has after its first one.
-fn double(bytes: &[u8]) -> usize {
-    let mut is_escaped = false;
-    for (count, byte) in bytes.iter().enumerate() {
-        if !is_escaped && *byte == b'"' {
-            return count.saturating_add(1);
-        }
-        is_escaped = *byte == b'\\' && !is_escaped;
-    }
-    bytes.len()
-}
-
 /// How many bytes an unquoted text has: one at least, and no more than to a comment.
 pub(crate) fn word(bytes: &[u8]) -> usize {
     let mut is_slash = false;
@@ -297,6 +303,7 @@ pub(crate) fn word(bytes: &[u8]) -> usize {
     bytes.len()
 }
 
-fn ends_word(byte: u8) -> bool {
+/// Whether an unquoted text ends before a byte.
+pub(crate) fn ends_word(byte: u8) -> bool {
     is_blank(byte) || matches!(byte, b'"' | b'\'' | b';' | b'{' | b'}')
 }

@@ -1,5 +1,5 @@
 //! Quotes, comments and escapes that are wrong.
-use crate::outline::{Kind, Outline};
+use crate::outline::{Kind, Outline, after_mark, ends_word};
 use crate::syntax_note::text_of;
 use std::alloc::{AllocError, Global};
 use yv_note_statements::Message;
@@ -27,14 +27,31 @@ pub(crate) fn tell_token<'a>(
     Ok(())
 }
 
-// The unquoted text that ends where a file's front does.
+// The unquoted text that ends where a file's front does. Whether a `+` is a sign between two quoted
+// texts, only what is before it shows.
 fn word_before(alloc: Global, front: &[u8]) -> Result<Option<&[u8]>, AllocError> {
+    let word = word_at_end(after_mark(front));
+    if !word.starts_with(b"+") {
+        return Ok(if word.is_empty() { None } else { Some(word) });
+    }
     let outline = Outline::read(alloc, front)?;
     match outline.last {
         Some(token) if token.kind == Kind::Word && front.ends_with(token.bytes) => {
             Ok(Some(token.bytes))
         }
         _ => Ok(None),
+    }
+}
+
+// What a text ends with, after the last blank, quote, brace, semicolon or comment.
+fn word_at_end(front: &[u8]) -> &[u8] {
+    let mut word = front;
+    if let Some(place) = front.iter().rposition(|byte| ends_word(*byte)) {
+        word = front.get(place.saturating_add(1)..).unwrap_or(&[]);
+    }
+    match word.windows(2).rposition(|two| matches!(two, [b'*', b'/'])) {
+        Some(place) => word.get(place.saturating_add(2)..).unwrap_or(&[]),
+        None => word,
     }
 }
 

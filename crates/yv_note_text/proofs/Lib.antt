@@ -1,3 +1,4 @@
 pub mod Alike
+pub mod ClearTexts
 pub mod CodePoints
 pub mod QuotedWords

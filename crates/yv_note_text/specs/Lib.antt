@@ -1,4 +1,5 @@
 pub mod Alike
+pub mod Clear
 pub mod CodePoints
 pub mod Excerpt
 pub mod Quotes

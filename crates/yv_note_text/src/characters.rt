@@ -11,3 +11,19 @@ pub fn has_curly_quote(bytes: &[u8]) -> bool {
         .windows(3)
         .any(|three| matches!(three, [0xE2, 0x80, 0x98..=0x9F]))
 }
+
+/// How many bytes a text in double quotes has after its first quote, up to the last one and with
+/// it. None, if it is not closed. A quote after a backslash is a character of the text.
+pub fn quoted_size(bytes: &[u8]) -> Option<usize> {
+    let mut is_escaped = false;
+    for (count, byte) in bytes.iter().enumerate() {
+        if is_escaped {
+            is_escaped = false;
+        } else if *byte == b'"' {
+            return Some(count.saturating_add(1));
+        } else {
+            is_escaped = *byte == b'\\';
+        }
+    }
+    None
+}

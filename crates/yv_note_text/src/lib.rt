@@ -3,13 +3,15 @@
 #![tactic(auto)]
 
 mod characters;
+mod clear;
 mod code_points;
 mod joint;
 mod likeness;
 mod place;
 mod quotes;
 
-pub use characters::{has_curly_quote, is_blank};
+pub use characters::{has_curly_quote, is_blank, quoted_size};
+pub use clear::visible_char;
 pub use code_points::push_code_point;
 pub use joint::{Joint, push_between};
 pub use likeness::{Likeness, compare};
