@@ -1,0 +1,10 @@
+pub mod Pieces
+pub mod AskedDocument
+pub mod Supply
+pub mod LineDocuments
+pub mod LinesLeft
+pub mod Answers
+pub mod InnerBatch
+pub mod InnerPieces
+pub mod InnerLine
+pub mod InnerLines
