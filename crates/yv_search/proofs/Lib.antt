@@ -1,0 +1,9 @@
+pub mod LastParts
+pub mod ListSteps
+pub mod MapSteps
+pub mod Groups
+pub mod WantSteps
+pub mod SearchSteps
+pub mod Gatherings
+pub mod Uniqueness
+pub mod StepLaws

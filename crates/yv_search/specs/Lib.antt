@@ -1,0 +1,13 @@
+pub mod Listing
+pub mod FileNames
+pub mod Wants
+pub mod Choice
+pub mod Roots
+pub mod Search
+pub mod FoundFiles
+pub mod SearchAnswers
+pub mod SearchLaws
+pub mod InnerIndex
+pub mod InnerWants
+pub mod InnerSearch
+pub mod InnerGather
