@@ -200,13 +200,11 @@ module _ (files : Files) (marks : List Bool) (items : List Item) (its : Items) (
             depth = (let a = st.depth in omega (arith, a, deep));
             gives = statement_is row.number s there;
           },
-          r,
-          found,
-          is,
+          (r, found, is),
         )
 
     from : (f : Refusal) → RefusesDepth files (forest_shown its tree) f → TooDeep (rows_of files) spots (tree_list None 1 tree) f
-    from f (k, too_deep, r, found, is) =
+    from f (k, too_deep, (r, found, is)) =
         let h = stands_row its tree None 1 refl too_deep.stands in
         let long = laid_many w items in
         let less = within h.k h.row h.at in

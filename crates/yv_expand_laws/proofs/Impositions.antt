@@ -466,11 +466,9 @@ impositions_are_one files one_meant once all_within optional choice f its m r so
               needed = i.needed;
               config = i.config;
             },
-            x.2,
-            x.3,
-            x.4,
+            (x.2, x.3, x.4),
           )),
-      (λ (a, i, row, found, is).
+      (λ (a, i, (row, found, is)).
           subst By (sym final.augments)
           (imposed_from files marks order final.own f.items its final.expanded tells optional f.tree None nothing_around sound_tree top r a row found is
           (subst (λ n. Stands n [] i.given i.below (i.target ∷ i.above)) shows i.stands) i.target i.above refl i.giver i.foreign i.needed i.config)),

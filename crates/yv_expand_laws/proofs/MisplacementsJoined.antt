@@ -43,18 +43,18 @@ misplacements_by_uses files given_below below laws ends_there gives_there blocks
     let At : List ℕ → ℕ → ℕ → Type 0 = λ bs i a. HasUntaken (whole (map brief_of files) (rows_of files) bs (length f.items)) f.items i a in
     let By : List ℕ → Type 0 = λ bs. MisplacedByUses (whole (map brief_of files) (rows_of files) bs (length f.items)) f.items (final_items f) r in (
       (λ bad.
-          let (a, never, h, row, found, is) = subst By final.augments bad in
+          let (a, never, h, (row, found, is)) = subst By final.augments bad in
           let (i, there, u) = uses_untaken files marks (order_of choice files) final.own f.items final.expanded f.state f.tree grafted tree given_below below laws ends_there gives_there a never h in
           let untaken : At f.augments i a = subst (λ bs. At bs i a) (sym final.augments) u in
           blocks.0 (untaken_there files f.augments (length f.items) f.items (final_items f) i a r row there untaken found is)),
       (λ refused.
-          let (place, less, x, at, (a, u, row, found, is)) = blocks.1 refused in
+          let (place, less, x, at, (a, u, (row, found, is))) = blocks.1 refused in
           let h : At augments x.number a = subst (λ bs. At bs x.number a) final.augments u in
           let never : Contains augments a → ⊥ = no_module files marks (order_of choice files) final.own f.items final.expanded x.number h.spot h.place a h.at h.there in
           let there : IsThere (final_items f) x.number = record { place = place; row = x; at = at; is = refl } in
           let misplaced = uses_misplaced files marks (order_of choice files) final.own f.items final.expanded f.state f.tree grafted tree given_below below laws ends_there gives_there sound.refer
           x.number a there h in
-          subst By (sym final.augments) (a, never, misplaced, row, found, is)),
+          subst By (sym final.augments) (a, never, misplaced, (row, found, is))),
     )
 
 puts : (rows : List Row) (spots : List Spot) (tree : List ItemRow) (a : ℕ) (f : Refusal) (q : Row) → HasMisplaced rows spots tree a → slice_get rows a ≡ Some q
@@ -75,11 +75,11 @@ misplacements_are_one files by_modules by_uses choice f its m r sound roots fina
           let h : HasMisplaced (rows_of files) (spots_of files f) (final_items f) a =
           record { place = k; row = x; at = at; spot = s; spot_is = at_s; node = node; node_is = node_is; around = around; untaken = untaken } in
           elim (is_or_not f.augments a) [
-            | inl there ↦ (let x = modules.0 (a, there, h, q, found, is) in (x.0, x.2, x.3, x.4, x.5))
-            | inr never ↦ (let x = uses.0 (a, never, h, q, found, is) in (x.0, x.2, x.3, x.4, x.5))
+            | inl there ↦ (let x = modules.0 (a, there, h, (q, found, is)) in (x.0, x.2))
+            | inr never ↦ (let x = uses.0 (a, never, h, (q, found, is)) in (x.0, x.2))
           ]),
-      (λ (a, wrong, row, found, is). elim (is_or_not (augments_of (map brief_of files) (rows_of files) (marks_of choice files)) a) [
-        | inl there ↦ (let (b, own, h, q, at, same) = modules.1 (a, there, wrong, row, found, is) in puts (rows_of files) (spots_of files f) (final_items f) b r q h at same)
-        | inr never ↦ (let (b, own, h, q, at, same) = uses.1 (a, never, wrong, row, found, is) in puts (rows_of files) (spots_of files f) (final_items f) b r q h at same)
+      (λ (a, (wrong, (row, found, is))). elim (is_or_not (augments_of (map brief_of files) (rows_of files) (marks_of choice files)) a) [
+        | inl there ↦ (let (b, own, h, (q, at, same)) = modules.1 (a, there, (wrong, (row, found, is))) in puts (rows_of files) (spots_of files f) (final_items f) b r q h at same)
+        | inr never ↦ (let (b, own, h, (q, at, same)) = uses.1 (a, never, (wrong, (row, found, is))) in puts (rows_of files) (spots_of files f) (final_items f) b r q h at same)
       ]),
     )

@@ -64,8 +64,8 @@ module_blocks_are_one files one_meant choice f its m r sound roots final tells E
       (λ untaken.
           let (k, less, a, at, (u, (row, found, is))) = subst By final.augments untaken in
           let kind : takes_block (rows_of files) a (its.node_of u.target).kind ≡ false = ap (λ (z : StatementKind). takes_block (rows_of files) a z) (tells.told.kind u.target u.node u.target_at) ∙ u.untaken in
-          (a, at_there augments k a at, (known k a at).1 u.target u.adds kind, row, found, is)),
-      (λ (a, there, refused, row, found, is).
+          (a, at_there augments k a at, ((known k a at).1 u.target u.adds kind, (row, found, is)))),
+      (λ (a, there, (refused, (row, found, is))).
           let k = contains_at augments a there in
           let (i, refine_targets, kind) = (known k.0 a k.1).0 refused in
           let few = target_within labels _ i refine_targets in

@@ -301,7 +301,7 @@ misplacements_by_modules files one_meant final_stands given_below below once blo
     let At : List ℕ → ℕ → ℕ → Type 0 = λ bs k a. IsUntaken (whole (map brief_of files) (rows_of files) bs (length f.items)) f.items f.state k a in
     let By : List ℕ → Type 0 = λ a. MisplacedByModule (whole (map brief_of files) (rows_of files) a (length f.items)) f.items (final_items f) r in (
       (λ bad.
-          let (a, there, h, row, found, is) = subst By final.augments bad in
+          let (a, there, h, (row, found, is)) = subst By final.augments bad in
           let k = contains_at augments a there in
           let u : At augments k.0 a = block_untaken files marks order final.own f.items final.expanded f.state f.tree grafted tree given_below below k.0 a k.1 h in
           let at : slice_get f.augments k.0 ≡ Some a = ap (λ z. slice_get z k.0) final.augments ∙ k.1 in
@@ -311,5 +311,5 @@ misplacements_by_modules files one_meant final_stands given_below below once blo
           let at' : slice_get augments k ≡ Some a = ap (λ z. slice_get z k) (sym final.augments) ∙ at in
           let h = item_misplaced files marks order final.own f.items final.expanded f.state f.tree grafted tree given_below below its given tells one_meant once final_stands k a at'
           (subst (λ z. At z k a) final.augments u) in
-          subst By (sym final.augments) (a, at_there augments k a at', h, row, found, is)),
+          subst By (sym final.augments) (a, at_there augments k a at', h, (row, found, is))),
     )

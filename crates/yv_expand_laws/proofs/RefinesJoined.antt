@@ -172,12 +172,12 @@ refines_are_one files one_meant final_stands choice f its m r sound roots final 
       (λ bad. (let (k, less, x, at, (there, why)) = subst By final.augments bad in elim why [
         | inl (row, found, (none, is)) ↦
             let e : Wrong = record { code = code.RefineTarget; statement = x.refine } in
-            (e, inl refl, (joined e (inl (inl refl))).1 (x.item, there, inl (refused_at files augments (length f.items) f.items x e k at (refl, inl (refl, none)))), row, found, is)
+            (e, inl refl, ((joined e (inl (inl refl))).1 (x.item, there, inl (refused_at files augments (length f.items) f.items x e k at (refl, inl (refl, none)))), (row, found, is)))
         | inr (row, found, (unfit, is)) ↦
             let e : Wrong = record { code = code.BadRefine; statement = x.refine } in
-            (e, inr refl, (joined e (inl (inr refl))).1 (x.item, there, inl (refused_at files augments (length f.items) f.items x e k at (refl, inr (refl, unfit)))), row, found, is)
+            (e, inr refl, ((joined e (inl (inr refl))).1 (x.item, there, inl (refused_at files augments (length f.items) f.items x e k at (refl, inr (refl, unfit)))), (row, found, is)))
       ])),
-      (λ (e, kind, there, row, found, is).
+      (λ (e, kind, (there, (row, found, is))).
           let (i, stands_there, asked) = (joined e (inl kind)).0 there in
           let (x, (k, at), item, (statement, why)) = refused_there files augments (length f.items) f.items i e (of_refine e i kind asked) in
           let here : slice_get (rows_of files) x.refine ≡ Some row = ap (slice_get (rows_of files)) (sym statement) ∙ found in

@@ -70,22 +70,22 @@ module _ (files : Files) (choice : ModuleChoice) (f : Final) (m : Product) (r : 
     refused e q wrong at is = record { made = m; expand = expand; wrong = e; is_wrong = wrong; row = q; at = at; is = is }
 
     of_depth : RefusesDepth files m.nodes r → BadExpanded choice files r
-    of_depth (k, deep, q, at, is) = refused (record { code = code.TreeTooDeep; statement = k }) q (inr (inr (refl, deep))) at is
+    of_depth (k, deep, (q, at, is)) = refused (record { code = code.TreeTooDeep; statement = k }) q (inr (inr (refl, deep))) at is
 
     of_refine : RefusesRefine files m r → BadExpanded choice files r
-    of_refine (e, kind, there, q, at, is) = refused e q (inl there) at is
+    of_refine (e, kind, (there, (q, at, is))) = refused e q (inl there) at is
 
     of_target : RefusesModuleAugment files code.AugmentTarget marks m r → BadExpanded choice files r
-    of_target (a, own, there, q, at, is) = refused (record { code = code.AugmentTarget; statement = a }) q (inl there) at is
+    of_target (a, own, (there, (q, at, is))) = refused (record { code = code.AugmentTarget; statement = a }) q (inl there) at is
 
     of_uses_target : RefusesUsesAugment files code.AugmentTarget marks m r → BadExpanded choice files r
-    of_uses_target (a, never, there, q, at, is) = refused (record { code = code.AugmentTarget; statement = a }) q (inl there) at is
+    of_uses_target (a, never, (there, (q, at, is))) = refused (record { code = code.AugmentTarget; statement = a }) q (inl there) at is
 
     of_block : RefusesBlock files m r → BadExpanded choice files r
-    of_block (a, there, q, at, is) = refused (record { code = code.BadAugment; statement = a }) q (inl there) at is
+    of_block (a, (there, (q, at, is))) = refused (record { code = code.BadAugment; statement = a }) q (inl there) at is
 
     of_imposition : RefusesImposition files m.nodes r → BadExpanded choice files r
-    of_imposition (a, imposes, q, at, is) = refused (record { code = code.BadAugment; statement = a }) q (inr (inl (refl, imposes))) at is
+    of_imposition (a, imposes, (q, at, is)) = refused (record { code = code.BadAugment; statement = a }) q (inr (inl (refl, imposes))) at is
 
     to_expanded : BadStanding files f r → BadExpanded choice files r
     to_expanded (inl bad) = of_depth (one.depths.0 bad)
@@ -103,28 +103,28 @@ module _ (files : Files) (choice : ModuleChoice) (f : Final) (m : Product) (r : 
 
     contained : (e : Wrong) (q : Row) → Contains m.wrong e → IsOfEither e → slice_get (rows_of files) e.statement ≡ Some q
         → r ≡ refusal_at e.code q.file q.head → BadStanding files f r
-    contained e q there (inl refine) at is = inr (inl (one.refines.1 (e, refine, there, q, at, is)))
+    contained e q there (inl refine) at is = inr (inl (one.refines.1 (e, refine, (there, (q, at, is)))))
     contained e q there (inr (inr block)) at is =
         inr (inr (inr (inl (one.misplacements.1
-        (e.statement, with_code e code.BadAugment block there, q, at, same_code e q code.BadAugment block is)))))
+        (e.statement, (with_code e code.BadAugment block there, (q, at, same_code e q code.BadAugment block is)))))))
     contained e q there (inr (inl target)) at is = by (is_or_not (augments_of (map brief_of files) (rows_of files) marks) e.statement)
       where
         by : Contains (augments_of (map brief_of files) (rows_of files) marks) e.statement
             ⊎ (Contains (augments_of (map brief_of files) (rows_of files) marks) e.statement → ⊥) → BadStanding files f r
         by (inl own) =
             inr (inr (inl (inl (one.targets.1
-            (e.statement, own, with_code e code.AugmentTarget target there, q, at, same_code e q code.AugmentTarget target is)))))
+            (e.statement, own, (with_code e code.AugmentTarget target there, (q, at, same_code e q code.AugmentTarget target is)))))))
         by (inr never) =
             inr (inr (inl (inr (one.uses_targets.1
-            (e.statement, never, with_code e code.AugmentTarget target there, q, at, same_code e q code.AugmentTarget target is)))))
+            (e.statement, never, (with_code e code.AugmentTarget target there, (q, at, same_code e q code.AugmentTarget target is)))))))
 
     is_standing : (e : Wrong) (q : Row) → IsWrong files m e → slice_get (rows_of files) e.statement ≡ Some q → r ≡ refusal_at e.code q.file q.head
         → BadStanding files f r
     is_standing e q (inl there) at is = contained e q there (refused_is files marks order m expand e there) at is
     is_standing e q (inr (inl (imposing, imposes))) at is =
-        inr (inr (inr (inr (one.impositions.1 (e.statement, imposes, q, at, same_code e q code.BadAugment imposing is)))))
+        inr (inr (inr (inr (one.impositions.1 (e.statement, imposes, (q, at, same_code e q code.BadAugment imposing is))))))
     is_standing e q (inr (inr (too_deep, deep))) at is =
-        inl (one.depths.1 (e.statement, deep, q, at, same_code e q code.TreeTooDeep too_deep is))
+        inl (one.depths.1 (e.statement, deep, (q, at, same_code e q code.TreeTooDeep too_deep is)))
 
     to_standing : ExpandToOne → BadExpanded choice files r → BadStanding files f r
     to_standing to_one bad =

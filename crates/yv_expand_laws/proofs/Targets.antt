@@ -173,8 +173,8 @@ targets_are_one files one_meant choice f its m r sound roots final tells E =
     let known = target_refused files marks order final.own f.items its given final.expanded tells one_meant (IsInner files) (near files marks)
     (λ a module_file made G b. gives_known files G (block_below (rows_of files) a) (no_target b)) m f.state E grafted (λ b. tops_known files E.tops (no_target b)) in
     let By : List ℕ → Type 0 = λ a. BadTarget (whole (map brief_of files) (rows_of files) a (length f.items)) f.items f.state r in (
-      (λ bad. (let (k, less, a, at, (row, found, (none, is))) = subst By final.augments bad in (a, at_there augments k a at, (known k a at).0 none, row, found, is))),
-      (λ (a, there, refused, row, at, is).
+      (λ bad. (let (k, less, a, at, (row, found, (none, is))) = subst By final.augments bad in (a, at_there augments k a at, ((known k a at).0 none, (row, found, is))))),
+      (λ (a, there, (refused, (row, at, is))).
           let k = contains_at augments a there in
           subst By (sym final.augments) (k.0, slice_get_within augments k.0 a k.1, a, k.1, (row, at, ((known k.0 a k.1).1 refused, is)))),
     )

@@ -74,7 +74,7 @@ module _ (files : Files) (augments : List ℕ) (many : ℕ) (items : List Item) 
     slice_get_within tree t.place t.row t.at,
     t.row,
     t.at,
-    (a, subst (λ (n : ℕ). HasUntaken w_of items n a) (sym t.is) h, row, found, is),
+    (a, subst (λ (n : ℕ). HasUntaken w_of items n a) (sym t.is) h, (row, found, is)),
   )
 
 pub uses_blocks_are_one : (files : Files) → RefersToOne files → FinalStands → UsesBlocksAreOne files
@@ -91,12 +91,12 @@ uses_blocks_are_one files one_meant final_stands choice f its m r sound roots fi
     let known = asked_joined files marks order final.own f.items its given final.expanded tells one_meant final_stands m f.state f.tree E grafted tree in
     let By : List ℕ → Type 0 = λ a. Untaken (whole (map brief_of files) (rows_of files) a (length f.items)) f.items (final_items f) r in (
       (λ bad.
-          let (place, less, x, at, (a, h, row, found, is)) = subst By final.augments bad in
+          let (place, less, x, at, (a, h, (row, found, is))) = subst By final.augments bad in
           let e : Wrong = record { code = code.BadAugment; statement = a } in
           let not_there : Contains augments a → ⊥ = no_module files marks order final.own f.items final.expanded x.number h.spot h.place a h.at h.there in
           let there : OwnAt files augments (length f.items) f.items x.number e = inr (refl, untaken_by files augments (length f.items) f.items x.number a h) in
-          (a, not_there, (known e (inr (inr refl, not_there))).1 (x.number, record { place = place; row = x; at = at; is = refl }, inr there), row, found, is)),
-      (λ (a, not_there, there, row, found, is).
+          (a, not_there, ((known e (inr (inr refl, not_there))).1 (x.number, record { place = place; row = x; at = at; is = refl }, inr there), (row, found, is)))),
+      (λ (a, not_there, (there, (row, found, is))).
           let e : Wrong = record { code = code.BadAugment; statement = a } in
           let (i, stands, asked) = (known e (inr (inr refl, not_there))).0 there in
           subst By (sym final.augments) (untaken_there files augments (length f.items) f.items (final_items f) i a r row stands

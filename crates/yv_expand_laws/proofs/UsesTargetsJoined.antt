@@ -248,8 +248,8 @@ uses_targets_are_one files one_meant final_stands choice f its m r sound roots f
           let not_there : Contains augments a → ⊥ = no_module files marks order final.own f.items final.expanded x.number s k a at_s at_a in
           let there : OwnAt files augments (length f.items) f.items x.number e =
           inl (refl, subst (λ o. UntargetedBy files augments (length f.items) f.items o x.number a) (sym at_s) (is_so, (k, at_a, reaches))) in
-          (a, not_there, (known e (inr (inl refl, not_there))).1 (x.number, record { place = place; row = x; at = at; is = refl }, inr there), row, found, is)),
-      (λ (a, not_there, there, row, found, is).
+          (a, not_there, ((known e (inr (inl refl, not_there))).1 (x.number, record { place = place; row = x; at = at; is = refl }, inr there), (row, found, is)))),
+      (λ (a, not_there, (there, (row, found, is))).
           let e : Wrong = record { code = code.AugmentTarget; statement = a } in
           let (i, stands, asked) = (known e (inr (inl refl, not_there))).0 there in
           subst By (sym final.augments) (untargeted_there files augments (length f.items) f.items (final_items f) i a r row stands
