@@ -74,9 +74,9 @@ pub record IsBasis (choice : ModuleChoice) (b : Basis) : Type 0 where
 -- this is the schema tree of the files: the nodes to which they expand, as their statements say
 -- them, with the leafrefs resolved (section 9.9)
 abbrev pub IsSchema : ModuleChoice → Files → Forest → Type 0
-IsSchema choice files tree =
+IsSchema choice files forest =
     HoldsOfBasis (λ (b : Basis). b.files) IsBasis choice files
-    (λ b. IsTyped (leafrefs_of b) (stated_of b) tree)
+    (λ b. IsTyped (leafrefs_of b) (stated_of b) forest)
 
 -- this is where the paths of its leafrefs lead that require an instance, each at the number of its
 -- node (sections 9.9.2 and 9.9.3)

@@ -26,9 +26,9 @@ pub record IsNumberedBasis (choice : ModuleChoice) (b : NumberedBasis) : Type 0 
 -- this is the schema tree of the files: the one that their statements say, with its leafrefs
 -- resolved (section 9.9)
 abbrev pub IsNumberedSchema : ModuleChoice → Files → Forest → Type 0
-IsNumberedSchema choice files tree =
+IsNumberedSchema choice files forest =
     HoldsOfBasis (λ (b : NumberedBasis). b.files) IsNumberedBasis choice files
-    (λ b. IsTyped (leafrefs_of b) (stated_of b) tree)
+    (λ b. IsTyped (leafrefs_of b) (stated_of b) forest)
 
 -- these are the augments of the files' modules that add nodes to the schema tree
 abbrev pub AreNumberedNotes : ModuleChoice → Files → List Note → Type 0

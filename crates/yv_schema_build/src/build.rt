@@ -28,15 +28,18 @@ pub(crate) fn build(alloc: Global, parts: SchemaParts) -> Result<Schema, Stop>
         → (r : Refusal) → result ≡ Err (Fault r) → HasLeast b (Some r) }
     ensures builds { result ≢ Err PatternBuild }
 {
-    let numbered = Schema::number_nodes(
-        alloc,
-        parts.nodes,
-        parts.top,
-        parts.modules,
-        parts.notes,
-        parts.links,
-    );
-    with_refusal(numbered, parts.wrong)
+    let SchemaParts {
+        nodes,
+        top,
+        modules,
+        notes,
+        links,
+        wrong,
+    } = parts;
+    with_refusal(
+        Schema::number_nodes(alloc, nodes, top, modules, notes, links),
+        wrong,
+    )
 }
 
 // The lesser of both refusals, or a schema where there is none.

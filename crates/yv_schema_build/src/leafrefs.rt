@@ -119,15 +119,32 @@ pub(crate) fn resolve<'a>(
         → IfOk result (IsAnswered b) }
     ensures limit { IfOk result (λ r. r.nodes.limit ≡ nodes.limit) }
 {
+    links_lead();
+    if !has_leafrefs(rows, context.definitions()) {
+        return Ok(without_leafrefs(alloc, nodes));
+    }
+    resolve_leafrefs(alloc, rows, context, nodes)
+}
+
+// The same, where some statement may define a leafref.
+fn resolve_leafrefs<'a>(
+    alloc: Global,
+    rows: &Rows<'a, '_>,
+    context: &Context<'_, 'a, '_>,
+    nodes: Nodes,
+) -> Result<ResolvedLeafrefs, AllocError>
+    requires { AreStated (lent_in rows.now) context.now nodes.rows }
+    ensures answers { (b : NumberedBasis) → Tells b context.now → b.files ≡ lent_in rows.now
+        → nodes.rows ≡ rows_from 0 (stated_of b)
+        → IfOk result (IsAnswered b) }
+    ensures limit { IfOk result (λ r. r.nodes.limit ≡ nodes.limit) }
+{
     statements_have_their_rows();
     rows_of_a_tree_are_behind();
     alike_schemas_have_the_same_leafrefs();
     alike_schemas_have_the_same_links();
     links_lead();
     types_leave_links();
-    if !has_leafrefs(rows, context.definitions()) {
-        return Ok(without_leafrefs(alloc, nodes));
-    }
     let mut nodes = nodes;
     let origins = origins(alloc, context.tree)?;
     let said = referrals(alloc, rows, context.definitions(), &origins)?;
