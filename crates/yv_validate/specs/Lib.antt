@@ -7,5 +7,6 @@ pub mod InnerWalk
 pub mod InnerMemory
 pub mod InnerNotes
 pub mod InnerPromises
+pub mod InnerTables
 pub use Rattle.yv_nodes.specs.Tree
 pub use Rattle.yv_nodes.specs.Rows

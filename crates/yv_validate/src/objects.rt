@@ -1,16 +1,14 @@
 //! Objects, and what is met in them.
 ghost use Rattle.std.specs.Prelude.{◌≡◌, ◌==◌, ◌<◌, ◌≤◌, ◌+◌, ◌*◌, ℕ, List, [], ◌∷◌, length, IfOk, IfSome, OnOk, None, Some, if◌then◌else◌};
-ghost use Rattle.serde_json.specs.{Data.{depth as nesting, object as an_object}, View.{view, items_view, members_view}};
+ghost use Rattle.serde_json.specs.{Data.{object as an_object}, View.{view, items_view, members_view}};
 ghost use Rattle.yv_node_content.specs.Kinds.{is_data};
 ghost use Rattle.yv_values.specs.Count.{count_up};
-ghost use Rattle.yv_nodes.specs.Rows.{rank, below, children_of, whole};
-ghost use Rattle.yv_schema_tables.specs.Measures.{measures_of};
+ghost use Rattle.yv_nodes.specs.Rows.{rank, below, children_of};
 ghost use Rattle.yv_walk.specs.{Context.{members_len, members_of}, Existence.{any, existence_of}};
 ghost use Rattle.yv_data_leafrefs.specs.{Findings.{first_of}, InUse.{is_asked, is_number}};
-ghost use Rattle.yv_validate.specs.{Faults.{array_faults, faults as all_faults, flaw}, InnerNotes.{GainsBy, HasTuples}, InnerWalk.{children_met, Meets, MeetsBelow}, Size.{size}, Work.{work}, InnerPromises.{ClosesAt, ClosesData, data_of, fallback_in, faults_in, GainsData, GrowsAt, GrowsBy, GrowsWithAt, IsDataOn, IsObjectOn, IsParentOn, IsStateOn, MayChoose, MayMeet, MayMeetBelow, met_at_data, met_at_node, met_below, met_in_cases, met_in_container, met_in_entries, met_in_list, met_in_object, most_work, next_at, node_in, own_node, Reports, unknowns_in, work_in}};
+ghost use Rattle.yv_validate.specs.{Faults.{array_faults, flaw}, InnerNotes.{GainsBy, HasTuples}, InnerWalk.{children_met, Meets, MeetsBelow}, InnerPromises.{ClosesAt, ClosesData, data_of, fallback_in, faults_in, GainsData, GrowsAt, GrowsBy, GrowsWithAt, IsDataOn, IsObjectOn, IsParentOn, IsStateOn, MayChoose, MayMeet, MayMeetBelow, met_at_data, met_at_node, met_below, met_in_cases, met_in_container, met_in_entries, met_in_list, met_in_object, next_at, node_in, own_node, Reports, unknowns_in, work_in}};
 ghost use Rattle.yv_data_quiet.specs.{Quiet.{IsEmptied, IsPassed}, Runs.{AreRuns, IsPast}};
 
-use crate::laws::work_bound;
 use crate::memory::stood_before;
 use crate::nodes::count_of;
 use crate::notes::Notes;
@@ -19,79 +17,20 @@ use crate::report::Report;
 use crate::tell::tell_references;
 use crate::walk::{Visit, Walk};
 use serde_json::{Map, Value};
-use std::alloc::{AllocError, Global};
+use std::alloc::AllocError;
 use yv_data_faults::{FaultKind, Faults, Trail};
 use yv_data_leafrefs::{RuleScope, answer, laws as found_laws};
-use yv_data_quiet::{
-    Run, RunTable, inner_steps, known_nodes, known_steps, pass_quiet, pass_quiet_children,
-};
+use yv_data_quiet::{Run, inner_steps, known_steps, pass_quiet, pass_quiet_children};
 use yv_node_content::NodeKind;
 use yv_nodes::NodeId;
 use yv_schema_tables::Schema;
-use yv_text_statement::Kind;
 use yv_values::{Index, Meter};
 use yv_walk::{Context, Existence, is_there, laws};
 
-/// The faults of a document of this kind, in order (RFC 7950, section 8; RFC 7951): what is wrong
-/// with its data, and after it the references that reach nothing, in the order in which their
-/// values are met.
-pub fn validate(
-    alloc: Global,
-    schema: &Schema,
-    document: &Value,
-    kind: Kind,
-) -> Result<Report, AllocError>
-    // The document has at most 16,777,216 members and items.
-    requires size { size (view document.now) ≤ 16777216 }
-    // It nests at most 127 deep.
-    requires nests { nesting (view document.now) ≤ 127 }
-    // The list of faults equals the definition's for this kind of document, element by element: the
-    // errors in the data, followed by each value of a leafref that equals none of those that its
-    // path reaches. A fault of an entry or item that repeats others has the number of the first of
-    // these.
-    ensures faults { IfOk result
-        (λ r. r.faults.items ≡ all_faults kind schema.now (view document.now)) }
-    // The steps that are counted are those of the definition: one for each check and look-up.
-    ensures steps { IfOk result
-        (λ r. r.steps ≡ count_up (work kind schema.now (view document.now))) }
-    // They are at most `(n + 1) * (m + u + w + 1)`, where n counts the members and items, and m, u
-    // and w are the measures of the schema.
-    ensures bound { IfOk result (λ r. r.steps ≤ (size (view document.now) + 1)
-        *
-        ((measures_of (whole schema.now)).m + (measures_of (whole schema.now)).u
-        + (measures_of (whole schema.now)).w + 1)) }
-{
-    is_bounded(schema, document, kind);
-    let known = known_nodes(alloc, schema)?;
-    let runs = RunTable::read(alloc, schema, known.as_slice())?;
-    let walk = Walk {
-        alloc,
-        schema,
-        kind,
-        known: known.as_slice(),
-        runs: &runs,
-    };
-    match document {
-        Value::Object(members) => walk.document(members),
-        _ => walk.no_object(),
-    }
-}
-
-// The law of the bound for this schema and document: what the law requires of the schema is known
-// from reading it.
-fn is_bounded(schema: &Schema, document: &Value, kind: Kind)
-    ensures { work kind schema.now (view document.now) ≤ most_work schema.now (view document.now) }
-{
-    let _nodes = schema.children(Schema::ROOT);
-    let _document = document;
-    let _kind = kind;
-    work_bound();
-}
-
 impl<'a> Walk<'a> {
-    // The faults of a document that is an object: what is wrong with its data, and after that its
-    // references that reach nothing.
-    fn document(&self, members: &Map<String, Value>) -> Result<Report, AllocError>
+    /// The faults of a document that is an object: what is wrong with its data, and after that its
+    /// references that reach nothing.
+    pub(crate) fn document(&self, members: &Map<String, Value>) -> Result<Report, AllocError>
         ensures faults { IfOk result
             (λ r. r.faults.items ≡ faults_in self.now (members_view members.now.entries)) }
         ensures steps { IfOk result
@@ -121,8 +60,8 @@ impl<'a> Walk<'a> {
         })
     }
 
-    // The fault of a document that is not an object.
-    fn no_object(&self) -> Result<Report, AllocError>
+    /// The fault of a document that is not an object.
+    pub(crate) fn no_object(&self) -> Result<Report, AllocError>
         ensures faults { IfOk result (λ r. r.faults.items ≡ flaw FaultKind.Shape [] ∷ []) }
         ensures steps { IfOk result (λ r. r.steps ≡ 0) }
     {
