@@ -1,11 +1,12 @@
 -- Sentences behind others, and what they have in common.
-use Rattle.std.proofs.Common.{◌≡◌, ℕ, ◌-◌, ◌*◌, ◌≤◌, ◌<◌, ◌==◌, ◌||◌, Bool, true, false, List, [], ◌∷◌, ◌++◌, length, map, take, refl, sym, ap, ◌∙◌, append_assoc, arith, nat_lt, codes, decimal, if◌then◌else◌}
+use Rattle.std.proofs.Common.{◌≡◌, ℕ, ◌-◌, ◌*◌, ◌≤◌, ◌<◌, Bool, true, false, List, [], ◌∷◌, ◌++◌, length, map, take, refl, sym, ap, ◌∙◌, append_assoc, arith, nat_lt, codes, decimal, if◌then◌else◌}
 use Rattle.std.specs.List.{AllZip}
 use Rattle.std.proofs.lemmas.List.{append-nil, length-append, length-map, length-take}
-use Rattle.std.proofs.lemmas.List.Folds.{list_all-append}
 use Rattle.yv_data_faults.specs.Flaw.{Flaw}
-use Rattle.yv_note_faults.specs.Line.{IsSentence, cleared_byte, cleared_line, is_visible}
-use Rattle.yv_note_faults.specs.Sentences.{AreSentences, Tells, is_clear, join_lines, more_line, more_text}
+use Rattle.yv_note_text.specs.Clear.{is_clear, visible_byte}
+use Rattle.yv_note_text.proofs.ClearTexts.{both_clear, bytes_clear}
+use Rattle.yv_note_faults.specs.Line.{IsSentence, cleared_line}
+use Rattle.yv_note_faults.specs.Sentences.{AreSentences, Tells, join_lines, more_line, more_text}
 
 zip_more : (fs : List Flaw) (lines : List (List ℕ)) (f : Flaw) (line : List ℕ) → AllZip IsSentence fs lines → IsSentence f line
     → AllZip IsSentence (fs ++ f ∷ []) (lines ++ line ∷ [])
@@ -31,26 +32,8 @@ one_more start f old new line are is e = record {
 pub none : (text : List ℕ) → text ≡ [] → AreSentences [] text
 none text e = record { lines = []; each = tt; is = e }
 
-visible : (b : ℕ) → is_visible (cleared_byte b) ≡ true
-visible b = cases (is_visible b) refl
-  where
-    cases : (v : Bool) → is_visible b ≡ v → is_visible (cleared_byte b) ≡ true
-    cases true e = let same : cleared_byte b ≡ b = rw e refl in rw same e
-    cases false e = let same : cleared_byte b ≡ 46 = rw e refl in rw same refl
-
-either : (a b : Bool) → b ≡ true → (a || b) ≡ true
-either true b e = refl
-either false b e = e
-
-bytes_clear : (xs : List ℕ) → is_clear (map cleared_byte xs) ≡ true
-bytes_clear [] = refl
-bytes_clear (b ∷ xs) = rw (either (cleared_byte b == 10) (is_visible (cleared_byte b)) (visible b)) (bytes_clear xs)
-
-both_clear : (xs ys : List ℕ) → is_clear xs ≡ true → is_clear ys ≡ true → is_clear (xs ++ ys) ≡ true
-both_clear xs ys p q = list_all-append (λ b. b == 10 || is_visible b) xs ys ∙ rw p q
-
 line_clear : (text : List ℕ) → is_clear (cleared_line text) ≡ true
-line_clear text = both_clear (map cleared_byte (take 1400 text)) (10 ∷ []) (bytes_clear (take 1400 text)) refl
+line_clear text = both_clear (map visible_byte (take 1400 text)) (10 ∷ []) (bytes_clear (take 1400 text)) refl
 
 lines_clear : (fs : List Flaw) (lines : List (List ℕ)) → AllZip IsSentence fs lines → is_clear (join_lines lines) ≡ true
 lines_clear [] [] each = refl
@@ -75,7 +58,7 @@ tells_clear fs text tells =
 
 line_short : (text : List ℕ) → length (cleared_line text) ≤ 1401
 line_short text =
-    omega (arith, length-append (map cleared_byte (take 1400 text)) (10 ∷ []), length-map (take 1400 text) cleared_byte, length-take 1400 text)
+    omega (arith, length-append (map visible_byte (take 1400 text)) (10 ∷ []), length-map (take 1400 text) visible_byte, length-take 1400 text)
 
 lines_short : (fs : List Flaw) (lines : List (List ℕ)) → AllZip IsSentence fs lines → length (join_lines lines) ≤ 1401 * length fs
 lines_short [] [] each = omega arith

@@ -1,20 +1,13 @@
 -- The sentence on one fault.
-use Rattle.std.specs.Prelude.{◌≡◌, ℕ, ◌==◌, ◌&&◌, List, [], ◌∷◌, ◌++◌, Bool, map, take, nat_le, codes, decimal, if◌then◌else◌}
+use Rattle.std.specs.Prelude.{◌≡◌, ℕ, ◌==◌, List, [], ◌∷◌, ◌++◌, map, take, codes, decimal, if◌then◌else◌}
+use Rattle.yv_note_text.specs.Clear.{visible_byte}
 use Rattle.yv_data_faults.specs.Line.{kind_name, line_text, places_text}
 use Rattle.yv_data_leafrefs.specs.Place.{Place}
 use Rattle.yv_data_faults.specs.Flaw.{Flaw}
 
--- a blank, or a visible ASCII character
-abbrev pub is_visible : ℕ → Bool
-is_visible b = nat_le 32 b && nat_le b 126
-
--- any other byte as a dot
-abbrev pub cleared_byte : ℕ → ℕ
-cleared_byte b = if is_visible b then b else 46
-
 -- what a terminal is given of a text: its first 1,400 bytes
 abbrev pub clear : List ℕ → List ℕ
-clear text = map cleared_byte (take 1400 text)
+clear text = map visible_byte (take 1400 text)
 
 -- the same as a line
 abbrev pub cleared_line : List ℕ → List ℕ

@@ -1,8 +1,8 @@
 -- The sentences for a person on the faults of a document.
-use Rattle.std.specs.Prelude.{◌≡◌, ℕ, ◌-◌, ◌==◌, ◌||◌, List, [], ◌++◌, Bool, length, take, nat_lt, codes, decimal, if◌then◌else◌}
-use Rattle.std.specs.List.{AllZip, flat_map, list_all}
+use Rattle.std.specs.Prelude.{◌≡◌, ℕ, ◌-◌, List, [], ◌++◌, length, take, nat_lt, codes, decimal, if◌then◌else◌}
+use Rattle.std.specs.List.{AllZip, flat_map}
 use Rattle.yv_data_faults.specs.Flaw.{Flaw}
-use Rattle.yv_note_faults.specs.Line.{IsSentence, cleared_line, is_visible}
+use Rattle.yv_note_faults.specs.Line.{IsSentence, cleared_line}
 
 -- lines, one after the other
 abbrev pub join_lines : List (List ℕ) → List ℕ
@@ -28,7 +28,3 @@ pub record Tells (fs : List Flaw) (text : List ℕ) : Type 0 where
   pub sentences : List ℕ
   pub are : AreSentences (take 20 fs) sentences
   pub is : text ≡ sentences ++ more_text (length fs)
-
--- nothing but line feeds, blanks and visible ASCII characters
-abbrev pub is_clear : List ℕ → Bool
-is_clear text = list_all (λ b. b == 10 || is_visible b) text

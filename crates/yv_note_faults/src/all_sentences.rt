@@ -1,6 +1,7 @@
 //! Sentences on the faults of a document.
 ghost use Rattle.std.specs.Prelude.{◌≡◌, ◌<◌, ◌++◌, ◌∷◌, [], true, length, take, IfOk, OnOk, string_bytes};
-ghost use Rattle.yv_note_faults.specs.{Line.{IsSentence, cleared_line}, Sentences.{Tells, is_clear, more_line, more_text}, InnerAdds.{AddsSentences}};
+ghost use Rattle.yv_note_faults.specs.{Line.{IsSentence, cleared_line}, Sentences.{Tells, more_line, more_text}, InnerAdds.{AddsSentences}};
+ghost use Rattle.yv_note_text.specs.Clear.{is_clear};
 
 use crate::advice::advice;
 use crate::clear::push_line;

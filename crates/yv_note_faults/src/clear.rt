@@ -1,38 +1,21 @@
 //! Texts as a terminal may show them.
-ghost use Rattle.std.specs.Prelude.{◌≡◌, ◌<◌, ◌++◌, ◌∷◌, [], map, take, OnOk, string_bytes};
-ghost use Rattle.yv_note_faults.specs.Line.{is_visible, cleared_byte, clear, cleared_line};
+ghost use Rattle.std.specs.Prelude.{◌≡◌, ◌++◌, ◌∷◌, [], map, take, OnOk, string_bytes};
+ghost use Rattle.yv_note_text.specs.Clear.{visible_byte};
+ghost use Rattle.yv_note_faults.specs.Line.{clear, cleared_line};
 
 use std::alloc::AllocError;
+use yv_note_text::visible_char;
 
 /// The most bytes of a sentence.
 const MOST_BYTES: usize = 1400;
 
-// Whether a byte is a blank or a visible ASCII character.
-fn is_visible(byte: u8) -> bool
-    ensures { result ≡ is_visible byte }
-{
-    b' ' <= byte && byte <= b'~'
-}
-
-// What is shown of a byte.
-fn cleared_char(byte: u8) -> char
-    ensures value { result ≡ cleared_byte byte }
-    ensures ascii { result < 128 }
-{
-    if is_visible(byte) {
-        char::from(byte)
-    } else {
-        '.'
-    }
-}
-
 // Adds bytes, and a dot for each that isn't visible.
 fn push_bytes(text: &mut String, bytes: &[u8]) -> Result<(), AllocError>
     ensures { OnOk result
-        (string_bytes text.new ≡ string_bytes text.old ++ map cleared_byte bytes.now) }
+        (string_bytes text.new ≡ string_bytes text.old ++ map visible_byte bytes.now) }
 {
     for byte in bytes {
-        text.push(cleared_char(*byte))?;
+        text.push(visible_char(*byte))?;
     }
     Ok(())
 }

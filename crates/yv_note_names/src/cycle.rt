@@ -70,11 +70,12 @@ fn raise(numbers: &mut [usize], place: usize, number: usize) {
     }
 }
 
-// How statements lead to one another: by those of a keyword in them, and by names of features.
+// How statements lead to one another: by those of a keyword in them, and by names of features, if
+// the keyword is `if-feature`.
 #[derive(Drop)]
 struct Leads<'r, 's, 'a, 'b> {
     rows: &'r Rows<'a, 'b>,
-    features: NamePlaces<'a>,
+    features: Option<NamePlaces<'a>>,
     steps: Steps<'s, 'a>,
 }
 
@@ -85,7 +86,11 @@ impl<'r, 's, 'a, 'b> Leads<'r, 's, 'a, 'b> {
         entries: &'s [StatementEntry<'a>],
         keyword: &str,
     ) -> Result<Leads<'r, 's, 'a, 'b>, AllocError> {
-        let features = first_places(alloc, NameKind::Feature, rows)?;
+        let features = if keyword == "if-feature" {
+            Some(first_places(alloc, NameKind::Feature, rows)?)
+        } else {
+            None
+        };
         let steps = Steps::read(alloc, entries, keyword)?;
         Ok(Leads {
             rows,
@@ -97,7 +102,8 @@ impl<'r, 's, 'a, 'b> Leads<'r, 's, 'a, 'b> {
     // The feature that a name in a statement means.
     fn feature(&self, site: &Site<'s, 'a>, name: &'a str) -> Option<Site<'s, 'a>> {
         let block = self.rows.block_of(site.entry.file as usize, name)?;
-        Site::at(site.entries, self.features.get(block, local(name))?)
+        let features = self.features.as_ref()?;
+        Site::at(site.entries, features.get(block, local(name))?)
     }
 
     // Reaches the statements to which one leads: a root by those of its block, another one by those
@@ -163,7 +169,7 @@ impl<'r, 's, 'a, 'b> Leads<'r, 's, 'a, 'b> {
         if let Some(meaning) = step.meaning() {
             search.reach(&meaning, from)?;
         }
-        if step.is("if-feature") {
+        if self.features.is_some() {
             for word in words_of(alloc, step.argument())?.iter() {
                 if let Some(feature) = self.feature(step, word) {
                     search.reach(&feature, from)?;

@@ -229,7 +229,10 @@ pub fn tell_feature_name<'a>(
     telling: &mut Message<'a>,
     site: &Site<'_, 'a>,
 ) -> Result<(), AllocError> {
-    let unknown = unknown_feature(telling.alloc(), site)?.unwrap_or(site.argument());
+    let Some(unknown) = unknown_feature(telling.alloc(), site)? else {
+        telling.sentence(Code::UnknownFeature);
+        return Ok(());
+    };
     if unknown == site.argument() {
         telling.subject("The feature ", " is not defined.");
     } else {

@@ -1,4 +1,6 @@
 //! The `augment` statements by the last names of their paths.
+ghost use Rattle.std.specs.Iterator.{at_most};
+
 use std::alloc::{AllocError, Global};
 use std::collections::BTreeMap;
 use yv_note_statements::{Site, Sites, StatementEntry, last_step};
@@ -38,26 +40,54 @@ impl<'a> AugmentNames<'a> {
         Ok(AugmentNames { augments, last })
     }
 
-    /// The last of those whose path ends with a name, in order.
-    pub(crate) fn of_name<'s>(
-        &self,
-        alloc: Global,
+    /// Those whose path ends with a name, the last one first.
+    pub(crate) fn of_name<'t, 's>(
+        &'t self,
         entries: &'s [StatementEntry<'a>],
         name: &'a str,
-        most: usize,
-    ) -> Result<Vec<Site<'s, 'a>>, AllocError> {
-        let mut sites = Vec::new(alloc);
-        let mut place = self.last.get(&name).copied();
-        for _ in 0..most {
-            let Some(augment) = place.and_then(|place| self.augments.get(place)) else {
-                break;
-            };
-            if let Some(site) = Site::at(entries, augment.number) {
-                sites.push(site)?;
-            }
-            place = augment.before;
+    ) -> NamedAugments<'t, 's, 'a> {
+        NamedAugments {
+            augments: &self.augments,
+            entries,
+            next: self.last.get(&name).copied(),
+            left: self.augments.len(),
         }
-        sites.reverse();
-        Ok(sites)
+    }
+}
+
+/// Some `augment` statements, one by one.
+#[derive(Clone, Copy)]
+pub(crate) struct NamedAugments<'t, 's, 'a> {
+    augments: &'t [NamedAugment],
+    entries: &'s [StatementEntry<'a>],
+    next: Option<usize>,
+    left: usize,
+}
+
+impl<'s, 'a> NamedAugments<'_, 's, 'a> {
+    /// None of them.
+    pub(crate) fn none(entries: &'s [StatementEntry<'a>]) -> NamedAugments<'static, 's, 'a> {
+        NamedAugments {
+            augments: &[],
+            entries,
+            next: None,
+            left: 0,
+        }
+    }
+}
+
+impl<'s, 'a> Iterator for NamedAugments<'_, 's, 'a> {
+    type Item = Site<'s, 'a>;
+
+    ghost remaining = { λ s. at_most s.left };
+
+    fn next(&mut self) -> Option<Site<'s, 'a>> {
+        let augment = self.augments.get(self.next?)?;
+        if self.left == 0 {
+            return None;
+        }
+        self.left -= 1;
+        self.next = augment.before;
+        Site::at(self.entries, augment.number)
     }
 }

@@ -226,6 +226,8 @@ pub fn tell_augment<'a>(telling: &mut Message<'a>, site: &Site<'_, 'a>) -> Resul
     let nodes = nodes_below(&mut tree, &augment, Steps::Schema)?;
     if let Some(node) = unfit(&nodes, target.keyword) {
         say_unfit(telling, &node, &target);
+    } else if tree.is_spent() {
+        telling.sentence(Code::BadAugment);
     } else {
         say_mandatory(telling, &nodes, &target);
     }

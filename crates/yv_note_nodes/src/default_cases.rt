@@ -4,6 +4,7 @@ use crate::tree::Tree;
 use std::alloc::AllocError;
 use yv_link_scopes::local;
 use yv_note_statements::{Message, Site, nearest_site, say_guess};
+use yv_text_statement::Code;
 
 /// How many cases of a choice are listed.
 const MOST_CASES: usize = 8;
@@ -15,6 +16,10 @@ pub fn tell_default_case<'a>(
 ) -> Result<(), AllocError> {
     let mut tree = Tree::around(telling.alloc(), choice)?;
     let cases = nodes_below(&mut tree, choice, Steps::Schema)?;
+    if tree.is_spent() {
+        telling.sentence(Code::BadDefault);
+        return Ok(());
+    }
     let Some(default) = choice.child("default") else {
         telling.subject(
             "A `refine` gives ",

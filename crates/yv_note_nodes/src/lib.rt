@@ -1,5 +1,5 @@
-//! What is wrong with the nodes of a schema: with augments and refines, keys, paths, and nodes that
-//! can't be where they are.
+//! What is wrong with the nodes of a schema: with augments and refines, keys, paths, nodes that
+//! can't be where they are, and how many there are.
 #![tactic(auto)]
 
 mod augment_names;
@@ -11,7 +11,9 @@ mod nodes;
 mod paths;
 mod placement;
 mod tree;
+mod units;
 mod unprefixed_paths;
+mod weights;
 
 pub use augments::{tell_augment, tell_augment_target, tell_refine, tell_refine_target};
 pub use default_cases::tell_default_case;
@@ -19,3 +21,4 @@ pub use lists::{tell_key, tell_unique};
 pub use mandatory::tell_mandatory;
 pub use paths::{tell_path, tell_path_cycle};
 pub use placement::{tell_config, tell_operation, tell_second_node};
+pub use units::tell_units;

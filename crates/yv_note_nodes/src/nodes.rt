@@ -1,14 +1,9 @@
 //! The nodes of the schema that statements define.
+use crate::augment_names::NamedAugments;
 use crate::tree::Tree;
 use std::alloc::AllocError;
 use yv_link_scopes::local;
 use yv_note_statements::{Message, Site, module_of, nearest_site, say_guess};
-
-/// How many blocks are searched for the nodes of one.
-const MOST_BLOCKS: usize = 256;
-
-/// How many nodes of one are looked at.
-const MOST_NODES: usize = 10_000;
 
 /// A step of a path takes as long as so many looks at statements, beside those at nodes.
 const LOOKS_OF_STEP: usize = 10;
@@ -49,32 +44,29 @@ pub(crate) enum Steps {
     Data,
 }
 
-// The blocks in which a node has nodes: those of the `augment` statements whose path ends with its
-// name, and then its own.
-fn blocks_of<'s, 'a>(
-    tree: &Tree<'s, 'a>,
+// The `augment` statements whose nodes a node can have: those whose path ends with its name.
+fn augments_of<'t, 's, 'a>(
+    tree: &'t Tree<'s, 'a>,
     node: &Site<'s, 'a>,
-) -> Result<Vec<Site<'s, 'a>>, AllocError> {
-    let mut blocks = if node.is_root() || node.is("grouping") {
-        Vec::new(tree.alloc())
+) -> NamedAugments<'t, 's, 'a> {
+    if node.is_root() || node.is("grouping") {
+        tree.no_augments()
     } else {
-        // No others are searched, since the last ones are first.
-        tree.augments_named(node.argument(), MOST_BLOCKS)?
-    };
-    blocks.push(*node)?;
-    Ok(blocks)
+        tree.augments_named(node.argument())
+    }
 }
 
-// A search for the nodes of a node.
+// A search for the nodes of a node, or for the first one of a name.
 #[derive(Drop)]
 struct Search<'t, 's, 'a> {
     tree: &'t Tree<'s, 'a>,
     steps: Steps,
-    /// The name of the node that ends the search.
     name: Option<&'t str>,
     nodes: Vec<Site<'s, 'a>>,
-    /// The blocks that are still to be searched, the next one last.
+    /// The blocks that are still to be searched, the next one last, and after them those of
+    /// augments.
     blocks: Vec<Site<'s, 'a>>,
+    augments: NamedAugments<'t, 's, 'a>,
     /// How many statements may still be looked at.
     looks: usize,
 }
@@ -86,10 +78,10 @@ impl<'s, 'a> Search<'_, 's, 'a> {
         self.looks > 0
     }
 
-    // The nodes, and how many statements may then still be looked at.
+    // The nodes, and how many statements may then still be looked at. Each block takes some looks.
     fn run(mut self) -> Result<(Vec<Site<'s, 'a>>, usize), AllocError> {
-        for _ in 0..MOST_BLOCKS {
-            let Some(block) = self.blocks.pop() else {
+        for _ in 0..self.looks {
+            let Some(block) = self.next_block() else {
                 break;
             };
             if !self.look(LOOKS_OF_BLOCK) || self.ends_in(&block)? {
@@ -97,6 +89,14 @@ impl<'s, 'a> Search<'_, 's, 'a> {
             }
         }
         Ok((self.nodes, self.looks))
+    }
+
+    // The next block that is to be searched.
+    fn next_block(&mut self) -> Option<Site<'s, 'a>> {
+        match self.blocks.pop() {
+            Some(block) => Some(block),
+            None => self.augments.next(),
+        }
     }
 
     // Adds the nodes of a block. Whether the search ends there.
@@ -110,6 +110,14 @@ impl<'s, 'a> Search<'_, 's, 'a> {
         Ok(false)
     }
 
+    // Whether the search is for nodes of any name, or of this one's.
+    fn wants(&self, node: &Site<'s, 'a>) -> bool {
+        match self.name {
+            Some(name) => node_name(node) == name,
+            None => true,
+        }
+    }
+
     // Adds a statement of a block that is a node, or where more nodes are. Whether the search ends
     // with it.
     fn ends_at(&mut self, child: &Site<'s, 'a>) -> Result<bool, AllocError> {
@@ -117,28 +125,30 @@ impl<'s, 'a> Search<'_, 's, 'a> {
             self.blocks.push(block)?;
             return Ok(false);
         }
-        if !is_node(child) {
+        if !is_node(child) || !self.wants(child) {
             return Ok(false);
         }
         self.nodes.push(*child)?;
-        Ok(self.nodes.len() >= MOST_NODES || self.name == Some(node_name(child)))
+        Ok(self.name.is_some())
     }
 }
 
-// The nodes below a node, up to one of this name.
-fn nodes_until<'s, 'a>(
+// The nodes below a node, or the first one of this name.
+fn find_nodes<'s, 'a>(
     tree: &mut Tree<'s, 'a>,
     node: &Site<'s, 'a>,
     steps: Steps,
     name: Option<&str>,
 ) -> Result<Vec<Site<'s, 'a>>, AllocError> {
-    let blocks = blocks_of(tree, node)?;
+    let mut blocks = Vec::new(tree.alloc());
+    blocks.push(*node)?;
     let search = Search {
         tree,
         steps,
         name,
         nodes: Vec::new(tree.alloc()),
         blocks,
+        augments: augments_of(tree, node),
         looks: tree.looks(),
     };
     let (nodes, looks) = search.run()?;
@@ -147,13 +157,13 @@ fn nodes_until<'s, 'a>(
 }
 
 /// The nodes below a node or at the top of a module, those of groupings, and of augments of its
-/// name, too.
+/// name, too. Not all, if no further statement may be looked at then.
 pub(crate) fn nodes_below<'s, 'a>(
     tree: &mut Tree<'s, 'a>,
     node: &Site<'s, 'a>,
     steps: Steps,
 ) -> Result<Vec<Site<'s, 'a>>, AllocError> {
-    nodes_until(tree, node, steps, None)
+    find_nodes(tree, node, steps, None)
 }
 
 // The block whose nodes are those of the block in which this statement is.
@@ -229,8 +239,8 @@ pub(crate) fn node_below<'s, 'a>(
     if let Some(below) = tree.known_node(node, steps, name) {
         return Ok(below);
     }
-    let nodes = nodes_until(tree, node, steps, Some(name))?;
-    let below = nodes.last().copied().filter(|last| node_name(last) == name);
+    let nodes = find_nodes(tree, node, steps, Some(name))?;
+    let below = nodes.first().copied();
     if !tree.is_spent() {
         tree.keep(node, steps, name, below)?;
     }

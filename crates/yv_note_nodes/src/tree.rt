@@ -2,17 +2,14 @@
 //! look at all statements.
 ghost use Rattle.std.specs.Iterator.{at_most};
 
-use crate::augment_names::AugmentNames;
+use crate::augment_names::{AugmentNames, NamedAugments};
 use crate::nodes::Steps;
 use std::alloc::{AllocError, Global};
 use std::collections::BTreeMap;
-use yv_note_statements::{Site, StatementEntry, StatementLists};
+use yv_note_statements::{Site, StatementEntry, StatementLists, node_above, state_above};
 
 /// How many statements are looked at for a note, beside as many as there are.
 const MOST_LOOKS: usize = 500_000;
-
-/// How many nodes above one are looked at.
-const MOST_STEPS: usize = 64;
 
 /// The statements of the files, and the lists in which they are.
 #[derive(Drop)]
@@ -114,42 +111,26 @@ impl<'s, 'a> Tree<'s, 'a> {
         }
     }
 
-    /// The last of the `augment` statements whose path ends with a name, in order.
-    pub(crate) fn augments_named(
-        &self,
-        name: &'a str,
-        most: usize,
-    ) -> Result<Vec<Site<'s, 'a>>, AllocError> {
-        self.augments.of_name(self.alloc, self.entries, name, most)
+    /// The `augment` statements whose path ends with a name, the last one first.
+    pub(crate) fn augments_named(&self, name: &'a str) -> NamedAugments<'_, 's, 'a> {
+        self.augments.of_name(self.entries, name)
+    }
+
+    /// None of the `augment` statements.
+    pub(crate) fn no_augments(&self) -> NamedAugments<'_, 's, 'a> {
+        NamedAugments::none(self.entries)
     }
 
     /// The data node above a node: of one in a grouping that above its first `uses`. None for a
     /// node at the top of a module.
     pub(crate) fn node_above(&self, node: &Site<'s, 'a>) -> Option<Site<'s, 'a>> {
-        let mut at = node.parent()?;
-        for _ in 0..MOST_STEPS {
-            match at.keyword() {
-                "choice" | "case" => at = at.parent()?,
-                "grouping" => at = self.at(self.lists.first_use(at.number))?.parent()?,
-                "module" | "submodule" => return None,
-                _ => return Some(at),
-            }
-        }
-        None
+        node_above(&self.lists, node)
     }
 
     /// The nearest of a node and those above it that says whether it is state, if it says that it
     /// is.
     pub(crate) fn state_above(&self, node: &Site<'s, 'a>) -> Option<Site<'s, 'a>> {
-        let mut at = *node;
-        for _ in 0..MOST_STEPS {
-            match self.at(self.lists.config(at.number)) {
-                Some(config) if config.argument() == "false" => return Some(at),
-                Some(_) => return None,
-                None => at = self.node_above(&at)?,
-            }
-        }
-        None
+        state_above(&self.lists, node)
     }
 }
 

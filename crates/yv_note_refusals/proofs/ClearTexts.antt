@@ -1,9 +1,8 @@
 -- What is clear, and what is clear_text.
-use Rattle.std.proofs.Common.{◌≡◌, ℕ, zero, suc, ◌==◌, ◌||◌, ◌&&◌, Bool, true, false, List, [], ◌∷◌, ◌++◌, Option, Some, None, IfSome, length, map, replicate, nat_le, nat_lt, codes, if◌then◌else◌, refl, ap, ◌∙◌}
+use Rattle.std.proofs.Common.{◌≡◌, ℕ, zero, suc, ◌==◌, ◌||◌, ◌&&◌, Bool, true, false, List, [], ◌∷◌, ◌++◌, Option, Some, None, IfSome, length, map, replicate, nat_le, nat_lt, codes, if◌then◌else◌, refl, sym, ap, ◌∙◌}
 use Rattle.std.specs.List.{filter, find, slice_range}
 use Rattle.std.specs.Option.{option_and_then}
 use Rattle.std.proofs.lemmas.List.{append_assoc, map-append}
-use Rattle.std.proofs.lemmas.List.Folds.{list_all-append}
 use Rattle.yv_text_statement.specs.Codes.{name_of}
 use Rattle.yv_text_statement.specs.declared.refusal.Code.{Code}
 use Rattle.yv_text_statement.specs.declared.refusal.Code.TheVariants as code
@@ -14,13 +13,15 @@ use Rattle.yv_base_streams.specs.Files.{File}
 use Rattle.yv_note_text.specs.Excerpt.{ShowsPlace, ascii_text, begins_character, excerpt_text, shown_byte}
 use Rattle.yv_note_text.specs.Quotes.{Quotes, dots, front, in_quotes}
 use Rattle.yv_note_text.proofs.QuotedWords.{grown, named_behind}
-use Rattle.yv_note_refusals.specs.Clear.{clear_text, cleared_byte, is_clear, is_clear_byte}
+use Rattle.yv_note_text.specs.Clear.{is_clear, is_clear_byte, is_visible, visible_byte}
+use Rattle.yv_note_text.proofs.ClearTexts.{both_clear, byte_visible, either}
+use Rattle.yv_note_refusals.specs.Clear.{clear_text, cleared_byte}
 use Rattle.yv_note_refusals.specs.Explanations.{Speaks, names_row, names_syntax}
 use Rattle.yv_note_refusals.specs.Subject.{is_at, subject}
 
-either : (a b : Bool) → b ≡ true → (a || b) ≡ true
-either true b e = refl
-either false b e = e
+first_of_either : (a b : Bool) → a ≡ true → (a || b) ≡ true
+first_of_either true b e = refl
+first_of_either false b e = absurd (cc)
 
 both : (a b : Bool) → a ≡ true → b ≡ true → (a && b) ≡ true
 both a b e f = rw e f
@@ -36,14 +37,22 @@ second_of_both false b e = absurd (cc)
 -- ### single bytes
 
 byte_cleared : (b : ℕ) → is_clear_byte (cleared_byte b) ≡ true
-byte_cleared b = cases (is_clear_byte b) refl
+byte_cleared b = cases (b == 10) refl
   where
-    cases : (v : Bool) → is_clear_byte b ≡ v → is_clear_byte (cleared_byte b) ≡ true
-    cases true e = let same : cleared_byte b ≡ b = rw e refl in rw same e
-    cases false e = let same : cleared_byte b ≡ 46 = rw e refl in rw same refl
+    cases : (v : Bool) → (b == 10) ≡ v → is_clear_byte (cleared_byte b) ≡ true
+    cases true e = let same : cleared_byte b ≡ b = rw e refl in rw same (first_of_either (b == 10) (is_visible b) e)
+    cases false e = let same : cleared_byte b ≡ visible_byte b = rw e refl in rw same (either (visible_byte b == 10) (is_visible (visible_byte b)) (byte_visible b))
 
 byte_same : (b : ℕ) → is_clear_byte b ≡ true → cleared_byte b ≡ b
-byte_same b e = rw e refl
+byte_same b e = cases (b == 10) refl (is_visible b) refl
+  where
+    cases : (v : Bool) → (b == 10) ≡ v → (w : Bool) → is_visible b ≡ w → cleared_byte b ≡ b
+    cases true f w g = rw f refl
+    cases false f true g = rw (f, g) refl
+    cases false f false g =
+        let unclear : is_clear_byte b ≡ false = rw (f, g) refl in
+        let no : false ≡ true = sym unclear ∙ e in
+        absurd (cc)
 
 byte_shown : (b : ℕ) → is_clear_byte (shown_byte b) ≡ true
 byte_shown b = cases (nat_le 32 b && nat_le b 126) refl (b == 9 || b == 13) refl
@@ -63,9 +72,6 @@ text_same : (xs : List ℕ) → is_clear xs ≡ true → clear_text xs ≡ xs
 text_same [] e = refl
 text_same (b ∷ xs) e =
     ap (λ (x : ℕ). x ∷ clear_text xs) (byte_same b (first_of_both (is_clear_byte b) (is_clear xs) e)) ∙ ap (λ (ys : List ℕ). b ∷ ys) (text_same xs (second_of_both (is_clear_byte b) (is_clear xs) e))
-
-pub both_clear : (xs ys : List ℕ) → is_clear xs ≡ true → is_clear ys ≡ true → is_clear (xs ++ ys) ≡ true
-both_clear xs ys p q = list_all-append is_clear_byte xs ys ∙ rw p q
 
 shown_clear : (xs : List ℕ) → is_clear (map shown_byte xs) ≡ true
 shown_clear [] = refl

@@ -1,6 +1,5 @@
 //! The cause of a refusal at a statement.
 use crate::refusal_text::Bounds;
-use crate::units::tell_units;
 use std::alloc::AllocError;
 use yv_link_scopes::Rows;
 use yv_note_names::{
@@ -11,7 +10,7 @@ use yv_note_names::{
 use yv_note_nodes::{
     tell_augment, tell_augment_target, tell_config, tell_default_case, tell_key, tell_mandatory,
     tell_operation, tell_path, tell_path_cycle, tell_refine, tell_refine_target, tell_second_node,
-    tell_unique,
+    tell_unique, tell_units,
 };
 use yv_note_patterns::tell_pattern;
 use yv_note_statements::{Message, Site};
@@ -35,7 +34,7 @@ impl<'a> Refused<'_, '_, 'a, '_> {
             1 | 2 => self.tell_form(telling),
             3 => return self.tell_module(telling),
             4..=6 => return self.tell_name(telling),
-            7 => return tell_units(telling, self.rows, self.bounds, self.site.entries),
+            7 => return self.tell_units(telling),
             _ => return self.tell_schema(telling),
         }
         Ok(())
@@ -92,6 +91,12 @@ impl<'a> Refused<'_, '_, 'a, '_> {
         };
         telling.sentence(self.code);
         tell_cycle(telling, self.rows, &self.site, keyword)
+    }
+
+    // The same, of the number of nodes.
+    fn tell_units(&self, telling: &mut Message<'a>) -> Result<(), AllocError> {
+        let Bounds { selection, limit } = *self.bounds;
+        tell_units(telling, self.rows, selection, limit, self.site.entries)
     }
 
     // The same, of refines and augments, of types, and of the nodes of the schema.

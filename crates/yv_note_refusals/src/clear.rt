@@ -1,25 +1,19 @@
 //! Texts as a terminal may show them.
 ghost use Rattle.std.specs.Prelude.{◌≡◌, ◌<◌, ◌++◌, map, OnOk, string_bytes};
-ghost use Rattle.yv_note_refusals.specs.Clear.{clear_text, cleared_byte, is_clear_byte};
+ghost use Rattle.yv_note_refusals.specs.Clear.{clear_text, cleared_byte};
 
 use std::alloc::AllocError;
+use yv_note_text::visible_char;
 
-// Whether a byte is a line feed, a blank or a visible ASCII character.
-fn is_clear(byte: u8) -> bool
-    ensures { result ≡ is_clear_byte byte }
-{
-    byte == b'\n' || b' ' <= byte && byte <= b'~'
-}
-
-// What is shown of a byte.
+// What is shown of a byte: line feeds stay.
 fn cleared_char(byte: u8) -> char
     ensures value { result ≡ cleared_byte byte }
     ensures ascii { result < 128 }
 {
-    if is_clear(byte) {
-        char::from(byte)
+    if byte == b'\n' {
+        '\n'
     } else {
-        '.'
+        visible_char(byte)
     }
 }
 

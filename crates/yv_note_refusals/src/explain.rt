@@ -1,8 +1,8 @@
 //! What helps a person to fix a file that is refused.
 ghost use Rattle.std.specs.Prelude.{map, string_bytes, true, OnOk, IfOk, slice_get, ◌≡◌};
 ghost use Rattle.yv_base_streams.specs.Files.{file_of};
-ghost use Rattle.yv_note_refusals.specs.{Clear.{is_clear}, Explanations.{Explains, Speaks, bytes_at}};
-ghost use Rattle.yv_note_text.specs.Quotes.{Extends};
+ghost use Rattle.yv_note_refusals.specs.{Explanations.{Explains, Speaks, bytes_at}};
+ghost use Rattle.yv_note_text.specs.{Clear.{is_clear}, Quotes.{Extends}};
 
 use crate::clear::push_clear;
 use crate::refusal_text::{Bounds, push_sentence};

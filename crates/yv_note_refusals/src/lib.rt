@@ -6,7 +6,6 @@ mod cause;
 mod clear;
 mod explain;
 mod refusal_text;
-mod units;
 mod words;
 
 pub use explain::explanation;

@@ -131,7 +131,7 @@ fn missing_substatement(site: &Site<'_, '_>) -> Option<&'static str> {
 
 // The first of a block's statements whose keyword means nothing, and is like one that is needed.
 fn misspelt<'s, 'a>(site: &Site<'s, 'a>, needed: &str) -> Option<Site<'s, 'a>> {
-    next_sites(site).find(|inner| is_misspelt(inner.keyword(), needed) && inner.is_right_in(site))
+    next_sites(site).find(|inner| inner.is_right_in(site) && is_misspelt(inner.keyword(), needed))
 }
 
 // Whether a keyword means nothing, and is like one that is needed.

@@ -3,14 +3,16 @@ use Rattle.std.proofs.Common.{◌≡◌, ℕ, ◌==◌, ◌||◌, Bool, true, fa
 use Rattle.std.proofs.lemmas.List.Folds.{list_all-append}
 use Rattle.yv_note_text.specs.Clear.{is_clear, is_clear_byte, is_visible, visible_byte}
 
-byte_visible : (b : ℕ) → is_visible (visible_byte b) ≡ true
+-- what is shown of a byte is visible
+pub byte_visible : (b : ℕ) → is_visible (visible_byte b) ≡ true
 byte_visible b = cases (is_visible b) refl
   where
     cases : (v : Bool) → is_visible b ≡ v → is_visible (visible_byte b) ≡ true
     cases true e = let same : visible_byte b ≡ b = rw e refl in rw same e
     cases false e = let same : visible_byte b ≡ 46 = rw e refl in rw same refl
 
-either : (a b : Bool) → b ≡ true → (a || b) ≡ true
+-- one of two that holds
+pub either : (a b : Bool) → b ≡ true → (a || b) ≡ true
 either true b e = refl
 either false b e = e
 

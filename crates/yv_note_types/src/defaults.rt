@@ -3,7 +3,7 @@ use crate::same_values::first_repeated;
 use crate::unread_texts::first_unread;
 use crate::values::say_values;
 use std::alloc::{AllocError, Global};
-use yv_note_statements::{Message, Site, Sites, chain, last_step, state_above};
+use yv_note_statements::{Message, Site, Sites, StatementLists, chain, last_step, state_above};
 use yv_text_statement::Code;
 
 /// How many defaults a leaf-list has at most.
@@ -145,7 +145,7 @@ fn tell_values<'a>(
         return say_values(telling, types, &default);
     }
     match first_repeated(telling.alloc(), types, defaults)? {
-        Some((first, second)) if state_above(node).is_none() => {
+        Some((first, second)) if !is_state(telling.alloc(), node)? => {
             say_same(telling, &first, &second);
         }
         _ => telling.subject(
@@ -154,6 +154,12 @@ fn tell_values<'a>(
         ),
     }
     Ok(())
+}
+
+// Whether a node is state.
+fn is_state(alloc: Global, node: &Site<'_, '_>) -> Result<bool, AllocError> {
+    let lists = StatementLists::read(alloc, node.entries)?;
+    Ok(state_above(&lists, node).is_some())
 }
 
 // Adds that two defaults are the same value.

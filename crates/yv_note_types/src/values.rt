@@ -3,7 +3,7 @@ use crate::derived_identities::derived_from;
 use crate::restrictions::{digits_of, limits_of};
 use crate::unread_texts::unknown_bit;
 use std::alloc::{AllocError, Global};
-use yv_note_statements::{Guess, Message, Site, is_among, prefix_of_module, say_guess};
+use yv_note_statements::{Guess, Message, Site, prefix_of_module, say_guess};
 
 /// How many names of a type are listed.
 const MOST_NAMES: usize = 8;
@@ -76,16 +76,38 @@ fn digits_in(chain: &[Site<'_, '_>]) -> Option<u32> {
     digits_of(chain.last()?)
 }
 
-// Adds the restrictions along a chain of types.
-fn say_restrictions<'a>(telling: &mut Message<'a>, chain: &[Site<'_, 'a>]) {
+// The restrictions along a chain of types.
+fn restrictions_of<'s, 'a>(
+    alloc: Global,
+    chain: &[Site<'s, 'a>],
+) -> Result<Vec<Site<'s, 'a>>, AllocError> {
+    let mut restrictions = Vec::new(alloc);
     for site in chain {
         for child in site.children() {
-            if is_among(child.keyword(), "range length pattern") {
-                telling.head(", with the ", child.keyword(), Some(child.argument()), "");
+            if matches!(child.keyword(), "range" | "length" | "pattern") {
+                restrictions.push(child)?;
             }
         }
     }
+    Ok(restrictions)
+}
+
+// Adds the restrictions along a chain of types, the first of them and how many more there are.
+fn say_restrictions<'a>(
+    telling: &mut Message<'a>,
+    chain: &[Site<'_, 'a>],
+) -> Result<(), AllocError> {
+    let restrictions = restrictions_of(telling.alloc(), chain)?;
+    for restriction in restrictions.iter().take(MOST_NAMES) {
+        let argument = Some(restriction.argument());
+        telling.head(", with the ", restriction.keyword(), argument, "");
+    }
+    let more = restrictions.len().saturating_sub(MOST_NAMES);
+    if more > 0 {
+        telling.count(", and with ", more as u64, " more restrictions");
+    }
     telling.say(".");
+    Ok(())
 }
 
 // The items of the nearest type that has some.
@@ -147,7 +169,7 @@ pub(crate) fn say_values<'a>(
             } else {
                 ""
             });
-            say_restrictions(telling, chain);
+            return say_restrictions(telling, chain);
         }
         built_in => say_range(telling, chain, built_in),
     }

@@ -2,7 +2,8 @@ use Rattle.std.proofs.Common.{rules, ◌≡◌, ℕ, List, length, map, string_b
 use Rattle.yv_text_statement.specs.Codes.{name_of}
 use Rattle.yv_base_streams.specs.Files.{File, file_of}
 use Rattle.yv_note_text.specs.Excerpt.{ShowsPlace}
-use Rattle.yv_note_refusals.specs.Clear.{clear_text, is_clear}
+use Rattle.yv_note_text.specs.Clear.{is_clear}
+use Rattle.yv_note_refusals.specs.Clear.{clear_text}
 use Rattle.yv_note_refusals.specs.Explanations.{Explains, Speaks}
 use Rattle.yv_note_refusals.proofs.ClearTexts.{joined, name_clear, place_clear, said_clear, speaks_cleared}
 use Rattle.yv_note_refusals.proofs.NoteExtension.{speaks_longer}

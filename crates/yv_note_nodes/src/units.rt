@@ -1,11 +1,9 @@
 //! How many nodes and uses modules expand to.
-use crate::refusal_text::Bounds;
+use crate::weights::Weights;
 use std::alloc::{AllocError, Global};
-use yv_expand::Units;
-use yv_link_definitions::names;
 use yv_link_scopes::{Entry, Rows};
 use yv_note_statements::{Message, Site, StatementEntry};
-use yv_text_statement::{Code, Selection, Stop};
+use yv_text_statement::{Code, Selection};
 
 /// The highest limit that may be asked for.
 const HIGHEST_LIMIT: u64 = 1_000_000;
@@ -41,19 +39,13 @@ struct Count {
     uses: Option<(usize, u64)>,
 }
 
-// How many units the implemented modules expand to, or 2 to the 64 less one if these are more. None
-// if names mean nothing.
+// How many units the implemented modules expand to, or 2 to the 64 less one if these are more.
 fn count_of(
     alloc: Global,
     rows: &Rows<'_, '_>,
     selection: &Selection,
-) -> Result<Option<Count>, AllocError> {
-    let names = match names(alloc, rows) {
-        Ok(names) => names,
-        Err(Stop::NoMemory) => return Err(AllocError),
-        Err(_) => return Ok(None),
-    };
-    let units = Units::read(alloc, rows, &names)?;
+    weights: &Weights<'_, '_, '_>,
+) -> Result<Count, AllocError> {
     let marks = marks(alloc, rows, selection)?;
     let mut count = Count {
         total: 0,
@@ -63,21 +55,25 @@ fn count_of(
     };
     for (number, entry) in rows.entries().iter().enumerate() {
         if is_counted(&marks, number, entry) {
-            add(&mut count, number, units.weight(number));
+            add(&mut count, number, weights.weight(number));
         }
     }
-    count.uses = largest_uses(rows, &units, count.largest);
-    Ok(Some(count))
+    count.uses = largest_uses(rows, weights, count.largest);
+    Ok(count)
 }
 
 // The first `uses` of those in a statement, or that statement, that expands to most units.
-fn largest_uses(rows: &Rows<'_, '_>, units: &Units, around: usize) -> Option<(usize, u64)> {
+fn largest_uses(
+    rows: &Rows<'_, '_>,
+    weights: &Weights<'_, '_, '_>,
+    around: usize,
+) -> Option<(usize, u64)> {
     let mut largest: Option<(usize, u64)> = None;
     for (number, entry) in rows.entries().iter().enumerate().skip(around) {
         if number > around && entry.scope < around {
             break;
         }
-        let weight = units.weight(number);
+        let weight = weights.weight(number);
         if entry.statement.keyword() == "uses" && is_more(weight, largest) {
             largest = Some((number, weight));
         }
@@ -100,22 +96,23 @@ fn add(count: &mut Count, number: usize, weight: u64) {
 
 /// Adds how many nodes and uses the implemented modules expand to, where most of them are, and what
 /// the limit is.
-pub(crate) fn tell_units<'a>(
+pub fn tell_units<'a>(
     telling: &mut Message<'a>,
     rows: &Rows<'a, '_>,
-    bounds: &Bounds<'_>,
+    selection: &Selection,
+    limit: u32,
     entries: &[StatementEntry<'a>],
 ) -> Result<(), AllocError> {
     telling.sentence(Code::TooManyNodes);
-    if let Some(count) = count_of(telling.alloc(), rows, bounds.selection)? {
-        say_count(telling, &count, bounds.limit);
-        if let Some(largest) = Site::at(entries, count.largest) {
-            telling.statement_at(" Most are in the ", &largest, "");
-            telling.count(": ", count.most, or_more(count.most));
-            telling.say(".");
-        }
-        say_uses(telling, entries, count.uses);
+    let weights = Weights::read(telling.alloc(), rows.entries(), entries)?;
+    let count = count_of(telling.alloc(), rows, selection, &weights)?;
+    say_count(telling, &count, limit);
+    if let Some(largest) = Site::at(entries, count.largest) {
+        telling.statement_at(" Most are in the ", &largest, "");
+        telling.count(": ", count.most, or_more(count.most));
+        telling.say(".");
     }
+    say_uses(telling, entries, count.uses);
     Ok(())
 }
 
