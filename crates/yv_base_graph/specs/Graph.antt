@@ -56,15 +56,19 @@ pub record AreRanks (g : Graph) (ranks : List ℕ) : Type 0 where
   pub each : length ranks ≡ length g
   pub falls : (a b : ℕ) → HasEdge g a b → slice_index ranks b < slice_index ranks a
 
--- all nodes, each once and after all that it leads to
-pub record IsOrder (g : Graph) (order : List ℕ) : Type 0 where
-  pub each : length order ≡ length g
-  pub within : All (λ a. a < length g) order
-  pub stands : (a : ℕ) → a < length g → Contains order a
+-- numbers below a count: all of them, each once, and each after all that it leads to
+pub record IsOrderBy (Leads : ℕ → ℕ → Type 0) (count : ℕ) (order : List ℕ) : Type 0 where
+  pub each : length order ≡ count
+  pub within : All (λ a. a < count) order
+  pub stands : (a : ℕ) → a < count → Contains order a
   pub once : (i j : ℕ) → i < length order → j < length order
       → slice_index order i ≡ slice_index order j → i ≡ j
-  pub behind : (i b : ℕ) → i < length order → LeadsTo g (slice_index order i) b
+  pub behind : (i b : ℕ) → i < length order → Leads (slice_index order i) b
       → Contains (take i order) b
+
+-- all nodes, each once and after all that it leads to
+abbrev pub IsOrder : Graph → List ℕ → Type 0
+IsOrder g order = IsOrderBy (LeadsTo g) (length g) order
 
 -- the rank of a node is its place in the order
 pub record ArePlaces (ranks order : List ℕ) : Type 0 where

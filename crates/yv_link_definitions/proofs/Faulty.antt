@@ -48,6 +48,7 @@ module _ (files : Briefs) (rows : List Row) (g : Graph) (steps : AreSteps files 
 
   pub order_of : (order : List ℕ) → IsOrder g order → IsOrderOf files rows order
   order_of order o = record {
+    each = o.each ∙ steps.each;
     within = subst (λ n. All (λ a. a < n) order) steps.each o.within;
     stands = λ a l. o.stands a (omega (arith, l, steps.each));
     once = o.once;

@@ -1,6 +1,6 @@
 -- Which typedefs and groupings lead to which.
-use Rattle.std.specs.Prelude.{◌≡◌, ℕ, ◌<◌, not, Bool, true, false, List, length, take, Some, slice_get, slice_index}
-use Rattle.std.specs.List.{All, Contains}
+use Rattle.std.specs.Prelude.{◌≡◌, ℕ, not, Bool, true, false, List, length, Some, slice_get}
+use Rattle.yv_base_graph.specs.Graph.{IsOrderBy}
 use Rattle.yv_link_scopes.specs.Files.{Briefs}
 use Rattle.yv_link_scopes.specs.Rows.{Row}
 use Rattle.yv_link_scopes.specs.declared.kind.NameKind.{NameKind}
@@ -35,10 +35,5 @@ pub data LeadsTo (files : Briefs) (rows : List Row) : ℕ → ℕ → Type 0 whe
   by_way : {k a b c : ℕ} → Joins files rows k a b → LeadsTo files rows b c → LeadsTo files rows a c
 
 -- all statements, each once and after all that it leads to
-pub record IsOrderOf (files : Briefs) (rows : List Row) (order : List ℕ) : Type 0 where
-  pub within : All (λ a. a < length rows) order
-  pub stands : (a : ℕ) → a < length rows → Contains order a
-  pub once : (i j : ℕ) → i < length order → j < length order
-      → slice_index order i ≡ slice_index order j → i ≡ j
-  pub behind : (i b : ℕ) → i < length order → LeadsTo files rows (slice_index order i) b
-      → Contains (take i order) b
+abbrev pub IsOrderOf : Briefs → List Row → List ℕ → Type 0
+IsOrderOf files rows order = IsOrderBy (LeadsTo files rows) (length rows) order

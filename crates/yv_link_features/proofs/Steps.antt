@@ -182,6 +182,7 @@ module _ (means : Meaning) (rows : List Row) where
 
     pub order_of : (order : List ℕ) → IsOrder g order → IsOrderOf means rows order
     order_of order o = record {
+      each = o.each ∙ graph_len;
       within = subst (λ n. All (λ a. a < n) order) graph_len o.within;
       stands = λ a l. o.stands a (omega (arith, l, graph_len));
       once = o.once;

@@ -1,10 +1,11 @@
 -- Only private clauses cite this: the conditions of each statement, and what each depends on, as
 -- lists of numbers.
-use Rattle.std.specs.Prelude.{◌≡◌, ◌↔◌, ℕ, ◌<◌, true, List, [], ◌∷◌, ◌++◌, length, map, take, Option, Some, None}
-use Rattle.std.specs.Prelude.{slice_get, slice_index, slice_index_or}
-use Rattle.std.specs.List.{All, Contains}
+use Rattle.std.specs.Prelude.{◌≡◌, ◌↔◌, ℕ, ◌<◌, true, List, [], ◌∷◌, ◌++◌, length, map, Option, Some, None}
+use Rattle.std.specs.Prelude.{slice_get, slice_index_or}
+use Rattle.std.specs.List.{Contains}
 use Rattle.std.specs.declared.vec.Vec.{Vec}
 use Rattle.std.specs.declared.alloc.Global.{Global}
+use Rattle.yv_base_graph.specs.Graph.{IsOrderBy}
 use Rattle.yv_text_if_feature.specs.Tokens.{tokens}
 use Rattle.yv_link_scopes.specs.Rows.{Row, name_in}
 use Rattle.yv_link_features.specs.Meaning.{Meaning}
@@ -55,10 +56,5 @@ abbrev pub AllTrue : Meaning → List Row → Assignment → List ℕ → Type 0
 AllTrue means rows on conditions = (i : ℕ) → Contains conditions i → IsTrueAt means rows on i
 
 -- all statements, each once and after all that it leads to
-pub record IsOrderOf (means : Meaning) (rows : List Row) (order : List ℕ) : Type 0 where
-  pub within : All (λ a. a < length rows) order
-  pub stands : (a : ℕ) → a < length rows → Contains order a
-  pub once : (i j : ℕ) → i < length order → j < length order
-      → slice_index order i ≡ slice_index order j → i ≡ j
-  pub behind : (i b : ℕ) → i < length order → LeadsTo means rows (slice_index order i) b
-      → Contains (take i order) b
+abbrev pub IsOrderOf : Meaning → List Row → List ℕ → Type 0
+IsOrderOf means rows order = IsOrderBy (LeadsTo means rows) (length rows) order

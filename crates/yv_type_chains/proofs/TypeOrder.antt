@@ -163,6 +163,7 @@ module _ (files : Briefs) (rows : List Row) (follows : List (Option ℕ)) (g : G
 
   pub order_of : (order : List ℕ) → IsOrder g order → IsOrderOfAll files rows order
   order_of order o = record {
+    each = o.each ∙ steps.each;
     within = subst (λ n. All (λ a. a < n) order) steps.each o.within;
     stands = λ a l. o.stands a (let each = steps.each in omega (arith, l, each));
     once = o.once;

@@ -1,5 +1,5 @@
 -- Only private clauses cite this: the code's keywords, and its pairs of a type and a keyword.
-use Rattle.std.specs.Prelude.{ℕ, ◌&&◌, Bool, true, false, List}
+use Rattle.std.specs.Prelude.{ℕ, ◌&&◌, Bool, List, [], ◌∷◌}
 use Rattle.std.specs.List.{list_any}
 use Rattle.std.specs.Str.{bytes_eq}
 use Rattle.yv_text_statement.specs.Keywords.{same}
@@ -24,10 +24,6 @@ is_in_pair pairs kind = list_any (λ p. bytes_eq p.0 kind) pairs
 
 -- a type may need a substatement of this keyword
 abbrev pub may_be_needed : Keyword → Bool
-may_be_needed word.FractionDigits = true
-may_be_needed word.Enum = true
-may_be_needed word.Bit = true
-may_be_needed word.Base = true
-may_be_needed word.Path = true
-may_be_needed word.Type = true
-may_be_needed _ = false
+may_be_needed keyword =
+    is_one_of (word.FractionDigits ∷ word.Enum ∷ word.Bit ∷ word.Base ∷ word.Path ∷ word.Type ∷ [])
+    keyword
