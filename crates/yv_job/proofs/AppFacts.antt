@@ -6,7 +6,8 @@ use Rattle.clap.specs.declared.error.Error.{Error}
 use Rattle.clap.proofs.OnLiterals.{clap_on_literals}
 use Rattle.yv_job.specs.CommandLine.{yangcheck_app}
 use Rattle.yv_job.specs.Asks.{IsAsked}
-use Rattle.yv_job.specs.Jobs.{CommandAsked, Compiles, Draws, Checks}
+use Rattle.yv_job.specs.Jobs.{Compiles, Draws, Checks}
+use Rattle.yv_job.specs.Requests.{ActionAsked, Lists, Does}
 
 pub app_simple : is_simple yangcheck_app ≡ true
 unfolding clap_on_literals
@@ -30,12 +31,14 @@ matches_here a words r e kinds matches =
     (subst (λ b. IfOk r (HasMatchesOf b words)) e matches)
 
 -- a command that lacks its name is none
-pub no_module : (name : Text) (rows : List Row) → name ≡ codes "tree" → None ≡ first_of (codes "module") rows → (a : CommandAsked) → IsAsked name rows a → ⊥
-no_module name rows e f Compiles h = let g : codes "compile" ≡ codes "tree" = sym h ∙ e in cc
-no_module name rows e f (Draws m) h = let g : None ≡ Some m = f ∙ h.1 in cc
-no_module name rows e f (Checks d) h = let g : codes "validate" ≡ codes "tree" = sym h.0 ∙ e in cc
+pub no_module : (name : Text) (rows : List Row) → name ≡ codes "tree" → None ≡ first_of (codes "module") rows → (a : ActionAsked) → IsAsked name rows a → ⊥
+no_module name rows e f Lists h = let g : codes "files" ≡ codes "tree" = sym h ∙ e in cc
+no_module name rows e f (Does Compiles) h = let g : codes "compile" ≡ codes "tree" = sym h ∙ e in cc
+no_module name rows e f (Does (Draws m)) h = let g : None ≡ Some m = f ∙ h.1 in cc
+no_module name rows e f (Does (Checks d)) h = let g : codes "validate" ≡ codes "tree" = sym h.0 ∙ e in cc
 
-pub no_data : (name : Text) (rows : List Row) → name ≡ codes "validate" → None ≡ first_of (codes "data") rows → (a : CommandAsked) → IsAsked name rows a → ⊥
-no_data name rows e f Compiles h = let g : codes "compile" ≡ codes "validate" = sym h ∙ e in cc
-no_data name rows e f (Draws m) h = let g : codes "tree" ≡ codes "validate" = sym h.0 ∙ e in cc
-no_data name rows e f (Checks d) h = let g : None ≡ Some d = f ∙ h.1 in cc
+pub no_data : (name : Text) (rows : List Row) → name ≡ codes "validate" → None ≡ first_of (codes "data") rows → (a : ActionAsked) → IsAsked name rows a → ⊥
+no_data name rows e f Lists h = let g : codes "files" ≡ codes "validate" = sym h ∙ e in cc
+no_data name rows e f (Does Compiles) h = let g : codes "compile" ≡ codes "validate" = sym h ∙ e in cc
+no_data name rows e f (Does (Draws m)) h = let g : codes "tree" ≡ codes "validate" = sym h.0 ∙ e in cc
+no_data name rows e f (Does (Checks d)) h = let g : None ≡ Some d = f ∙ h.1 in cc

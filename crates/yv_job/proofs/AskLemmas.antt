@@ -1,4 +1,4 @@
--- No words ask for two tasks: each part of a task is determined by what clap matched.
+-- No words ask for two requests: each part of a request is determined by what clap matched.
 use Rattle.std.proofs.Common.{◌≡◌, ◌<◌, ◌++◌, ℕ, List, [], ◌∷◌, length, map, codes, refl, sym, ap, ap₂, subst, ◌∙◌, arith, Option, Some, None}
 use Rattle.std.specs.List.{AllByRecursion, slice_split, join_with_byte}
 use Rattle.std.proofs.lemmas.List.{append_cancel_left}
@@ -6,25 +6,38 @@ use Rattle.std.proofs.lemmas.List.Elements.{recursion_from_All}
 use Rattle.std.proofs.lemmas.List.Splits.{slice_split_at}
 use Rattle.std.proofs.Math.Dec.{eqb}
 use Rattle.clap.specs.Words.{Text, Row, subcommand_of}
-use Rattle.yv_job.specs.Asks.{IsAsked, IsLimit, IsSupportFor, IsImportsFor, IsKindFor, IsChoice, IsFiles, Asks, AsksIn, WordsAsk}
+use Rattle.yv_job.specs.Asks.{IsCommand, IsAsked, IsFolders, IsLimit, IsSupportFor, IsImportsFor, IsKindFor, IsChoice, IsFiles, Asks, AsksIn, WordsAsk}
 use Rattle.yv_job.specs.CommandLine.{yangcheck_app}
-use Rattle.yv_job.specs.Jobs.{Task, CommandAsked, Compiles, Draws, Checks}
+use Rattle.yv_job.specs.Jobs.{CommandAsked, Compiles, Draws, Checks}
+use Rattle.yv_job.specs.Requests.{ActionAsked, Lists, Does, RequestAsked}
 use Rattle.yv_text_statement.specs.Selection.{ModuleChoice, Entry}
 use Rattle.yv_text_statement.specs.declared.document_kind.Kind.{Kind}
 use Rattle.yv_text_statement.specs.declared.document_kind.Kind.TheVariants.{All, ConfigOnly}
 use Rattle.yv_job.specs.Names.{JoinsNames, IsNames, IsIdentifier, HasIdentifiers, entry_text}
 use Rattle.yv_job.proofs.NameLemmas.{free_name, split_names, split_entries}
 
-same_asked : (name : Text) (rows : List Row) (a b : CommandAsked) → IsAsked name rows a → IsAsked name rows b → a ≡ b
-same_asked name rows Compiles Compiles h i = refl
-same_asked name rows Compiles (Draws m) h i = let e : codes "compile" ≡ codes "tree" = sym h ∙ i.0 in cc
-same_asked name rows Compiles (Checks f) h i = let e : codes "compile" ≡ codes "validate" = sym h ∙ i.0 in cc
-same_asked name rows (Draws m) Compiles h i = let e : codes "compile" ≡ codes "tree" = sym i ∙ h.0 in cc
-same_asked name rows (Draws m) (Draws n) h i = let e : Some m ≡ Some n = sym h.1 ∙ i.1 in cc
-same_asked name rows (Draws m) (Checks f) h i = let e : codes "tree" ≡ codes "validate" = sym h.0 ∙ i.0 in cc
-same_asked name rows (Checks f) Compiles h i = let e : codes "compile" ≡ codes "validate" = sym i ∙ h.0 in cc
-same_asked name rows (Checks f) (Draws m) h i = let e : codes "tree" ≡ codes "validate" = sym i.0 ∙ h.0 in cc
-same_asked name rows (Checks f) (Checks g) h i = let e : Some f ≡ Some g = sym h.1 ∙ i.1 in cc
+same_command : (name : Text) (rows : List Row) (a b : CommandAsked) → IsCommand name rows a → IsCommand name rows b → a ≡ b
+same_command name rows Compiles Compiles h i = refl
+same_command name rows Compiles (Draws m) h i = let e : codes "compile" ≡ codes "tree" = sym h ∙ i.0 in cc
+same_command name rows Compiles (Checks f) h i = let e : codes "compile" ≡ codes "validate" = sym h ∙ i.0 in cc
+same_command name rows (Draws m) Compiles h i = let e : codes "compile" ≡ codes "tree" = sym i ∙ h.0 in cc
+same_command name rows (Draws m) (Draws n) h i = let e : Some m ≡ Some n = sym h.1 ∙ i.1 in cc
+same_command name rows (Draws m) (Checks f) h i = let e : codes "tree" ≡ codes "validate" = sym h.0 ∙ i.0 in cc
+same_command name rows (Checks f) Compiles h i = let e : codes "compile" ≡ codes "validate" = sym i ∙ h.0 in cc
+same_command name rows (Checks f) (Draws m) h i = let e : codes "tree" ≡ codes "validate" = sym i.0 ∙ h.0 in cc
+same_command name rows (Checks f) (Checks g) h i = let e : Some f ≡ Some g = sym h.1 ∙ i.1 in cc
+
+-- the command `files` is no other
+not_files : (name : Text) (rows : List Row) (c : CommandAsked) → name ≡ codes "files" → IsCommand name rows c → ⊥
+not_files name rows Compiles e h = let f : codes "compile" ≡ codes "files" = sym h ∙ e in cc
+not_files name rows (Draws m) e h = let f : codes "tree" ≡ codes "files" = sym h.0 ∙ e in cc
+not_files name rows (Checks d) e h = let f : codes "validate" ≡ codes "files" = sym h.0 ∙ e in cc
+
+same_asked : (name : Text) (rows : List Row) (a b : ActionAsked) → IsAsked name rows a → IsAsked name rows b → a ≡ b
+same_asked name rows Lists Lists h i = refl
+same_asked name rows Lists (Does c) h i = absurd (not_files name rows c h i)
+same_asked name rows (Does c) Lists h i = absurd (not_files name rows c i h)
+same_asked name rows (Does c) (Does d) h i = ap (λ x. Does x) (same_command name rows c d h i)
 
 same_files : (rows : List Row) (fs gs : List Text) → IsFiles rows fs → IsFiles rows gs → fs ≡ gs
 same_files rows fs gs h i = let e : Some fs ≡ Some gs = sym h.given ∙ i.given in cc
@@ -99,20 +112,21 @@ same_choice rows c d h i =
     ap₂ (λ (s : List Entry) (n : List (List ℕ)). record { support = s; imports = n })
     (same_support _ c.support d.support h.support i.support) (same_imports _ c.imports d.imports h.imports i.imports)
 
-same_task : (name : Text) (rows : List Row) (t u : Task) → Asks name rows t → Asks name rows u → t ≡ u
-same_task name rows t u h i =
-    let asked = same_asked name rows t.asked u.asked h.asked i.asked in
-    let files = same_files rows t.files u.files h.files i.files in
-    let limit = same_limit _ t.limit u.limit h.limit i.limit in
-    let choice = same_choice rows t.choice u.choice h.choice i.choice in
-    let kind = same_kind _ t.kind u.kind h.kind i.kind in
-    ap₂ (λ (a : CommandAsked) (fs : List (List ℕ)). record { asked = a; files = fs; limit = t.limit; choice = t.choice; kind = t.kind }) asked files
-    ∙ ap₂ (λ (n : ℕ) (c : ModuleChoice). record { asked = u.asked; files = u.files; limit = n; choice = c; kind = t.kind }) limit choice
-    ∙ ap (λ (k : Kind). record { asked = u.asked; files = u.files; limit = u.limit; choice = u.choice; kind = k }) kind
+same_request : (name : Text) (rows : List Row) (v w : RequestAsked) → Asks name rows v → Asks name rows w → v ≡ w
+same_request name rows v w h i =
+    let action = same_asked name rows v.action w.action h.asked i.asked in
+    let folders = sym h.folders ∙ i.folders in
+    let files = same_files rows v.files w.files h.files i.files in
+    let limit = same_limit _ v.limit w.limit h.limit i.limit in
+    let choice = same_choice rows v.choice w.choice h.choice i.choice in
+    let kind = same_kind _ v.kind w.kind h.kind i.kind in
+    ap₂ (λ (a : ActionAsked) (fs : List (List ℕ)). record { action = a; folders = v.folders; files = fs; limit = v.limit; choice = v.choice; kind = v.kind }) action files
+    ∙ ap₂ (λ (n : ℕ) (c : ModuleChoice). record { action = w.action; folders = v.folders; files = w.files; limit = n; choice = c; kind = v.kind }) limit choice
+    ∙ ap₂ (λ (ds : List (List ℕ)) (k : Kind). record { action = w.action; folders = ds; files = w.files; limit = w.limit; choice = w.choice; kind = k }) folders kind
 
-same_in : (found : Option (Text × List Row)) (t u : Task) → AsksIn found t → AsksIn found u → t ≡ u
-same_in None t u h i = absurd h
-same_in (Some p) t u h i = same_task p.0 p.1 t u h i
+same_in : (found : Option (Text × List Row)) (v w : RequestAsked) → AsksIn found v → AsksIn found w → v ≡ w
+same_in None v w h i = absurd h
+same_in (Some p) v w h i = same_request p.0 p.1 v w h i
 
-pub ask_once : (words : List Text) (t u : Task) → WordsAsk words t → WordsAsk words u → t ≡ u
-ask_once words t u h i = same_in (subcommand_of yangcheck_app words) t u h.found i.found
+pub ask_once : (words : List Text) (v w : RequestAsked) → WordsAsk words v → WordsAsk words w → v ≡ w
+ask_once words v w h i = same_in (subcommand_of yangcheck_app words) v w h.found i.found

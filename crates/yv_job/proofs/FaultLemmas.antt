@@ -9,8 +9,8 @@ use Rattle.yv_job.specs.Faults.{IfUsage, AreRefused, IsReason, of_limit, of_kind
 use Rattle.yv_text_statement.specs.Selection.{Entry}
 use Rattle.yv_text_statement.specs.declared.document_kind.Kind.{Kind}
 use Rattle.yv_job.specs.Matches.{IsFaultFor}
-use Rattle.yv_job.specs.declared.job.JobFault.{JobFault}
-use Rattle.yv_job.specs.declared.job.JobFault.TheVariants.{Usage, Help, NoMemory}
+use Rattle.yv_job.specs.declared.request.JobFault.{JobFault}
+use Rattle.yv_job.specs.declared.request.JobFault.TheVariants.{Usage, Help, NoMemory}
 
 -- an error that comes to usage is no help
 pub usage_is_not_help : (words : List Text) (k : ErrorKind) (f : JobFault) → (k ≡ kind.OutOfMemory) ⊎ IsAmong k (fault_of yangcheck_app words) → IsFaultFor k f

@@ -1,8 +1,10 @@
--- Which task the words of a command line ask for. The first word is the program's name.
+-- What the words of a command line ask for. The first word is the program's name.
 use Rattle.std.specs.Prelude.{◌≡◌, ◌≤◌, ℕ, List, [], Option, Some, None, codes, length}
+use Rattle.std.specs.Option.{unwrap_or}
 use Rattle.std.specs.Str.Parse.{IsNumeral, digits_value}
 use Rattle.clap.specs.Words.{Text, Row, all_of, first_of, fault_of, subcommand_of}
-use Rattle.yv_job.specs.Jobs.{Task, CommandAsked, Compiles, Draws, Checks}
+use Rattle.yv_job.specs.Jobs.{CommandAsked, Compiles, Draws, Checks}
+use Rattle.yv_job.specs.Requests.{ActionAsked, Lists, Does, RequestAsked}
 use Rattle.yv_text_statement.specs.Selection.{ModuleChoice, Entry}
 use Rattle.yv_text_statement.specs.declared.document_kind.Kind.{Kind}
 use Rattle.yv_text_statement.specs.declared.document_kind.Kind.TheVariants.{All, ConfigOnly}
@@ -10,10 +12,19 @@ use Rattle.yv_job.specs.CommandLine.{yangcheck_app}
 use Rattle.yv_job.specs.Names.{IsNames, IsSupport}
 
 -- the command of this name, with the values of its arguments, compiles, draws or checks
-abbrev pub IsAsked : Text → List Row → CommandAsked → Type 0
-IsAsked name rows Compiles = name ≡ codes "compile"
-IsAsked name rows (Draws m) = (name ≡ codes "tree") × (first_of (codes "module") rows ≡ Some m)
-IsAsked name rows (Checks f) = (name ≡ codes "validate") × (first_of (codes "data") rows ≡ Some f)
+abbrev pub IsCommand : Text → List Row → CommandAsked → Type 0
+IsCommand name rows Compiles = name ≡ codes "compile"
+IsCommand name rows (Draws m) = (name ≡ codes "tree") × (first_of (codes "module") rows ≡ Some m)
+IsCommand name rows (Checks f) = (name ≡ codes "validate") × (first_of (codes "data") rows ≡ Some f)
+
+-- it does that, or shows which files there are
+abbrev pub IsAsked : Text → List Row → ActionAsked → Type 0
+IsAsked name rows Lists = name ≡ codes "files"
+IsAsked name rows (Does c) = IsCommand name rows c
+
+-- the folders that were named, none where none were
+abbrev pub IsFolders : List Row → List Text → Type 0
+IsFolders rows folders = unwrap_or (all_of (codes "path") rows) [] ≡ folders
 
 -- the text is decimal digits alone, and writes the number
 abbrev pub IsDecimal : Text → ℕ → Type 0
@@ -55,28 +66,29 @@ pub record IsFiles (rows : List Row) (files : List Text) : Type 0 where
   pub fewest : 1 ≤ length files
   pub most : length files ≤ 256
 
--- the command of this name, with the values of its arguments, asks for the task
-pub record Asks (name : Text) (rows : List Row) (t : Task) : Type 0 where
-  pub asked : IsAsked name rows t.asked
-  pub files : IsFiles rows t.files
-  pub limit : IsLimit (first_of (codes "max-nodes") rows) t.limit
-  pub choice : IsChoice rows t.choice
-  pub kind : IsKindFor (first_of (codes "kind") rows) t.kind
+-- the command of this name, with the values of its arguments, asks for this
+pub record Asks (name : Text) (rows : List Row) (w : RequestAsked) : Type 0 where
+  pub asked : IsAsked name rows w.action
+  pub folders : IsFolders rows w.folders
+  pub files : IsFiles rows w.files
+  pub limit : IsLimit (first_of (codes "max-nodes") rows) w.limit
+  pub choice : IsChoice rows w.choice
+  pub kind : IsKindFor (first_of (codes "kind") rows) w.kind
 
 -- the same of a command that may not be there
-abbrev pub AsksIn : Option (Text × List Row) → Task → Type 0
-AsksIn None t = ⊥
-AsksIn (Some p) t = Asks p.0 p.1 t
+abbrev pub AsksIn : Option (Text × List Row) → RequestAsked → Type 0
+AsksIn None w = ⊥
+AsksIn (Some p) w = Asks p.0 p.1 w
 
 -- clap finds no fault in the words
 abbrev pub AreUnderstood : List Text → Type 0
 AreUnderstood words = fault_of yangcheck_app words ≡ []
 
--- the words ask for the task: clap understands them, and the command that it finds asks for it
-pub record WordsAsk (words : List Text) (t : Task) : Type 0 where
+-- the words ask for this: clap understands them, and the command that it finds asks for it
+pub record WordsAsk (words : List Text) (w : RequestAsked) : Type 0 where
   pub understood : AreUnderstood words
-  pub found : AsksIn (subcommand_of yangcheck_app words) t
+  pub found : AsksIn (subcommand_of yangcheck_app words) w
 
--- no words ask for two tasks
+-- no words ask for two requests
 abbrev pub WordsAskOnce : Type 0
-WordsAskOnce = (words : List Text) (t u : Task) → WordsAsk words t → WordsAsk words u → t ≡ u
+WordsAskOnce = (words : List Text) (v w : RequestAsked) → WordsAsk words v → WordsAsk words w → v ≡ w

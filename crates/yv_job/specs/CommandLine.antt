@@ -1,8 +1,8 @@
--- The command line, as clap reads it: three commands with their options.
+-- The command line, as clap reads it: four commands with their options.
 use Rattle.std.specs.Prelude.{Some, true, codes}
 use Rattle.clap.specs.Lexer.{usize_max}
 use Rattle.clap.specs.Words.{App, Rule, Text, new_app, new_rule, with_rule, with_subcommand}
-use Rattle.clap.specs.declared.builder.action.ArgAction.TheVariants.{Set}
+use Rattle.clap.specs.declared.builder.action.ArgAction.TheVariants.{Set, Append}
 
 -- `--id VALUE`, at most once
 abbrev pub option_rule : Text → Rule
@@ -12,6 +12,10 @@ option_rule id = record (new_rule id) { long = Some id; value_names = 1; action 
 abbrev pub required_rule : Text → Rule
 required_rule id = record (option_rule id) { required = true }
 
+-- `--id VALUE`, any number of times
+abbrev pub repeated_rule : Text → Rule
+repeated_rule id = record (option_rule id) { action = Some Append }
+
 -- FILE...
 abbrev pub files_rule : Rule
 files_rule = record (new_rule (codes "file")) {
@@ -20,13 +24,15 @@ files_rule = record (new_rule (codes "file")) {
   required = true;
 }
 
--- with what all commands take: `--max-nodes N`, `--support S`, `--import-only L` and FILE...
+-- with what all commands take: `--max-nodes N`, `--support S`, `--import-only L`, `--path DIR` and
+-- FILE...
 abbrev pub with_shared : App → App
 with_shared a =
     let counted = with_rule a (option_rule (codes "max-nodes")) in
     let supported = with_rule counted (option_rule (codes "support")) in
     let chosen = with_rule supported (option_rule (codes "import-only")) in
-    with_rule chosen files_rule
+    let searched = with_rule chosen (repeated_rule (codes "path")) in
+    with_rule searched files_rule
 
 -- `compile`
 abbrev pub compile_app : App
@@ -42,15 +48,20 @@ validate_app =
     let checking = with_rule (new_app (codes "validate")) (required_rule (codes "data")) in
     with_shared (with_rule checking (option_rule (codes "kind")))
 
+-- `files`
+abbrev pub files_app : App
+files_app = with_shared (new_app (codes "files"))
+
 -- a command that has a version, and wants one of its subcommands
 abbrev pub top_app : Text → App
 top_app name =
     let a = new_app name in
     record a { top = record a.top { has_version = true; subcommand_required = true } }
 
--- the program with its three commands
+-- the program with its four commands
 abbrev pub yangcheck_app : App
 yangcheck_app =
     let one = with_subcommand (top_app (codes "yangcheck")) compile_app.top in
     let two = with_subcommand one tree_app.top in
-    with_subcommand two validate_app.top
+    let three = with_subcommand two validate_app.top in
+    with_subcommand three files_app.top

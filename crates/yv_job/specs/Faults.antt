@@ -7,11 +7,11 @@ use Rattle.clap.specs.declared.error.kind.ErrorKind.{ErrorKind}
 use Rattle.clap.specs.declared.error.kind.ErrorKind.TheVariants as kind
 use Rattle.yv_job.specs.Asks.{WordsAsk, IsAsked, IsFiles, IsLimit, IsSupportFor, IsImportsFor, IsKindFor}
 use Rattle.yv_job.specs.CommandLine.{yangcheck_app}
-use Rattle.yv_job.specs.Jobs.{Task, CommandAsked}
+use Rattle.yv_job.specs.Requests.{ActionAsked, RequestAsked}
 use Rattle.yv_text_statement.specs.Selection.{Entry}
 use Rattle.yv_text_statement.specs.declared.document_kind.Kind.{Kind}
-use Rattle.yv_job.specs.declared.job.JobFault.{JobFault}
-use Rattle.yv_job.specs.declared.job.JobFault.TheVariants.{Usage, Help, NoMemory}
+use Rattle.yv_job.specs.declared.request.JobFault.{JobFault}
+use Rattle.yv_job.specs.declared.request.JobFault.TheVariants.{Usage, Help, NoMemory}
 
 -- P holds of the text, where the fault is one of usage
 abbrev pub IfUsage : JobFault → (Text → Type 0) → Type 0
@@ -25,9 +25,9 @@ OnHelp (Usage text) P = Unit {0}
 OnHelp (Help text) P = P
 OnHelp NoMemory P = Unit {0}
 
--- the words ask for no task
+-- the words ask for no request
 abbrev pub AskForNothing : List Text → Type 0
-AskForNothing words = (t : Task) → WordsAsk words t → ⊥
+AskForNothing words = (w : RequestAsked) → WordsAsk words w → ⊥
 
 -- the first line of what the program itself says of words that clap understands
 abbrev pub own_usage : Text
@@ -48,8 +48,8 @@ files_line files = decimal (length (unwrap_or files []))
 abbrev pub command_line : Text
 command_line = codes "no command was given, or not what it needs" ++ 10 ∷ []
 
--- why the command of this name, with these values of its arguments, asks for no task: the line
--- tells of one that is wrong
+-- why the command of this name, with these values of its arguments, asks for no request: the line
+-- says of one of them what is wrong
 pub data IsReason (name : Text) (rows : List Row) (line : Text) : Type 0 where
   of_limit : ((n : ℕ) → IsLimit (first_of (codes "max-nodes") rows) n → ⊥)
       → line ≡ value_line (codes "max-nodes") (codes "a number from 1 to 1000000")
@@ -68,10 +68,10 @@ pub data IsReason (name : Text) (rows : List Row) (line : Text) : Type 0 where
       → IsReason name rows line
   of_files : ((fs : List Text) → IsFiles rows fs → ⊥)
       → line ≡ files_line (all_of (codes "file") rows) → IsReason name rows line
-  of_command : ((a : CommandAsked) → IsAsked name rows a → ⊥) → line ≡ command_line
+  of_command : ((a : ActionAsked) → IsAsked name rows a → ⊥) → line ≡ command_line
       → IsReason name rows line
 
--- the text is the first line, and the reason why the command that was found asks for no task
+-- the text is the first line, and the reason why the command that was found asks for no request
 abbrev pub TellsReason : Option (Text × List Row) → Text → Type 0
 TellsReason None text = text ≡ own_usage ++ command_line
 TellsReason (Some p) text = (line : Text) × IsReason p.0 p.1 line × (text ≡ own_usage ++ line)

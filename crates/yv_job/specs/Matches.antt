@@ -5,13 +5,19 @@ use Rattle.clap.specs.declared.error.kind.ErrorKind.{ErrorKind}
 use Rattle.clap.specs.declared.error.kind.ErrorKind.TheVariants as kind
 use Rattle.yv_job.specs.Asks.{AsksIn}
 use Rattle.yv_job.specs.Faults.{IsHelp}
-use Rattle.yv_job.specs.Jobs.{Task}
-use Rattle.yv_job.specs.declared.job.JobFault.{JobFault}
-use Rattle.yv_job.specs.declared.job.JobFault.TheVariants.{Usage, Help, NoMemory}
+use Rattle.yv_job.specs.Requests.{RequestAsked}
+use Rattle.yv_job.specs.declared.request.JobFault.{JobFault}
+use Rattle.yv_job.specs.declared.request.JobFault.TheVariants.{Usage, Help, NoMemory}
 
--- the command that was found asks for no task
+-- the command that was found asks for no request
 abbrev pub AsksForNothing : Option (Text × List Row) → Type 0
-AsksForNothing found = (t : Task) → AsksIn found t → ⊥
+AsksForNothing found = (w : RequestAsked) → AsksIn found w → ⊥
+
+-- a fault of usage, or want of memory
+abbrev pub IsUsage : JobFault → Type 0
+IsUsage (Usage text) = Unit {0}
+IsUsage (Help text) = ⊥
+IsUsage NoMemory = Unit {0}
 
 -- what an error of this kind means
 abbrev pub IsFaultFor : ErrorKind → JobFault → Type 0

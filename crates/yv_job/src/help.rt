@@ -20,15 +20,16 @@ validates JSON documents (RFC 7951) against them.
 Invalid modules are rejected with one line, FILE:LINE: NAME, for the first error.
 Modules that expand to more than 100000 nodes are rejected too; --max-nodes N sets
 another limit, from 1 to 1000000. Each fault of a document is reported on one line,
-KIND PATH.",
+KIND PATH. With --path DIR, the files of imported modules are found in the folder DIR.",
     closing: "\
 Examples:
-  yangcheck compile example.yang types.yang
-  yangcheck tree --module example example.yang types.yang
-  yangcheck validate --data config.json example.yang types.yang
+  yangcheck compile --path models example.yang
+  yangcheck tree --module example --path models example.yang
+  yangcheck validate --data config.json --path models example.yang
+  yangcheck files --path models example.yang
 
 Exit status:
-  0  compiled, drawn, or valid
+  0  compiled, drawn, valid, or files listed
   1  modules rejected, no such module, or faults found
   2  usage error, document too large, or not JSON
   3  out of memory, pattern not built, cannot read, or cannot write",
@@ -41,11 +42,11 @@ Compiles YANG 1.1 modules (RFC 7950) and prints `nodes: N`, the number of nodes
 in their schema. Each `uses` is expanded, and nodes that an if-feature removes are
 not counted. If the modules are invalid, one line, FILE:LINE: NAME, reports the
 first error. Every module or submodule that a module imports or includes must be
-among the files. No document is read.",
+among the files, or in a folder that --path names. No document is read.",
     closing: "\
 Examples:
   yangcheck compile example.yang types.yang
-  yangcheck compile --max-nodes 5000 example.yang types.yang
+  yangcheck compile --path models --max-nodes 5000 example.yang
 
 Exit status:
   0  compiled
@@ -64,11 +65,12 @@ reports the first error. Otherwise the named module is drawn: its data nodes, th
 what it adds to other modules, its operations and its notifications. If no file
 has a module of that name, or the module is imported but not implemented, the
 output is `tree: no such module`. Every module or submodule that a module imports
-or includes must be among the files. No document is read.",
+or includes must be among the files, or in a folder that --path names. No document
+is read.",
     closing: "\
 Examples:
   yangcheck tree --module example example.yang types.yang
-  yangcheck tree --module example --support example: example.yang types.yang
+  yangcheck tree --module example --support example: --path models example.yang
 
 Exit status:
   0  drawn
@@ -87,16 +89,42 @@ reports the first error, and the document is not read. Otherwise each fault has
 one line, KIND PATH, and the last line is `valid` or `faults: N`. With --kind config
 the document is checked as configuration alone: state data that is written is a
 fault, and none is required. Every module or submodule that a module imports or
-includes must be among the files.",
+includes must be among the files, or in a folder that --path names.",
     closing: "\
-Example:
+Examples:
   yangcheck validate --data config.json example.yang types.yang
+  yangcheck validate --data config.json --path models example.yang
 
 Exit status:
   0  valid
   1  modules rejected, or faults found
   2  usage error, document too large, or not JSON
   3  out of memory, pattern not built, cannot read, or cannot write",
+};
+
+pub(crate) const FILES: CommandHelp = CommandHelp {
+    about: "Show which files --path finds, and which modules are implemented",
+    details: "\
+Prints a line for each file that the other commands would read with the same
+options: the files that are named, and then those that --path finds. Nothing is
+compiled.
+
+  implemented FILE  a file of a module whose nodes are in the schema
+  imported FILE     a file of a module that only gives types, groupings, features,
+                    identities or extensions to others
+  unread FILE       a file that is not legal YANG, or holds no module
+
+A module is implemented if its file is named, or if an augment or the path of a
+leafref leads into it. Name a file to implement its module; use --import-only to
+keep a module from being implemented.",
+    closing: "\
+Example:
+  yangcheck files --path models example.yang
+
+Exit status:
+  0  listed
+  2  usage error, or too many files
+  3  out of memory, cannot read, or cannot write",
 };
 
 pub const DATA: &str = "The JSON document, or - for standard input";
@@ -115,3 +143,6 @@ pub const SUPPORT: &str = "\
 The features supported in the named modules (all in others): MODULE:FEATURE,FEATURE/MODULE:";
 
 pub const IMPORT_ONLY: &str = "Modules that are imported but not implemented: MODULE,MODULE";
+
+pub const PATH: &str = "\
+A folder in which the files of imported modules are found, with its subfolders; may be repeated";

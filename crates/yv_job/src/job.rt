@@ -1,7 +1,6 @@
-//! A job, and the reasons why there is none.
+//! A job, for files that were read.
 
-use std::alloc::AllocError;
-use thiserror::Error;
+use crate::folder_search::FolderSearch;
 use yv_text_statement::{Kind, Selection};
 
 /// The command: what is to be done with the modules.
@@ -15,7 +14,7 @@ pub enum Command {
     Validate(String),
 }
 
-/// The job that a command line asks for.
+/// A job: a command over files that were named, or found in folders.
 #[derive(Debug, Drop)]
 pub struct Job {
     pub command: Command,
@@ -26,28 +25,6 @@ pub struct Job {
     pub selection: Selection,
     /// What a document is checked as. It is all data for a job that checks none.
     pub kind: Kind,
-}
-
-/// Why there is no job, with the text to print. Each text ends with a line feed.
-#[derive(Debug, Drop, Error)]
-pub enum JobFault {
-    /// The words ask for nothing that can be done. The text is for standard error.
-    #[error("{0}")]
-    Usage(String),
-    /// The words ask for help, or for the version. The text is for standard output.
-    #[error("{0}")]
-    Help(String),
-    #[error("out of memory")]
-    NoMemory,
-}
-
-impl From<AllocError> for JobFault {
-    ghost use Rattle.std.specs.Prelude.{◌≡◌};
-    ghost use Rattle.yv_job.specs.declared.job.JobFault.TheVariants.{NoMemory};
-
-    ghost from_gives = { λ _ fault. fault ≡ NoMemory };
-
-    fn from(_error: AllocError) -> JobFault {
-        JobFault::NoMemory
-    }
+    /// How the files were found, where folders were searched. Only notes for a person depend on it.
+    pub search: Option<FolderSearch>,
 }

@@ -1,17 +1,22 @@
 //! What a command line of `yangcheck` asks for.
 #![tactic(auto)]
 
+mod folder_search;
 mod help;
+mod hints;
 mod job;
 mod laws;
 mod matches;
 mod names;
 mod options;
 mod reasons;
+mod request;
 mod syntax;
 mod words;
 
-pub use job::{Command, Job, JobFault};
+pub use folder_search::FolderSearch;
+pub use job::{Command, Job};
 pub use laws::words_ask_once;
-pub use words::read_job;
+pub use request::{Action, JobFault, Request};
+pub use words::read_request;
 pub use yv_text_statement::Kind;

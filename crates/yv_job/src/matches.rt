@@ -1,13 +1,15 @@
-//! A job from what clap matched.
-ghost use Rattle.std.specs.Prelude.{◌≡◌, ◌≤◌, ℕ, List, length, IfSome, IfOk, IfErr, MatchOption, map, option_map, string_bytes};
+//! A request from what clap matched.
+ghost use Rattle.std.specs.Prelude.{◌≡◌, ◌≤◌, ℕ, List, length, IfSome, IfOk, IfErr, MatchOption, [], codes, map, option_map, string_bytes};
+ghost use Rattle.std.specs.Option.{unwrap_or};
 ghost use Rattle.clap.specs.Words.{subcommand_rows_of, found_of, rows_of, all_of, first_of};
-ghost use Rattle.yv_job.specs.{Asks.{AsksIn, Asks, IsChoice, IsAsked, IsFiles}, Jobs.{CommandAsked, task_of, asked_of, HasFiles, HasLimit}, Faults.{IsReason, TellsReason}, Matches.{AsksForNothing}};
+ghost use Rattle.yv_job.specs.{Asks.{AsksIn, Asks, IsChoice, IsAsked, IsFiles}, Requests.{ActionAsked, request_of, action_of, NamesFiles, IsLimited}, Faults.{IsReason, TellsReason}, Matches.{AsksForNothing}};
 ghost use Rattle.yv_text_statement.specs.Selection.{ModuleChoice, selected_of};
 
-use crate::job::{Command, Job};
+use crate::job::Command;
 use crate::names::copy_texts;
 use crate::options::{imports_value, kind_value, limit_of, support_value};
 use crate::reasons::{COMMAND, IMPORTS, KINDS, NODES, SUPPORT, files_line, usage, value_line};
+use crate::request::{Action, Request};
 use clap::ArgMatches;
 use std::alloc::{AllocError, Global};
 use yv_text_statement::Selection;
@@ -29,31 +31,51 @@ fn all<'m, 'a>(matches: &'m ArgMatches<'a>, id: &str) -> Option<&'m [&'a str]>
     matches.get_strs(id)
 }
 
-fn command_of(
+fn action_of(
     alloc: Global,
     name: &str,
     below: &ArgMatches<'_>,
-) -> Result<Option<Command>, AllocError>
+) -> Result<Option<Action>, AllocError>
     ensures { let rows = rows_of (found_of below.now) in
-        IfOk result (λ o. MatchOption o ((a : CommandAsked) → IsAsked name.now rows a → ⊥)
-        (λ c. IsAsked name.now rows (asked_of c))) }
+        IfOk result (λ o. MatchOption o ((a : ActionAsked) → IsAsked name.now rows a → ⊥)
+        (λ a. IsAsked name.now rows (action_of a))) }
 {
     if name == "compile" {
-        return Ok(Some(Command::Compile));
+        return Ok(Some(Action::Run(Command::Compile)));
+    }
+    if name == "files" {
+        return Ok(Some(Action::Files));
     }
     if name == "tree" {
         return match first(below, "module") {
-            Some(module) => Ok(Some(Command::Tree(String::from_str(alloc, module)?))),
+            Some(module) => {
+                let name = String::from_str(alloc, module)?;
+                Ok(Some(Action::Run(Command::Tree(name))))
+            }
             None => Ok(None),
         };
     }
     if name == "validate" {
         return match first(below, "data") {
-            Some(file) => Ok(Some(Command::Validate(String::from_str(alloc, file)?))),
+            Some(file) => {
+                let name = String::from_str(alloc, file)?;
+                Ok(Some(Action::Run(Command::Validate(name))))
+            }
             None => Ok(None),
         };
     }
     Ok(None)
+}
+
+// The folders that are to be searched.
+fn folders_of(alloc: Global, below: &ArgMatches<'_>) -> Result<Vec<String>, AllocError>
+    ensures { let rows = rows_of (found_of below.now) in
+        IfOk result (λ v. unwrap_or (all_of (codes "path") rows) [] ≡ map string_bytes v.items) }
+{
+    match all(below, "path") {
+        Some(folders) => copy_texts(alloc, folders),
+        None => Ok(Vec::new(alloc)),
+    }
 }
 
 fn files_of(alloc: Global, below: &ArgMatches<'_>) -> Result<Option<Vec<String>>, AllocError>
@@ -98,41 +120,43 @@ fn selection_of(
     }))
 }
 
-// The job that the command of this name asks for, or a line about what is wrong.
-fn job_of_command(
+// The request of the command of this name, or a line about what is wrong.
+fn request_of_command(
     alloc: Global,
     name: &str,
     below: &ArgMatches<'_>,
-) -> Result<Result<Job, String>, AllocError>
-    ensures job { let rows = rows_of (found_of below.now) in
-        IfOk result (λ r. IfOk r (λ j. Asks name.now rows (task_of j))) }
+) -> Result<Result<Request, String>, AllocError>
+    ensures request { let rows = rows_of (found_of below.now) in
+        IfOk result (λ r. IfOk r (λ w. Asks name.now rows (request_of w))) }
     ensures nothing { let rows = rows_of (found_of below.now) in
         IfOk result (λ r. IfErr r (λ _. AsksForNothing (Some (name.now, rows)))) }
     ensures reason { let rows = rows_of (found_of below.now) in
         IfOk result (λ r. IfErr r (λ line. IsReason name.now rows (string_bytes line))) }
-    ensures files { IfOk result (λ r. IfOk r HasFiles) }
-    ensures limit { IfOk result (λ r. IfOk r HasLimit) }
+    ensures files { IfOk result (λ r. IfOk r NamesFiles) }
+    ensures limit { IfOk result (λ r. IfOk r IsLimited) }
 {
     let nodes = first(below, "max-nodes");
     let Some(limit) = limit_of(nodes) else {
         return Ok(Err(value_line(alloc, "max-nodes", NODES, nodes)?));
     };
+    let selection = match selection_of(alloc, below)? {
+        Ok(selection) => selection,
+        Err(line) => return Ok(Err(line)),
+    };
     let word = first(below, "kind");
     let Some(kind) = kind_value(word) else {
         return Ok(Err(value_line(alloc, "kind", KINDS, word)?));
     };
-    let Some(command) = command_of(alloc, name, below)? else {
+    let Some(action) = action_of(alloc, name, below)? else {
         return Ok(Err(String::from_str(alloc, COMMAND)?));
     };
     let Some(files) = files_of(alloc, below)? else {
         return Ok(Err(files_line(alloc, all(below, "file"))?));
     };
-    let selection = match selection_of(alloc, below)? {
-        Ok(selection) => selection,
-        Err(line) => return Ok(Err(line)),
-    };
-    Ok(Ok(Job {
-        command,
+    let folders = folders_of(alloc, below)?;
+    Ok(Ok(Request {
+        action,
+        folders,
         files,
         limit,
         selection,
@@ -140,20 +164,23 @@ fn job_of_command(
     }))
 }
 
-/// The job that the matches ask for, or the text of a usage error.
-pub fn job_of(alloc: Global, matches: &ArgMatches<'_>) -> Result<Result<Job, String>, AllocError>
-    ensures job { let found = subcommand_rows_of matches.now in
-        IfOk result (λ r. IfOk r (λ j. AsksIn found (task_of j))) }
+/// The request that the matches make, or the text of a usage error.
+pub fn request_of(
+    alloc: Global,
+    matches: &ArgMatches<'_>,
+) -> Result<Result<Request, String>, AllocError>
+    ensures request { let found = subcommand_rows_of matches.now in
+        IfOk result (λ r. IfOk r (λ w. AsksIn found (request_of w))) }
     ensures nothing { let found = subcommand_rows_of matches.now in
         IfOk result (λ r. IfErr r (λ _. AsksForNothing found)) }
     ensures reason { let found = subcommand_rows_of matches.now in
         IfOk result (λ r. IfErr r (λ text. TellsReason found (string_bytes text))) }
-    ensures files { IfOk result (λ r. IfOk r HasFiles) }
-    ensures limit { IfOk result (λ r. IfOk r HasLimit) }
+    ensures files { IfOk result (λ r. IfOk r NamesFiles) }
+    ensures limit { IfOk result (λ r. IfOk r IsLimited) }
 {
     match matches.subcommand() {
-        Some((name, below)) => match job_of_command(alloc, name, below)? {
-            Ok(job) => Ok(Ok(job)),
+        Some((name, below)) => match request_of_command(alloc, name, below)? {
+            Ok(request) => Ok(Ok(request)),
             Err(line) => Ok(Err(usage(alloc, line.as_str())?)),
         },
         None => Ok(Err(usage(alloc, COMMAND)?)),

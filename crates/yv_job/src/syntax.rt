@@ -1,7 +1,7 @@
 //! The command line's syntax, for clap.
 ghost use Rattle.std.specs.Prelude.{◌≡◌, IfOk, false, codes};
 ghost use Rattle.clap.specs.{Words.{app_of, rule_of, new_app, with_rule, with_subcommand}, declared.builder.command.Command.TheViews.{out-Command as fields_of}};
-ghost use Rattle.yv_job.specs.CommandLine.{option_rule, required_rule, files_rule, with_shared, compile_app, tree_app, validate_app, top_app, yangcheck_app};
+ghost use Rattle.yv_job.specs.CommandLine.{option_rule, required_rule, repeated_rule, files_rule, with_shared, compile_app, tree_app, validate_app, files_app, top_app, yangcheck_app};
 
 use crate::help::{self, CommandHelp};
 use clap::{Arg, ArgAction, Command};
@@ -25,6 +25,14 @@ fn required_option<'a>(alloc: Global, id: &'a str, value: &'a str, help: &'a str
     ensures local { result.global ≡ false }
 {
     option(alloc, id, value, help).required(true)
+}
+
+// `--id VALUE`, any number of times.
+fn repeated_option<'a>(alloc: Global, id: &'a str, value: &'a str, help: &'a str) -> Arg<'a>
+    ensures rule { rule_of result ≡ repeated_rule id.entry.now }
+    ensures local { result.global ≡ false }
+{
+    option(alloc, id, value, help).action(ArgAction::Append)
 }
 
 fn files<'a>(alloc: Global) -> Arg<'a>
@@ -82,8 +90,10 @@ fn with_shared_options<'a>(alloc: Global, command: Command<'a>) -> Result<Comman
     let imports = option(alloc, "import-only", "L", help::IMPORT_ONLY);
     let counted = with_arg(command, nodes)?;
     let supported = with_arg(counted, support)?;
+    let folders = repeated_option(alloc, "path", "DIR", help::PATH);
     let chosen = with_arg(supported, imports)?;
-    with_arg(chosen, files(alloc))
+    let searched = with_arg(chosen, folders)?;
+    with_arg(searched, files(alloc))
 }
 
 fn compile<'a>(alloc: Global) -> Result<Command<'a>, AllocError>
@@ -116,6 +126,14 @@ fn validate<'a>(alloc: Global) -> Result<Command<'a>, AllocError>
     with_shared_options(alloc, asking)
 }
 
+fn list_files<'a>(alloc: Global) -> Result<Command<'a>, AllocError>
+    ensures app { IfOk result (λ c. app_of c ≡ files_app) }
+    ensures local { IfOk result (λ c. (fields_of c).has_globals ≡ false) }
+{
+    let command = command(alloc, "files", &help::FILES);
+    with_shared_options(alloc, command)
+}
+
 // The program with none of its commands.
 fn top<'a>(alloc: Global) -> Command<'a>
     ensures app { app_of result ≡ top_app (codes "yangcheck") }
@@ -132,5 +150,6 @@ pub fn command_line<'a>(alloc: Global) -> Result<Command<'a>, AllocError>
 {
     let one = with_command(top(alloc), compile(alloc)?)?;
     let two = with_command(one, tree(alloc)?)?;
-    with_command(two, validate(alloc)?)
+    let three = with_command(two, validate(alloc)?)?;
+    with_command(three, list_files(alloc)?)
 }

@@ -1,10 +1,11 @@
-//! A job from the words of a command line.
+//! A request from the words of a command line.
 ghost use Rattle.std.specs.Prelude.{◌≡◌, ◌⊎◌, [], map, string_bytes, IfOk, IfErr};
 ghost use Rattle.clap.specs.Words.{fault_of, subcommand_of, subcommand_rows_of, HasKind, kind_of};
-ghost use Rattle.yv_job.specs.{Asks.{WordsAsk, AreUnderstood}, CommandLine.{yangcheck_app}, Faults.{IfUsage, OnHelp, AskForNothing, AskForHelp, AreRefused, TellsReason}, Jobs.{task_of, HasFiles, HasLimit}, Matches.{IsFaultFor}};
+ghost use Rattle.yv_job.specs.{Asks.{WordsAsk, AreUnderstood}, CommandLine.{yangcheck_app}, Faults.{IfUsage, OnHelp, AskForNothing, AskForHelp, AreRefused, TellsReason}, Requests.{request_of, NamesFiles, IsLimited}, Matches.{IsFaultFor, IsUsage}};
 
-use crate::job::{Job, JobFault};
-use crate::matches::job_of;
+use crate::hints::push_hint;
+use crate::matches::request_of;
+use crate::request::{JobFault, Request};
 use crate::syntax::command_line;
 use clap::error::ErrorKind;
 use clap::{ArgMatches, Error};
@@ -20,29 +21,40 @@ fn match_words<'a>(alloc: Global, words: &'a [String]) -> Result<ArgMatches<'a>,
 }
 
 // What clap's error means.
-fn job_fault(alloc: Global, error: &Error) -> JobFault
+fn job_fault(alloc: Global, error: &Error, words: &[String]) -> JobFault
     ensures { IsFaultFor (kind_of error.now) result }
 {
     if error.kind() == ErrorKind::OutOfMemory {
         return JobFault::NoMemory;
     }
     match error.to_string(alloc) {
-        Ok(text) if error.use_stderr() => JobFault::Usage(text),
+        Ok(text) if error.use_stderr() => with_hint(alloc, text, words),
         Ok(text) => JobFault::Help(text),
         Err(_) => JobFault::NoMemory,
     }
 }
 
-/// The job that the words ask for. The first word is the program's name.
-pub fn read_job(alloc: Global, words: &[String]) -> Result<Job, JobFault>
-    // The words ask for this job: command, document or module, files in order, limit, selection,
-    // kind.
-    ensures job { IfOk result (λ j. WordsAsk (map string_bytes words.now) (task_of j)) }
-    // It has 1 to 256 files.
-    ensures files { IfOk result HasFiles }
+// A usage error of these words, whose text may end with a hint.
+fn with_hint(alloc: Global, text: String, words: &[String]) -> JobFault
+    ensures { IsUsage result }
+{
+    let mut hinted = text;
+    match push_hint(alloc, &mut hinted, words) {
+        Ok(()) => JobFault::Usage(hinted),
+        Err(_) => JobFault::NoMemory,
+    }
+}
+
+/// The request that the words make. The first word is the program's name.
+pub fn read_request(alloc: Global, words: &[String]) -> Result<Request, JobFault>
+    // The words ask for this: command, document or module, folders and files in order, limit,
+    // selection, kind.
+    ensures request { IfOk result (λ r. WordsAsk (map string_bytes words.now) (request_of r)) }
+    // It names 1 to 256 files.
+    ensures files { IfOk result NamesFiles }
     // Its limit is within 1 to 1,000,000.
-    ensures limit { IfOk result HasLimit }
-    // After a usage error the words ask for no job.
+    ensures limit { IfOk result IsLimited }
+    // After a usage error the words ask for no request.
     ensures usage { IfErr result (λ f. IfUsage f (λ _.
         AskForNothing (map string_bytes words.now))) }
     // The text of a usage error gives the reason, where the words are understood as options.
@@ -56,10 +68,10 @@ pub fn read_job(alloc: Global, words: &[String]) -> Result<Job, JobFault>
     ensures help { IfErr result (λ f. OnHelp f (AskForHelp (map string_bytes words.now))) }
 {
     match match_words(alloc, words) {
-        Ok(matches) => match job_of(alloc, &matches)? {
-            Ok(job) => Ok(job),
+        Ok(matches) => match request_of(alloc, &matches)? {
+            Ok(request) => Ok(request),
             Err(text) => Err(JobFault::Usage(text)),
         },
-        Err(error) => Err(job_fault(alloc, &error)),
+        Err(error) => Err(job_fault(alloc, &error, words)),
     }
 }

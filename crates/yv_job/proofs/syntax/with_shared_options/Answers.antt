@@ -8,4 +8,5 @@ returns-clause-app c =
     let counted = c.in_ok-counted.ensures.app ∙ ap (with_rule (app_of c.args.command)) c.option-nodes.ensures.rule in
     let supported = c.in_ok-supported.ensures.app ∙ ap₂ with_rule counted c.option-support.ensures.rule in
     let chosen = c.in_ok-chosen.ensures.app ∙ ap₂ with_rule supported c.option-imports.ensures.rule in
-    IfOk-weaker c.with_arg-4.result _ _ (λ m h. h ∙ ap₂ with_rule chosen c.files.ensures.rule) c.with_arg-4.ensures.app
+    let searched = c.in_ok-searched.ensures.app ∙ ap₂ with_rule chosen c.repeated_option-folders.ensures.rule in
+    IfOk-weaker c.with_arg-5.result _ _ (λ m h. h ∙ ap₂ with_rule searched c.files.ensures.rule) c.with_arg-5.ensures.app

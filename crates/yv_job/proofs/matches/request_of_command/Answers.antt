@@ -2,7 +2,7 @@ use Rattle.std.proofs.Common.{rules, option_map, string_bytes, IfErr, subst, Lis
 use Rattle.clap.specs.Words.{rows_of, found_of}
 use Rattle.yv_job.specs.Faults.{IsReason}
 use Rattle.yv_job.proofs.FaultLemmas.{limit_line, kind_line}
-use Rattle.yv_job.proofs.matches.job_of_command.Goals as goal
+use Rattle.yv_job.proofs.matches.request_of_command.Goals as goal
 
 pub returns-in_default-clause-reason : goal.returns-in_default-clause-reason
 returns-in_default-clause-reason c =

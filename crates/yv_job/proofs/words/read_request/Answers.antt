@@ -1,7 +1,7 @@
 use Rattle.std.proofs.Common.{map, string_bytes}
 use Rattle.clap.specs.Words.{kind_of}
 use Rattle.yv_job.proofs.FaultLemmas.{usage_is_not_help}
-use Rattle.yv_job.proofs.words.read_job.Goals as goal
+use Rattle.yv_job.proofs.words.read_request.Goals as goal
 
 pub returns-clause-not_help : goal.returns-clause-not_help
 returns-clause-not_help c =

@@ -1,0 +1,54 @@
+//! How the files of a job were found, for notes to a person.
+use crate::job::Job;
+
+/// A search of folders for the files that a job has.
+#[derive(Debug, Drop)]
+pub struct FolderSearch {
+    /// The folders that were searched.
+    pub folders: Vec<String>,
+    /// How many of the job's files were named. The files after these were found.
+    pub named: usize,
+    /// How many names of modules `--import-only` gave. The names after these, in the job's
+    /// selection, are of modules that were found and that nothing requires.
+    pub given: usize,
+}
+
+impl Job {
+    /// The file that was found for a module or submodule of this name.
+    pub fn found_file(&self, name: &str) -> Option<&str> {
+        let named = self.search.as_ref()?.named;
+        self.files
+            .iter()
+            .skip(named)
+            .map(|file| file.as_str())
+            .find(|file| is_file_of(file, name))
+    }
+
+    /// The file that was found for a module that is imported only, since nothing requires it.
+    pub fn unrequired_file(&self, module: &str) -> Option<&str> {
+        let given = self.search.as_ref()?.given;
+        let is_unrequired = self
+            .selection
+            .import_only
+            .iter()
+            .skip(given)
+            .any(|name| name.as_str() == module);
+        if is_unrequired {
+            self.found_file(module)
+        } else {
+            None
+        }
+    }
+}
+
+// Whether the last part of a path is `NAME.yang` or `NAME@DATE.yang`.
+fn is_file_of(path: &str, name: &str) -> bool {
+    let part = match path.rsplit_once('/') {
+        Some((_, last)) => last,
+        None => path,
+    };
+    match part.strip_prefix(name) {
+        Some(rest) => rest == ".yang" || rest.starts_with('@') && rest.ends_with(".yang"),
+        None => false,
+    }
+}

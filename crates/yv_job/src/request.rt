@@ -1,0 +1,78 @@
+//! A request, and the reasons why there is none.
+ghost use Rattle.std.specs.Prelude.{◌≡◌, IfSome, MatchOption};
+ghost use Rattle.yv_job.specs.{Jobs.{Task, task_of}, Requests.{plain_request, request_of}, declared.request.JobFault.TheVariants.{NoMemory}};
+
+use crate::job::{Command, Job};
+use std::alloc::AllocError;
+use thiserror::Error;
+use yv_text_statement::{Kind, Selection};
+
+/// The action that is asked for.
+#[derive(Debug, Drop)]
+pub enum Action {
+    /// To run a command over the files.
+    Run(Command),
+    /// To show which files there are, and which modules are implemented.
+    Files,
+}
+
+/// The request that a command line makes.
+#[derive(Debug, Drop)]
+pub struct Request {
+    pub action: Action,
+    /// The folders in which the files of imported modules are looked for, in this order.
+    pub folders: Vec<String>,
+    /// The files that were named.
+    pub files: Vec<String>,
+    /// The most schema nodes that the modules may expand to.
+    pub limit: u32,
+    pub selection: Selection,
+    /// What a document is checked as. It is all data for a request that checks none.
+    pub kind: Kind,
+}
+
+impl Request {
+    /// The job that this is, where it runs a command over the named files and no folder is to be
+    /// searched.
+    pub fn into_job(self) -> Option<Job>
+        // The request is for the task of this job; where there is none, it is for no task.
+        ensures { MatchOption result ((t : Task) → request_of self.entry ≡ plain_request t → ⊥)
+            (λ j. request_of self.entry ≡ plain_request (task_of j)) }
+    {
+        let Action::Run(command) = self.action else {
+            return None;
+        };
+        if !self.folders.is_empty() {
+            return None;
+        }
+        Some(Job {
+            command,
+            files: self.files,
+            limit: self.limit,
+            selection: self.selection,
+            kind: self.kind,
+            search: None,
+        })
+    }
+}
+
+/// Why there is no request, with the text to print. Each text ends with a line feed.
+#[derive(Debug, Drop, Error)]
+pub enum JobFault {
+    /// The words ask for nothing that can be done. The text is for standard error.
+    #[error("{0}")]
+    Usage(String),
+    /// The words ask for help, or for the version. The text is for standard output.
+    #[error("{0}")]
+    Help(String),
+    #[error("out of memory")]
+    NoMemory,
+}
+
+impl From<AllocError> for JobFault {
+    ghost from_gives = { λ _ fault. fault ≡ NoMemory };
+
+    fn from(_error: AllocError) -> JobFault {
+        JobFault::NoMemory
+    }
+}
