@@ -14,14 +14,15 @@ pub struct FolderSearch {
 }
 
 impl Job {
-    /// The file that was found for a module or submodule of this name.
-    pub fn found_file(&self, name: &str) -> Option<&str> {
+    /// The place among the files of the one that was found for a module or submodule of this name.
+    pub fn found_place(&self, name: &str) -> Option<usize> {
         let named = self.search.as_ref()?.named;
-        self.files
-            .iter()
-            .skip(named)
-            .map(|file| file.as_str())
-            .find(|file| is_file_of(file, name))
+        for (place, file) in self.files.iter().enumerate().skip(named) {
+            if is_file_of(file.as_str(), name) {
+                return Some(place);
+            }
+        }
+        None
     }
 
     /// The file that was found for a module that is imported only, since nothing requires it.
@@ -34,7 +35,8 @@ impl Job {
             .skip(given)
             .any(|name| name.as_str() == module);
         if is_unrequired {
-            self.found_file(module)
+            let file = self.files.get(self.found_place(module)?)?;
+            Some(file.as_str())
         } else {
             None
         }

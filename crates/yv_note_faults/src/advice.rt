@@ -8,6 +8,7 @@ use crate::unknown::push_unknown;
 use itoa::Buffer;
 use serde_json::Value;
 use std::alloc::{AllocError, Global};
+use yv_job::Job;
 use yv_node_content::NodeKind;
 use yv_note_text::push_quoted;
 use yv_note_values::{push_count, push_type};
@@ -22,11 +23,12 @@ pub(crate) fn advice<'d>(
     alloc: Global,
     schema: &'d Schema,
     document: &'d Value,
+    job: &'d Job,
     fault: &Fault,
 ) -> Result<String, AllocError> {
     let path = fault.path.steps().to_vec(alloc)?;
     let mut text = String::new(alloc);
-    let spot = Spot::find(alloc, schema, document, path.as_slice())?;
+    let spot = Spot::find(alloc, schema, document, job, path.as_slice())?;
     match path.last() {
         Some(step) => {
             let name = step.name;

@@ -9,13 +9,14 @@ use crate::front::front;
 use itoa::Buffer;
 use serde_json::Value;
 use std::alloc::{AllocError, Global};
+use yv_job::Job;
 use yv_schema_tables::Schema;
 use yv_validate::Fault;
 
 /// How many faults are explained.
 const MOST_EXPLAINED: usize = 20;
 
-/// A line for each of the first 20 faults of a document, which says what is wrong there and what to
+/// A line for each of the first 20 faults of a document that a job checks, which says what is wrong there and what to
 /// do, and one of how many more there are. Each begins as the fault's line; of a long path it has
 /// the last steps. However long names and paths are, the text has fewer than 30,000 bytes, and
 /// nothing that could drive a terminal. The time is bounded: no value is checked again, and no
@@ -24,6 +25,7 @@ pub fn sentences(
     alloc: Global,
     schema: &Schema,
     document: &Value,
+    job: &Job,
     faults: &[Fault],
 ) -> Result<String, AllocError>
     // A line for each of the first 20 faults, in their order, each beginning with the fault's line,
@@ -35,7 +37,7 @@ pub fn sentences(
     ensures short { IfOk result (λ text. length (string_bytes text) < 30000) }
 {
     let mut text = String::new(alloc);
-    push_sentences(alloc, &mut text, schema, document, first(faults))?;
+    push_sentences(alloc, &mut text, schema, document, job, first(faults))?;
     push_more(alloc, &mut text, faults.len())?;
     Ok(text)
 }
@@ -57,13 +59,14 @@ fn push_sentences(
     text: &mut String,
     schema: &Schema,
     document: &Value,
+    job: &Job,
     faults: &[Fault],
 ) -> Result<(), AllocError>
     ensures { OnOk result
         (AddsSentences faults.now (string_bytes text.old) (string_bytes text.new)) }
 {
     for fault in faults {
-        push_sentence(alloc, text, schema, document, fault)?;
+        push_sentence(alloc, text, schema, document, job, fault)?;
     }
     Ok(())
 }
@@ -74,12 +77,13 @@ fn push_sentence(
     text: &mut String,
     schema: &Schema,
     document: &Value,
+    job: &Job,
     fault: &Fault,
 ) -> Result<(), AllocError>
     ensures { OnOk result
         (AddsSentences (fault.now ∷ []) (string_bytes text.old) (string_bytes text.new)) }
 {
-    let whole = whole(alloc, schema, document, fault)?;
+    let whole = whole(alloc, schema, document, job, fault)?;
     push_line(text, whole.as_str())
 }
 
@@ -88,13 +92,14 @@ fn whole(
     alloc: Global,
     schema: &Schema,
     document: &Value,
+    job: &Job,
     fault: &Fault,
 ) -> Result<String, AllocError>
     ensures { IfOk result (λ text. IsSentence fault.now (cleared_line (string_bytes text))) }
 {
     let mut text = front(alloc, fault)?;
     text.push_str(": ")?;
-    let advice = advice(alloc, schema, document, fault)?;
+    let advice = advice(alloc, schema, document, job, fault)?;
     text.push_str(advice.as_str())?;
     Ok(text)
 }

@@ -4,6 +4,7 @@ ghost use Rattle.yv_nodes.specs.Rows.{rank};
 
 use serde_json::Value;
 use std::alloc::{AllocError, Global};
+use yv_job::Job;
 use yv_nodes::{Node, NodeId};
 use yv_schema_tables::Schema;
 use yv_validate::Part;
@@ -13,6 +14,8 @@ use yv_values::Meter;
 #[derive(Clone, Copy)]
 pub(crate) struct Spot<'d> {
     pub(crate) schema: &'d Schema,
+    /// The job that checks the document.
+    pub(crate) job: &'d Job,
     /// The node around it: the root for a member of the top. None where the path has left the
     /// schema.
     pub(crate) around: Option<NodeId>,
@@ -30,9 +33,10 @@ pub(crate) struct Spot<'d> {
 
 impl<'d> Spot<'d> {
     /// The place of a document.
-    fn top(schema: &'d Schema, document: &'d Value) -> Spot<'d> {
+    fn top(schema: &'d Schema, document: &'d Value, job: &'d Job) -> Spot<'d> {
         Spot {
             schema,
+            job,
             around: None,
             object: None,
             node: Some(Schema::ROOT),
@@ -47,9 +51,10 @@ impl<'d> Spot<'d> {
         alloc: Global,
         schema: &'d Schema,
         document: &'d Value,
+        job: &'d Job,
         path: &[Part<'_>],
     ) -> Result<Spot<'d>, AllocError> {
-        let mut spot = Spot::top(schema, document);
+        let mut spot = Spot::top(schema, document, job);
         for step in path {
             spot = spot.below(alloc, step)?;
         }
@@ -62,6 +67,7 @@ impl<'d> Spot<'d> {
         let written = member_of(self.value, member.as_str());
         Ok(Spot {
             schema: self.schema,
+            job: self.job,
             around: self.node,
             object: self.value,
             node: node_named(self.schema, self.node, member.as_str()),

@@ -3,9 +3,10 @@ use crate::beside::{beside, data_beside};
 use crate::spot::{Spot, node_at};
 use crate::words::{Naming, push_name, push_names};
 use std::alloc::{AllocError, Global};
+use yv_job::Job;
 use yv_node_content::NodeKind;
 use yv_nodes::{Node, NodeId};
-use yv_note_text::{Joint, Likeness, compare, push_quoted};
+use yv_note_text::{Joint, Likeness, compare, front, push_quoted, push_shown};
 use yv_schema_tables::Schema;
 
 // A node whose name is like that of a member.
@@ -37,7 +38,7 @@ pub(crate) fn push_unknown(
     let near = nearest(schema, &data, name);
     match module {
         Some(module) if !is_same(near) && !is_implemented(schema, module) => {
-            push_no_module(text, module)
+            push_no_module(text, spot.job, module)
         }
         _ => push_guess(text, schema, &data, near),
     }
@@ -93,9 +94,15 @@ fn is_implemented(schema: &Schema, name: &str) -> bool {
         .any(|module| module.name.as_str() == name)
 }
 
-// Adds that a module isn't implemented. It may be given for import only: the schema doesn't have it
-// then.
-fn push_no_module(text: &mut String, module: &str) -> Result<(), AllocError> {
+// Adds that a module isn't implemented. It may be given for import only, or nothing may require it:
+// the schema doesn't have it then.
+fn push_no_module(text: &mut String, job: &Job, module: &str) -> Result<(), AllocError> {
+    if let Some(file) = job.unrequired_file(module) {
+        push_shown(text, front(file.as_bytes()))?;
+        text.push_str(" was found by --path and nothing requires ")?;
+        push_quoted(text, module)?;
+        return text.push_str("; name the file to implement it");
+    }
     text.push_str("there is no implemented module ")?;
     push_quoted(text, module)?;
     text.push_str("; add its file, do not list it in --import-only, or fix the name")

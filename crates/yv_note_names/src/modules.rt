@@ -3,17 +3,23 @@ use crate::prefixes::Prefixes;
 use std::alloc::{AllocError, Global};
 use yv_link_scopes::prefix_of;
 use yv_note_statements::{
-    Guess, Message, Site, Sites, StatementEntry, declaration, first_in_file, named_in_file,
-    say_guess, words_of,
+    Guess, Message, Site, Sites, declaration, first_in_file, named_in_file, say_guess, words_of,
 };
 use yv_text_statement::Code;
 
-// The file whose name is most like one that was written.
-fn nearest_file<'a>(entries: &[StatementEntry<'a>], written: &str) -> Option<Guess<'a>> {
-    Sites::all(entries)
-        .take_while(|site| site.is_root())
-        .fold(None, |nearest, file| {
-            Guess::nearer(nearest, Guess::of(written, file.argument(), None))
+// Of the modules, or for an `include` of the submodules, the one whose name is most like the name
+// that is written.
+fn nearest_file<'a>(site: &Site<'_, 'a>) -> Option<Guess<'a>> {
+    let keyword = if site.is("include") {
+        "submodule"
+    } else {
+        "module"
+    };
+    Sites::all(site.entries)
+        .take_while(|root| root.is_root())
+        .filter(|root| root.is(keyword))
+        .fold(None, |nearest, root| {
+            Guess::nearer(nearest, Guess::of(site.argument(), root.argument(), None))
         })
 }
 
@@ -22,7 +28,7 @@ pub fn tell_missing<'a>(telling: &mut Message<'a>, site: &Site<'_, 'a>) {
     telling.sentence(Code::MissingModule);
     match site.argument().strip_suffix(".yang") {
         Some(name) => telling.quote(" That is the name of a file: did you mean ", name, "?"),
-        None => say_guess(telling, nearest_file(site.entries, site.argument())),
+        None => say_guess(telling, nearest_file(site)),
     }
 }
 

@@ -1,11 +1,11 @@
 //! The cause of a refusal at a statement.
-use crate::refusal_text::Bounds;
+use crate::found_files::{say_unrequired, tell_missing_file, tell_second_file};
 use std::alloc::AllocError;
+use yv_job::Job;
 use yv_link_scopes::Rows;
 use yv_note_names::{
     tell_cycle, tell_feature_name, tell_grouping_name, tell_identity_name, tell_imports,
-    tell_missing, tell_prefix, tell_revision, tell_second_module, tell_second_name, tell_submodule,
-    tell_type_name,
+    tell_prefix, tell_revision, tell_second_name, tell_submodule, tell_type_name,
 };
 use yv_note_nodes::{
     tell_augment, tell_augment_target, tell_config, tell_default_case, tell_key, tell_mandatory,
@@ -23,7 +23,7 @@ use yv_text_statement::Code;
 pub(crate) struct Refused<'r, 's, 'a, 'b> {
     pub(crate) rows: &'r Rows<'a, 'b>,
     pub(crate) site: Site<'s, 'a>,
-    pub(crate) bounds: &'r Bounds<'r>,
+    pub(crate) job: &'a Job,
     pub(crate) code: Code,
 }
 
@@ -56,8 +56,8 @@ impl<'a> Refused<'_, '_, 'a, '_> {
     fn tell_module(&self, telling: &mut Message<'a>) -> Result<(), AllocError> {
         let site = &self.site;
         match self.code {
-            Code::DuplicateModule => tell_second_module(telling, site),
-            Code::MissingModule => tell_missing(telling, site),
+            Code::DuplicateModule => tell_second_file(telling, site, self.job),
+            Code::MissingModule => tell_missing_file(telling, site, self.job),
             Code::Revision => tell_revision(telling, site),
             Code::Submodule => tell_submodule(telling, site),
             Code::ImportCycle => return tell_imports(telling, self.rows, site),
@@ -95,8 +95,12 @@ impl<'a> Refused<'_, '_, 'a, '_> {
 
     // The same, of the number of nodes.
     fn tell_units(&self, telling: &mut Message<'a>) -> Result<(), AllocError> {
-        let Bounds { selection, limit } = *self.bounds;
-        tell_units(telling, self.rows, selection, limit, self.site.entries)
+        let Job {
+            selection,
+            limit,
+            ..
+        } = self.job;
+        tell_units(telling, self.rows, selection, *limit, self.site.entries)
     }
 
     // The same, of refines and augments, of types, and of the nodes of the schema.
@@ -105,7 +109,7 @@ impl<'a> Refused<'_, '_, 'a, '_> {
         match self.code {
             Code::RefineTarget => return tell_refine_target(telling, site),
             Code::BadRefine => return tell_refine(telling, site),
-            Code::AugmentTarget => return tell_augment_target(telling, site),
+            Code::AugmentTarget => return self.tell_target(telling),
             Code::BadAugment => return tell_augment(telling, site),
             Code::BadRestriction => return tell_restriction(telling, site),
             Code::BadNumbering => return tell_item(telling, site),
@@ -117,11 +121,28 @@ impl<'a> Refused<'_, '_, 'a, '_> {
             Code::BadDefault if site.is("choice") => return tell_default_case(telling, site),
             Code::BadDefault => return tell_default(telling, site),
             Code::BadMandatory => return tell_mandatory(telling, site),
-            Code::BadPath => return tell_path(telling, site),
+            Code::BadPath => return self.tell_leafref(telling),
             Code::PathCycle => return tell_path_cycle(telling, site),
             Code::BadConfig => tell_config(telling, site),
             Code::BadOperation => return tell_operation(telling, site),
             _ => {}
+        }
+        Ok(())
+    }
+
+    // The same, of the target of an `augment`.
+    fn tell_target(&self, telling: &mut Message<'a>) -> Result<(), AllocError> {
+        tell_augment_target(telling, &self.site)?;
+        say_unrequired(telling, &self.site, self.site.argument(), self.job);
+        Ok(())
+    }
+
+    // The same, of the path of a leafref.
+    fn tell_leafref(&self, telling: &mut Message<'a>) -> Result<(), AllocError> {
+        tell_path(telling, &self.site)?;
+        let path = self.site.child("type").and_then(|kind| kind.child("path"));
+        if let Some(path) = path {
+            say_unrequired(telling, &path, path.argument(), self.job);
         }
         Ok(())
     }

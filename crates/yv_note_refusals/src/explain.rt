@@ -5,9 +5,10 @@ ghost use Rattle.yv_note_refusals.specs.{Explanations.{Explains, Speaks, bytes_a
 ghost use Rattle.yv_note_text.specs.{Clear.{is_clear}, Quotes.{Extends}};
 
 use crate::clear::push_clear;
-use crate::refusal_text::{Bounds, push_sentence};
+use crate::refusal_text::push_sentence;
 use std::alloc::{AllocError, Global};
 use yv_base_streams::Input;
+use yv_job::Job;
 use yv_link_scopes::Rows;
 use yv_note_syntax::push_unread;
 use yv_note_text::excerpt;
@@ -29,7 +30,7 @@ fn push_told(
     alloc: Global,
     text: &mut String,
     inputs: &[Input],
-    bounds: &Bounds<'_>,
+    job: &Job,
     refusal: &Refusal,
 ) -> Result<(), AllocError>
     ensures grows { OnOk result (Extends (string_bytes text.old) (string_bytes text.new)) }
@@ -40,7 +41,7 @@ fn push_told(
     match texts.statements(alloc) {
         Ok(statements) => {
             let rows = Rows::read(alloc, &statements)?;
-            push_sentence(alloc, text, inputs, &rows, bounds, refusal)?;
+            push_sentence(alloc, text, inputs, &rows, job, refusal)?;
             Ok(())
         }
         Err(Stop::Fault(_)) => {
@@ -56,13 +57,13 @@ fn push_told(
 fn sentence(
     alloc: Global,
     inputs: &[Input],
-    bounds: &Bounds<'_>,
+    job: &Job,
     refusal: &Refusal,
 ) -> Result<String, AllocError>
     ensures { IfOk result (λ s. Speaks (map file_of inputs.now) refusal.now (string_bytes s)) }
 {
     let mut text = String::new(alloc);
-    push_told(alloc, &mut text, inputs, bounds, refusal)?;
+    push_told(alloc, &mut text, inputs, job, refusal)?;
     Ok(text)
 }
 
@@ -73,7 +74,7 @@ fn sentence(
 pub fn explanation(
     alloc: Global,
     inputs: &[Input],
-    bounds: &Bounds<'_>,
+    job: &Job,
     refusal: &Refusal,
 ) -> Result<String, AllocError>
     // The line that contains the refusal's place, and below it the code's name with a sentence.
@@ -91,7 +92,7 @@ pub fn explanation(
     let mut text = excerpt(alloc, bytes, place.min(bytes.len()))?;
     text.push_str(refusal.code.name())?;
     text.push_str(": ")?;
-    let sentence = sentence(alloc, inputs, bounds, refusal)?;
+    let sentence = sentence(alloc, inputs, job, refusal)?;
     push_clear(&mut text, sentence.as_str())?;
     text.push_str("\n")?;
     Ok(text)

@@ -8,9 +8,10 @@ use crate::cause::Refused;
 use crate::words::subject;
 use std::alloc::{AllocError, Global};
 use yv_base_streams::Input;
+use yv_job::Job;
 use yv_link_scopes::{Entry, Rows};
 use yv_note_statements::{Message, Site, entries, push_around, push_plain, sentence_of};
-use yv_text_statement::{Code, Refusal, Selection, Statement};
+use yv_text_statement::{Code, Refusal, Statement};
 
 // Whether a statement is at the refusal's place.
 fn is_at(entry: &Entry<'_, '_>, refusal: &Refusal) -> bool
@@ -39,20 +40,11 @@ fn number_at(rows: &Rows<'_, '_>, refusal: &Refusal) -> usize {
         .unwrap_or(0)
 }
 
-/// What bounds a run: its selection of modules and features, and its limit.
-#[derive(Clone, Copy)]
-pub struct Bounds<'b> {
-    /// Which modules are implemented, and which features are supported.
-    pub selection: &'b Selection,
-    /// The highest number of units: nodes, and uses that are expanded.
-    pub limit: u32,
-}
-
 // What is said of a refusal at a statement.
 fn telling_of<'a>(
     alloc: Global,
     rows: &Rows<'a, '_>,
-    bounds: &Bounds<'_>,
+    job: &'a Job,
     refusal: &Refusal,
 ) -> Result<Message<'a>, AllocError> {
     let entries = entries(alloc, rows)?;
@@ -61,7 +53,7 @@ fn telling_of<'a>(
         let refused = Refused {
             rows,
             site,
-            bounds,
+            job,
             code: refusal.code,
         };
         refused.tell_cause(&mut telling)?;
@@ -105,7 +97,7 @@ fn sentence(
     alloc: Global,
     inputs: &[Input],
     rows: &Rows<'_, '_>,
-    bounds: &Bounds<'_>,
+    job: &Job,
     refusal: &Refusal,
 ) -> Result<String, AllocError>
     ensures { IfOk result (λ s. Names (rows_in rows.now) refusal.now (string_bytes s)) }
@@ -115,7 +107,7 @@ fn sentence(
         push_meaning(&mut text, refusal.code)?;
         return Ok(text);
     };
-    let telling = telling_of(alloc, rows, bounds, refusal)?;
+    let telling = telling_of(alloc, rows, job, refusal)?;
     push_about(&mut text, inputs, &telling, refusal.code, entry.statement)?;
     Ok(text)
 }
@@ -128,7 +120,7 @@ pub fn push_sentence(
     text: &mut String,
     inputs: &[Input],
     rows: &Rows<'_, '_>,
-    bounds: &Bounds<'_>,
+    job: &Job,
     refusal: &Refusal,
 ) -> Result<(), AllocError>
     // The text is extended, and quotes the word of the first statement at the refusal's place.
@@ -138,7 +130,7 @@ pub fn push_sentence(
     // After an error the text is as it was.
     ensures same { OnErr result (string_bytes text.new ≡ string_bytes text.old) }
 {
-    let sentence = sentence(alloc, inputs, rows, bounds, refusal)?;
+    let sentence = sentence(alloc, inputs, rows, job, refusal)?;
     text.push_str(sentence.as_str())?;
     Ok(())
 }

@@ -14,9 +14,9 @@ use std::alloc::{AllocError, Global};
 use std::io::{Read, Write};
 use yv_base_streams::{Counted, Input, InputFault, read_up_to};
 use yv_job::{Command, Job};
-use yv_note_refusals::{Bounds, explanation};
+use yv_note_refusals::explanation;
 use yv_schema::Schema;
-use yv_text_statement::{Kind, Refusal};
+use yv_text_statement::Refusal;
 
 /// What is read of a document: one byte more than it may have, so that its being too large shows.
 const DATA_BYTES: usize = 16_777_217;
@@ -63,11 +63,7 @@ fn refusal_note(
         (λ note. IsSomeAnd (option_map string_bytes note)
         (TellsRefusal (map file_of inputs.now) refusal.now)) }
 {
-    let bounds = Bounds {
-        selection: &job.selection,
-        limit: job.limit,
-    };
-    Ok(Some(explanation(alloc, inputs, &bounds, refusal)?))
+    Ok(Some(explanation(alloc, inputs, job, refusal)?))
 }
 
 /// Writes what was asked of the schema.
@@ -101,7 +97,7 @@ pub(crate) fn write_answer<R: Read, W: Write>(
     match &job.command {
         Command::Compile => write_count(alloc, schema, writer),
         Command::Tree(name) => write_diagram(alloc, job, schema, name.as_str(), writer),
-        Command::Validate(_) => validate_document(alloc, schema, job.kind, reader, writer),
+        Command::Validate(_) => validate_document(alloc, job, schema, reader, writer),
     }
 }
 
@@ -154,7 +150,7 @@ fn write_diagram<W: Write>(
     let (status, note) = {
         let output = of_diagram(alloc, &schema, name)?;
         let status = write_output(&output, writer);
-        let note = diagram_note(alloc, &schema, &job.selection, name, &output);
+        let note = diagram_note(alloc, job, &schema, name, &output);
         (status, note)
     };
     Ok(RunEnd {
@@ -167,15 +163,15 @@ fn write_diagram<W: Write>(
 // Reads a document, and writes what is said of it.
 fn validate_document<R: Read, W: Write>(
     alloc: Global,
+    job: &Job,
     schema: Schema,
-    kind: Kind,
     reader: &mut Counted<R>,
     writer: &mut Counted<W>,
 ) -> Result<RunEnd, Halt>
     requires reader { IsFresh reader.old }
     requires writer { IsFresh writer.old }
     ensures runs { IfOk result
-        (λ e. RunsData kind schema e (R.remaining (stream_inner reader.old))
+        (λ e. RunsData job.now.kind schema e (R.remaining (stream_inner reader.old))
         (R.remaining (stream_inner reader.new))
         (W.contents (stream_inner writer.old)) (W.contents (stream_inner writer.new))) }
     ensures ends { IfOk result (λ e. IsStopped e.status → ⊥) }
@@ -190,7 +186,7 @@ fn validate_document<R: Read, W: Write>(
     ensures never_built { IsErrOf result Halt.PatternBuild → ⊥ }
 {
     match read_up_to(alloc, DATA_BYTES, reader) {
-        Ok(bytes) => write_findings(alloc, schema, bytes.as_slice(), kind, writer),
+        Ok(bytes) => write_findings(alloc, job, schema, bytes.as_slice(), writer),
         Err(InputFault::Read) => Err(Halt::Read),
         Err(InputFault::NoMemory) => Err(Halt::NoMemory),
     }
@@ -199,16 +195,16 @@ fn validate_document<R: Read, W: Write>(
 // Writes what is said of a document of these bytes.
 fn write_findings<W: Write>(
     alloc: Global,
+    job: &Job,
     schema: Schema,
     bytes: &[u8],
-    kind: Kind,
     writer: &mut Counted<W>,
 ) -> Result<RunEnd, Halt>
     requires { IsFresh writer.old }
     ensures writes { IfOk result
-        (λ e. Writes (data_printed kind schema bytes.now) e.status
+        (λ e. Writes (data_printed job.now.kind schema bytes.now) e.status
         (W.contents (stream_inner writer.old)) (W.contents (stream_inner writer.new))) }
-    ensures notes { IfOk result (HasNote (NotesData kind schema bytes.now)) }
+    ensures notes { IfOk result (HasNote (NotesData job.now.kind schema bytes.now)) }
     ensures ends { IfOk result (λ e. IsStopped e.status → ⊥) }
     ensures write_fault { IfOk result
         (λ e. e.status ≡ Status.WriteFault ↔ (has_failed writer.new ≡ true)) }
@@ -216,9 +212,9 @@ fn write_findings<W: Write>(
     ensures rest { OnErr result (writer.new ≡ writer.old) }
     ensures no_memory { IfErr result (λ h. h ≡ Halt.NoMemory) }
 {
-    let answer = of_data(alloc, &schema, bytes, kind)?;
+    let answer = of_data(alloc, &schema, bytes, job.kind)?;
     let status = write_output(&answer.output, writer);
-    let note = answer.note(alloc, &schema, bytes);
+    let note = answer.note(alloc, job, &schema, bytes);
     Ok(RunEnd {
         status,
         note,

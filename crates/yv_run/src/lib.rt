@@ -22,4 +22,4 @@ pub use print::{Body, CheckResult, Output, of_count, of_data, of_diagram, of_ref
 pub use status::{Status, Verdict};
 pub use whole_run::{Holdings, RunEnd, run, run_with_note};
 pub use yv_base_streams::{Counted, Input, InputFault, read_input};
-pub use yv_job::{Command, Job, JobFault, read_job};
+pub use yv_job::{Action, Command, FolderSearch, Job, JobFault, Request, read_request};

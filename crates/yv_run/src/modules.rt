@@ -1,25 +1,18 @@
 //! The modules that have a tree diagram.
 use std::alloc::{AllocError, Global};
-use yv_note_text::{Joint, Likeness, compare, push_between, push_quoted};
+use yv_job::Job;
+use yv_note_text::{Joint, Likeness, compare, front, push_between, push_quoted, push_shown};
 use yv_schema_tables::Module;
-use yv_text_statement::Selection;
 
 /// Why there is no diagram of the module of this name, and of which modules there is one.
 pub(crate) fn modules_note(
     alloc: Global,
     modules: &[Module],
-    selection: &Selection,
+    job: &Job,
     name: &str,
 ) -> Result<String, AllocError> {
     let mut text = String::new(alloc);
-    if selection.is_implemented(name) {
-        text.push_str("tree: there is no module ")?;
-        push_quoted(&mut text, name)?;
-    } else {
-        text.push_str("tree: --import-only names the module ")?;
-        push_quoted(&mut text, name)?;
-        text.push_str(", so it is not implemented")?;
-    }
+    push_reason(&mut text, job, name)?;
     push_list(&mut text, modules)?;
     if let Some(near) = nearest(modules, name) {
         text.push_str("; did you mean ")?;
@@ -28,6 +21,25 @@ pub(crate) fn modules_note(
     }
     text.push_str("\n")?;
     Ok(text)
+}
+
+// Adds why there is no diagram of a module.
+fn push_reason(text: &mut String, job: &Job, name: &str) -> Result<(), AllocError> {
+    text.push_str("tree: ")?;
+    if let Some(file) = job.unrequired_file(name) {
+        push_shown(text, front(file.as_bytes()))?;
+        text.push_str(" was found by --path and nothing requires ")?;
+        push_quoted(text, name)?;
+        return text.push_str("; name the file to implement it");
+    }
+    if job.selection.is_implemented(name) {
+        text.push_str("there is no module ")?;
+        push_quoted(text, name)
+    } else {
+        text.push_str("--import-only names the module ")?;
+        push_quoted(text, name)?;
+        text.push_str(", so it is not implemented")
+    }
 }
 
 // Adds the names of modules, of many the first 8.

@@ -9,10 +9,10 @@ use crate::print::{Body, CheckResult, Output};
 use crate::status::Verdict;
 use serde_json::Value;
 use std::alloc::{AllocError, Global};
+use yv_job::Job;
 use yv_note_faults::sentences;
 use yv_note_refusals::{why_not_json, why_too_large};
 use yv_schema::Schema;
-use yv_text_statement::Selection;
 use yv_validate::Fault;
 
 impl CheckResult {
@@ -21,6 +21,7 @@ impl CheckResult {
     pub fn note(
         &self,
         alloc: Global,
+        job: &Job,
         schema: &Schema,
         bytes: &[u8],
     ) -> Result<Option<String>, AllocError>
@@ -31,7 +32,7 @@ impl CheckResult {
         match &self.document {
             Document::TooLarge => Ok(Some(why_too_large(alloc, bytes)?)),
             Document::NotJson => why_not_json(alloc, bytes),
-            Document::Json(json) => fault_note(alloc, schema, json, self.output.body.faults()),
+            Document::Json(json) => fault_note(alloc, job, schema, json, self.output.body.faults()),
         }
     }
 }
@@ -51,6 +52,7 @@ impl Body<'_> {
 // Sentences on faults, if there are some.
 fn fault_note(
     alloc: Global,
+    job: &Job,
     schema: &Schema,
     json: &Value,
     faults: &[Fault],
@@ -60,15 +62,15 @@ fn fault_note(
     if faults.is_empty() {
         return Ok(None);
     }
-    Ok(Some(sentences(alloc, schema, json, faults)?))
+    Ok(Some(sentences(alloc, schema, json, job, faults)?))
 }
 
 /// Why there is no diagram of the module of this name, and of which modules there is one; none, if
 /// this output is a diagram.
 pub fn diagram_note(
     alloc: Global,
+    job: &Job,
     schema: &Schema,
-    selection: &Selection,
     name: &str,
     output: &Output<'_>,
 ) -> Result<Option<String>, AllocError>
@@ -76,7 +78,7 @@ pub fn diagram_note(
         → IfOk result (λ note. NotesDiagram schema.now name.now (option_map string_bytes note)) }
 {
     match output.verdict {
-        Verdict::Refused => Ok(Some(modules_note(alloc, schema.modules(), selection, name)?)),
+        Verdict::Refused => Ok(Some(modules_note(alloc, schema.modules(), job, name)?)),
         Verdict::Clean | Verdict::BadInput => Ok(None),
     }
 }

@@ -4,7 +4,7 @@ ghost use Rattle.std.specs.Prelude.{◌≡◌, ◌↔◌, ◌⊎◌, true, ℕ, 
 ghost use Rattle.yv_job.specs.Jobs.{HasFiles, HasLimit, task_of};
 ghost use Rattle.yv_text_statement.specs.Selection.{ModuleChoice, selected_of};
 ghost use Rattle.yv_base_streams.specs.{Stream.{stream_inner, has_failed, IsFresh, FailsOnceAtMost, TakesAtMost}, Files.{file_of}};
-ghost use Rattle.yv_run.specs.{Compiles.{HavePattern}, Output.{WantsData, IsStopped}, Notes.{NotesPattern, RunsWithNote}, Runs.{Runs, most_read}};
+ghost use Rattle.yv_run.specs.{declared.whole_run.Halt.TheVariants.{NoMemory}, Compiles.{HavePattern}, Output.{WantsData, IsStopped}, Notes.{NotesPattern, RunsWithNote}, Runs.{Runs, most_read}};
 
 use crate::answers::{write_answer, write_refusal};
 use crate::compilation::compile_files;
@@ -33,9 +33,6 @@ pub enum Halt {
 }
 
 impl From<AllocError> for Halt {
-    ghost use Rattle.std.specs.Prelude.{◌≡◌};
-    ghost use Rattle.yv_run.specs.declared.whole_run.Halt.TheVariants.{NoMemory};
-
     ghost from_gives = { λ _ h. h ≡ NoMemory };
 
     fn from(_error: AllocError) -> Halt {
