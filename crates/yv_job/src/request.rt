@@ -36,21 +36,29 @@ impl Request {
     /// searched.
     pub fn into_job(self) -> Option<Job>
         // The request is for the task of this job; where there is none, it is for no task.
-        ensures { MatchOption result ((t : Task) → request_of self.entry ≡ plain_request t → ⊥)
-            (λ j. request_of self.entry ≡ plain_request (task_of j)) }
+        ensures { MatchOption result ((t : Task) → request_of self ≡ plain_request t → ⊥)
+            (λ j. request_of self ≡ plain_request (task_of j)) }
     {
-        let Action::Run(command) = self.action else {
+        let Request {
+            action,
+            folders,
+            files,
+            limit,
+            selection,
+            kind,
+        } = self;
+        let Action::Run(command) = action else {
             return None;
         };
-        if !self.folders.is_empty() {
+        if !folders.is_empty() {
             return None;
         }
         Some(Job {
             command,
-            files: self.files,
-            limit: self.limit,
-            selection: self.selection,
-            kind: self.kind,
+            files,
+            limit,
+            selection,
+            kind,
             search: None,
         })
     }

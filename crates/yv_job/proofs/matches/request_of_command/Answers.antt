@@ -1,4 +1,4 @@
-use Rattle.std.proofs.Common.{rules, option_map, string_bytes, IfErr, subst, List, ℕ}
+use Rattle.std.proofs.Common.{option_map, string_bytes, IfErr, subst, List, ℕ}
 use Rattle.clap.specs.Words.{rows_of, found_of}
 use Rattle.yv_job.specs.Faults.{IsReason}
 use Rattle.yv_job.proofs.FaultLemmas.{limit_line, kind_line}
