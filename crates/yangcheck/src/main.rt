@@ -1,8 +1,10 @@
 //! Compiles YANG modules, draws their trees and validates JSON documents against them.
 #![tactic(auto)]
 
-mod error_reader;
+mod plan;
 mod program;
+mod search;
+mod stop;
 
 use std::process::ExitCode;
 

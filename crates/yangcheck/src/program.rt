@@ -1,24 +1,27 @@
 //! The program over a runtime: its words, its files, its standard streams and its exit status.
-ghost use Rattle.std.specs.Prelude.{◌≡◌, ◌≤◌, length, map, string_bytes, IfOk};
+ghost use Rattle.std.specs.Prelude.{◌≡◌, length};
 ghost use Rattle.yv_run.specs.Status.{exit_of};
-ghost use Rattle.yv_job.specs.Jobs.{HasFiles, HasLimit};
-ghost use Rattle.yv_base_streams.specs.Files.{file_of};
+ghost use Rattle.yv_job.specs.{Jobs.{HasFiles, HasLimit}, Requests.{IsLimited}};
 
-use crate::error_reader::ErrorReader;
+use crate::plan::{Plan, plan};
+use crate::search::find_files;
+use crate::stop::{Stop, read_failure};
 use std::alloc::{AllocError, Global};
-use std::fmt::Display;
 use std::fs::File;
 use std::io::{ErrorKind, Read};
 use std::mem::ManuallyDrop;
 use std::rt::{Env, Files};
 use std::{env, io};
-use yv_base_streams::{Counted, Input, InputFault, read_input};
-use yv_job::{Command, Job, JobFault, read_job};
+use yv_base_streams::{Counted, Input};
+use yv_folders::ErrorReader;
+use yv_job::{Command, Job, JobFault, Request, read_request};
 use yv_note_text::push_shown;
 use yv_run::{RunEnd, Status, run_with_note};
 
 /// Does what the process's arguments ask for, and answers its exit status.
-pub fn program<R: Env + Files + io::Input + Print + Eprint + AllocGlobal>(rt: &R) -> u8 {
+pub fn program<R: Env + Files + io::Input + Print + Eprint + AllocGlobal + Clone + Drop>(
+    rt: &R,
+) -> u8 {
     let words: Vec<String> = match env::args(rt) {
         Ok(words) => match words.collect(rt.alloc()) {
             Ok(words) => words,
@@ -26,15 +29,9 @@ pub fn program<R: Env + Files + io::Input + Print + Eprint + AllocGlobal>(rt: &R
         },
         Err(error) => return without_words(rt, error.kind()),
     };
-    match read_job(rt.alloc(), words.as_slice()) {
-        Ok(job) => {
-            let ended = do_job(rt, &job);
-            let exit = print_reason(rt, &ended);
-            // The process ends now, so what the run holds need not be dropped piece by piece.
-            let _ended = ManuallyDrop::new(ended);
-            exit
-        }
-        Err(JobFault::Help(text)) => print_help(rt, text.as_str()),
+    match read_request(rt.alloc(), words.as_slice()) {
+        Ok(request) => do_request(rt, request),
+        Err(JobFault::Help(text)) => print_text(rt, text.as_str()),
         Err(JobFault::Usage(text)) => print_refusal(rt, text.as_str()),
         Err(JobFault::NoMemory) => print_stop(rt, Status::NoMemory),
     }
@@ -49,8 +46,8 @@ fn without_words<R: Eprint + AllocGlobal>(rt: &R, kind: ErrorKind) -> u8 {
     }
 }
 
-// Prints a help text, and answers the exit status.
-fn print_help<R: Print + Eprint>(rt: &R, text: &str) -> u8 {
+// Prints a text, and answers the exit status.
+fn print_text<R: Print + Eprint>(rt: &R, text: &str) -> u8 {
     match rt.print(text) {
         Ok(()) => 0,
         Err(_) => print_stop(rt, Status::WriteFault),
@@ -102,47 +99,36 @@ fn print_reason<R: Eprint>(rt: &R, ended: &RunEnd) -> u8
     exit
 }
 
-// Does the job.
-fn do_job<R: Files + io::Input + Print + AllocGlobal>(rt: &R, job: &Job) -> RunEnd
-    requires files { HasFiles job.now }
-    requires limit { HasLimit job.now }
+// Does what a request asks for, and answers the exit status.
+fn do_request<R: Files + io::Input + Print + Eprint + AllocGlobal + Clone + Drop>(
+    rt: &R,
+    request: Request,
+) -> u8
+    requires { IsLimited request.entry }
 {
-    match inputs(rt, job) {
-        Ok(inputs) => run_files(rt, job, inputs.as_slice()),
-        Err(ended) => ended,
+    let files = match find_files(rt, &request) {
+        Ok(files) => files,
+        Err(Stop::Usage(text)) => return print_refusal(rt, text.as_str()),
+        Err(Stop::Ended(ended)) => return print_reason(rt, &ended),
+    };
+    match plan(rt.alloc(), request, files.as_slice()) {
+        Ok(Plan::Run(job)) => {
+            let ended = run_files(rt, &job, files.as_slice());
+            let exit = print_reason(rt, &ended);
+            // The process ends now, so what the run holds need not be dropped piece by piece.
+            let _ended = ManuallyDrop::new(ended);
+            exit
+        }
+        Ok(Plan::Print(text)) => print_text(rt, text.as_str()),
+        Err(_) => print_stop(rt, Status::NoMemory),
     }
-}
-
-// A run that found no memory.
-fn without_memory() -> RunEnd {
-    RunEnd::stop_with_note(Status::NoMemory, Ok(None))
-}
-
-// A run that is stopped by a file that can't be opened or read, with the file's name and the
-// system's reason.
-fn read_failure<R: AllocGlobal, D: Display + Drop>(rt: &R, name: &str, reason: D) -> RunEnd {
-    let note = unread_note(rt.alloc(), name, reason).map(Some);
-    RunEnd::stop_with_note(Status::ReadFault, note)
-}
-
-// The name of a file as a terminal may show it, and why it can't be read.
-fn unread_note<D: Display + Drop>(
-    alloc: Global,
-    name: &str,
-    reason: D,
-) -> Result<String, AllocError> {
-    let mut note = String::new(alloc);
-    push_shown(&mut note, name.as_bytes())?;
-    let reason = format!(in alloc; ": {reason}\n")?;
-    note.push_str(reason.as_str())?;
-    Ok(note)
 }
 
 // A run that is stopped by a file that was opened, and whose reading failed.
 fn unreadable<R: AllocGlobal, D>(rt: &R, name: &str, reader: &ErrorReader<D>) -> RunEnd {
     match reader.failure() {
-        Some(error) => read_failure(rt, name, error),
-        None => read_failure(rt, name, "reading it failed"),
+        Some(error) => read_failure(rt.alloc(), name, error),
+        None => read_failure(rt.alloc(), name, "reading it failed"),
     }
 }
 
@@ -162,7 +148,7 @@ fn run_files<R: Files + io::Input + Print + AllocGlobal>(
         }
         Command::Validate(file) => match File::open(rt, file.as_str()) {
             Ok(data) => run_over(rt, job, inputs, file.as_str(), data),
-            Err(error) => read_failure(rt, file.as_str(), error),
+            Err(error) => read_failure(rt.alloc(), file.as_str(), error),
         },
         Command::Compile | Command::Tree(_) => run_over(rt, job, inputs, "", io::empty()),
     }
@@ -187,38 +173,5 @@ fn run_over<R: Print + AllocGlobal, D: Read + Drop>(
         unreadable(rt, name, &reader.into_inner())
     } else {
         ended
-    }
-}
-
-// The job's files, read in order, under the names that the job gives them.
-fn inputs<R: Files + AllocGlobal>(rt: &R, job: &Job) -> Result<Vec<Input>, RunEnd>
-    ensures each { IfOk result (λ v. length v.items ≡ length job.now.files.items) }
-    ensures names { IfOk result
-        (λ v. map (λ i. (file_of i).name) v.items ≡ map string_bytes job.now.files.items) }
-{
-    let mut inputs = Vec::new(rt.alloc());
-    for name in job.files.iter() {
-        let input = open_file(rt, name.as_str())?;
-        if inputs.push(input).is_err() {
-            return Err(without_memory());
-        }
-    }
-    Ok(inputs)
-}
-
-// The file of this name, read.
-fn open_file<R: Files + AllocGlobal>(rt: &R, name: &str) -> Result<Input, RunEnd>
-    ensures { IfOk result (λ i. (file_of i).name ≡ name.now) }
-{
-    match File::open(rt, name) {
-        Ok(file) => {
-            let mut reader = Counted::new(ErrorReader::new(file));
-            match read_input(rt.alloc(), name, &mut reader) {
-                Ok(input) => Ok(input),
-                Err(InputFault::Read) => Err(unreadable(rt, name, &reader.into_inner())),
-                Err(InputFault::NoMemory) => Err(without_memory()),
-            }
-        }
-        Err(error) => Err(read_failure(rt, name, error)),
     }
 }

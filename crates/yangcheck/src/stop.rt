@@ -1,0 +1,67 @@
+//! Why a run ends before it compiles.
+use std::alloc::{AllocError, Global};
+use std::fmt::Display;
+use yv_note_text::push_shown;
+use yv_run::{RunEnd, Status};
+
+/// What stopped a run before it compiled.
+#[derive(Drop)]
+pub(crate) enum Stop {
+    /// The words ask for what can't be done. The text is for standard error.
+    Usage(String),
+    /// A file can't be read, or there is no memory.
+    Ended(RunEnd),
+}
+
+impl Stop {
+    /// Memory was refused.
+    pub(crate) fn no_memory() -> Stop {
+        Stop::Ended(RunEnd::stop_with_note(Status::NoMemory, Ok(None)))
+    }
+
+    /// The words ask for what can't be done, for this reason.
+    pub(crate) fn usage(alloc: Global, reason: &str) -> Stop {
+        Stop::of_usage(format!(in alloc; "yangcheck: usage\n{reason}\n"))
+    }
+
+    /// A folder was named as a file.
+    pub(crate) fn folder(alloc: Global, name: &str) -> Stop {
+        Stop::of_usage(format!(
+            in alloc;
+            "yangcheck: usage\n\"{name}\" is a folder; --path {name} finds the modules in it\n"
+        ))
+    }
+
+    // The words ask for what can't be done, by this text.
+    fn of_usage(text: Result<String, AllocError>) -> Stop {
+        match text {
+            Ok(text) => Stop::Usage(text),
+            Err(_) => Stop::no_memory(),
+        }
+    }
+
+    /// A file or a folder of this name can't be read, for this reason of the system's.
+    pub(crate) fn unread<D: Display + Drop>(alloc: Global, name: &str, reason: D) -> Stop {
+        Stop::Ended(read_failure(alloc, name, reason))
+    }
+}
+
+/// A run that is stopped by a file that can't be opened or read, with the file's name and the
+/// system's reason.
+pub(crate) fn read_failure<D: Display + Drop>(alloc: Global, name: &str, reason: D) -> RunEnd {
+    let note = unread_note(alloc, name, reason).map(Some);
+    RunEnd::stop_with_note(Status::ReadFault, note)
+}
+
+// The name of a file as a terminal may show it, and why it can't be read.
+fn unread_note<D: Display + Drop>(
+    alloc: Global,
+    name: &str,
+    reason: D,
+) -> Result<String, AllocError> {
+    let mut note = String::new(alloc);
+    push_shown(&mut note, name.as_bytes())?;
+    let reason = format!(in alloc; ": {reason}\n")?;
+    note.push_str(reason.as_str())?;
+    Ok(note)
+}
