@@ -17,6 +17,12 @@ _yangcheck_files() {
   compopt -o filenames 2> /dev/null
 }
 
+# Offers directories.
+_yangcheck_folders() {
+  mapfile -t COMPREPLY < <(compgen -d -- "$1")
+  compopt -o filenames 2> /dev/null
+}
+
 # Offers words.
 _yangcheck_words() {
   mapfile -t COMPREPLY < <(compgen -W "$1" -- "$2")
@@ -26,6 +32,7 @@ _yangcheck_words() {
 _yangcheck_value() {
   local option=$1 word=$2
   case $option in
+    --path) _yangcheck_folders "$word" ;;
     --data) _yangcheck_files .json "$word" ;;
     --kind) _yangcheck_words "data config" "$word" ;;
     --module) _yangcheck_words "$(_yangcheck_module_names)" "$word" ;;
@@ -41,9 +48,9 @@ _yangcheck_value() {
   return 0
 }
 
-# Offers the options of a command that the command line does not have yet.
+# Offers the options of a command that the command line does not have yet, and `--path`, which may be repeated.
 _yangcheck_options() {
-  local command=$1 word=$2 option left=()
+  local command=$1 word=$2 option left=(--path)
   local options=(--max-nodes --support --import-only --help)
   [ "$command" = tree ] && options+=(--module)
   [ "$command" = validate ] && options+=(--data --kind)
@@ -63,9 +70,9 @@ _yangcheck() {
     before=${COMP_WORDS[COMP_CWORD - 2]}
   fi
   if [ "$COMP_CWORD" = 1 ]; then
-    _yangcheck_words "compile tree validate help --help --version" "$word"
+    _yangcheck_words "compile tree validate files help --help --version" "$word"
   elif [ "$command" = help ]; then
-    [ "$COMP_CWORD" != 2 ] || _yangcheck_words "compile tree validate help" "$word"
+    [ "$COMP_CWORD" != 2 ] || _yangcheck_words "compile tree validate files help" "$word"
   elif _yangcheck_value "$before" "$word"; then
     return
   elif [[ $word == -* ]]; then

@@ -8,7 +8,7 @@ function __yangcheck_modules
     cat $files 2>/dev/null | string match -rg '^\s*module\s+([A-Za-z_][A-Za-z0-9_.-]*)'
 end
 
-set -l commands compile tree validate
+set -l commands compile tree validate files
 set -l in_command "__fish_seen_subcommand_from $commands"
 
 complete -c yangcheck -f
@@ -17,9 +17,11 @@ complete -c yangcheck -n __fish_use_subcommand -s V -l version -d 'Print the ver
 complete -c yangcheck -n __fish_use_subcommand -a compile -d 'Compile modules, and count the nodes of their schema'
 complete -c yangcheck -n __fish_use_subcommand -a tree -d 'Draw the tree diagram of a module'
 complete -c yangcheck -n __fish_use_subcommand -a validate -d 'Validate a JSON document against modules'
+complete -c yangcheck -n __fish_use_subcommand -a files -d 'Print the files that are named and found'
 complete -c yangcheck -n __fish_use_subcommand -a help -d 'Print help'
 complete -c yangcheck -n '__fish_seen_subcommand_from help' -a "$commands help"
 
+complete -c yangcheck -n $in_command -l path -x -a '(__fish_complete_directories (commandline -ct))' -d 'Folder in which imported modules are found'
 complete -c yangcheck -n $in_command -l max-nodes -x -d 'Most nodes and uses that the modules may expand to'
 complete -c yangcheck -n $in_command -l support -x -a '(__yangcheck_modules | string replace -r \'$\' :)' -d 'Supported features of modules'
 complete -c yangcheck -n $in_command -l import-only -x -a '(__fish_append , (__yangcheck_modules))' -d 'Modules that are only imported'
