@@ -3,7 +3,6 @@ ghost use Rattle.std.specs.Prelude.{◌≡◌, ◌≤◌, ◌<◌, ◌+◌, [], 
 ghost use Rattle.yv_base_streams.specs.Files.{file_of, file_limit};
 
 use crate::error_reader::ErrorReader;
-use std::alloc::{AllocError, AllocFailed};
 use std::fs;
 use std::fs::File;
 use std::io::{Error, ErrorKind};
@@ -19,18 +18,6 @@ pub enum FileFault {
     Unread(Error),
     /// There is no memory.
     NoMemory,
-}
-
-impl From<AllocError> for FileFault {
-    fn from(_error: AllocError) -> FileFault {
-        FileFault::NoMemory
-    }
-}
-
-impl<T: Drop> From<AllocFailed<T>> for FileFault {
-    fn from(_error: AllocFailed<T>) -> FileFault {
-        FileFault::NoMemory
-    }
 }
 
 /// Why one of several files can't be read.
