@@ -16,11 +16,11 @@ use yv_validate::Fault;
 /// How many faults are explained.
 const MOST_EXPLAINED: usize = 20;
 
-/// A line for each of the first 20 faults of a document that a job checks, which says what is wrong there and what to
-/// do, and one of how many more there are. Each begins as the fault's line; of a long path it has
-/// the last steps. However long names and paths are, the text has fewer than 30,000 bytes, and
-/// nothing that could drive a terminal. The time is bounded: no value is checked again, and no
-/// earlier entry is looked for.
+/// A line for each of the first 20 faults of a document that a job checks, which says what is wrong
+/// there and what to do, and one of how many more there are. Each begins as the fault's line; of a
+/// long path it has the last steps. However long names and paths are, the text has fewer than
+/// 30,000 bytes, and nothing that could drive a terminal. The time is bounded: no value is checked
+/// again, and no earlier entry is looked for.
 pub fn sentences(
     alloc: Global,
     schema: &Schema,
