@@ -50,7 +50,7 @@ fn read_named<R: Files + AllocGlobal>(rt: &R, request: &Request) -> Result<Vec<I
 fn of_file<R: AllocGlobal>(rt: &R, name: &str, fault: FileFault) -> Stop {
     match fault {
         FileFault::Folder => Stop::folder(rt.alloc(), name),
-        FileFault::Unread(error) => Stop::unread(rt.alloc(), name, error),
+        FileFault::Unread(error) => Stop::unread_file(rt.alloc(), name, error),
         FileFault::NoMemory => Stop::no_memory(),
     }
 }
@@ -64,7 +64,7 @@ fn search_folders<R: Files + AllocGlobal + Clone + Drop>(
     let listing = match list_folders(rt, request.folders.as_slice()) {
         Ok(listing) => listing,
         Err(FolderFault::Unread { name, error }) => {
-            return Err(Stop::unread(rt.alloc(), name.as_str(), error));
+            return Err(Stop::unread_file(rt.alloc(), name.as_str(), error));
         }
         Err(FolderFault::TooMany) => return Err(Stop::usage(rt.alloc(), TOO_MANY_PATHS)),
         Err(FolderFault::NoMemory) => return Err(Stop::no_memory()),
@@ -81,8 +81,8 @@ fn search_folders<R: Files + AllocGlobal + Clone + Drop>(
 // What a found file that can't be read stops.
 fn of_found<R: AllocGlobal>(rt: &R, name: &str, failure: Option<FileFault>) -> Stop {
     match failure {
-        Some(FileFault::Unread(error)) => Stop::unread(rt.alloc(), name, error),
+        Some(FileFault::Unread(error)) => Stop::unread_file(rt.alloc(), name, error),
         Some(FileFault::NoMemory) => Stop::no_memory(),
-        Some(FileFault::Folder) | None => Stop::unread(rt.alloc(), name, "reading it failed"),
+        Some(FileFault::Folder) | None => Stop::unread_file(rt.alloc(), name, "reading it failed"),
     }
 }

@@ -26,8 +26,7 @@ impl Stop {
 
     /// A folder was named as a file.
     pub(crate) fn folder(alloc: Global, name: &str) -> Stop {
-        Stop::of_usage(format!(
-            in alloc;
+        Stop::of_usage(format!(in alloc;
             "yangcheck: usage\n\"{name}\" is a folder; --path {name} finds the modules in it\n"
         ))
     }
@@ -41,7 +40,7 @@ impl Stop {
     }
 
     /// A file or a folder of this name can't be read, for this reason of the system's.
-    pub(crate) fn unread<D: Display + Drop>(alloc: Global, name: &str, reason: D) -> Stop {
+    pub(crate) fn unread_file<D: Display + Drop>(alloc: Global, name: &str, reason: D) -> Stop {
         Stop::Ended(read_failure(alloc, name, reason))
     }
 }

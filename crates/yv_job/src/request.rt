@@ -64,7 +64,7 @@ impl Request {
     }
 }
 
-/// Why there is no request, with the text to print. Each text ends with a line feed.
+/// The fault by which there is no request, with the text to print. Each text ends with a line feed.
 #[derive(Debug, Drop, Error)]
 pub enum JobFault {
     /// The words ask for nothing that can be done. The text is for standard error.

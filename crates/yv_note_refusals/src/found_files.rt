@@ -83,7 +83,8 @@ pub(crate) fn say_unrequired<'a>(
     job: &'a Job,
 ) {
     for step in path.split('/').take(MOST_STEPS) {
-        let Some(module) = prefix_of(step.trim()).and_then(|prefix| imported(site, prefix)) else {
+        let Some(module) = prefix_of(step.trim()).and_then(|prefix| module_of_prefix(site, prefix))
+        else {
             continue;
         };
         if let Some(file) = job.unrequired_file(module) {
@@ -100,7 +101,7 @@ pub(crate) fn say_unrequired<'a>(
 }
 
 // The name of the module that the file of a statement imports with this prefix.
-fn imported<'a>(site: &Site<'_, 'a>, prefix: &str) -> Option<&'a str> {
+fn module_of_prefix<'a>(site: &Site<'_, 'a>, prefix: &str) -> Option<&'a str> {
     site.root()?
         .children()
         .find(|child| child.is("import") && child.says("prefix", prefix))
