@@ -47,6 +47,28 @@ fn plain_selection(
     })
 }
 
+// The selection with which files are what a search of these folders makes of them, and what notes
+// say of the search: where there is no folder, nothing was searched.
+fn search_result(
+    alloc: Global,
+    folders: Vec<String>,
+    named: usize,
+    selection: Selection,
+    files: &[Input],
+) -> Result<(Selection, Option<FolderSearch>), AllocError> {
+    if folders.is_empty() {
+        return Ok((selection, None));
+    }
+    let given = selection.import_only.len();
+    let selection = plain_selection(alloc, files, named, selection)?;
+    let search = FolderSearch {
+        folders,
+        named,
+        given,
+    };
+    Ok((selection, Some(search)))
+}
+
 /// The plan for a request whose files were read.
 #[derive(Drop)]
 pub(crate) enum Plan {
@@ -71,7 +93,6 @@ pub(crate) fn plan(alloc: Global, request: Request, files: &[Input]) -> Result<P
         kind,
     } = request;
     let named = named_files.len();
-    let given = selection.import_only.len();
     let command = match action {
         Action::Run(command) => command,
         Action::Files => {
@@ -79,17 +100,7 @@ pub(crate) fn plan(alloc: Global, request: Request, files: &[Input]) -> Result<P
             return Ok(Plan::Print(text));
         }
     };
-    let (selection, search) = if folders.is_empty() {
-        (selection, None)
-    } else {
-        let search = FolderSearch {
-            folders,
-            named,
-            given,
-        };
-        let selection = plain_selection(alloc, files, named, selection)?;
-        (selection, Some(search))
-    };
+    let (selection, search) = search_result(alloc, folders, named, selection, files)?;
     Ok(Plan::Run(Job {
         command,
         files: names_of(alloc, files)?,
