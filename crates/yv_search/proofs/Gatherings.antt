@@ -9,7 +9,7 @@ use Rattle.yv_search.specs.Wants.{Want}
 use Rattle.yv_search.specs.Choice.{Candidate}
 use Rattle.yv_search.specs.Roots.{HasRoot}
 use Rattle.yv_search.specs.Search.{RootedFile, State, Shelf, Gives, Asks, Steps, passed, found, none_yet, onward, seek, with_file}
-use Rattle.yv_search.specs.FoundFiles.{IsStart, AreGathered, IsMissing, AreTooMany, file_in, most_files}
+use Rattle.yv_search.specs.FoundFiles.{IsStart, AreGathered, IsMissing, AreTooMany, AsksFor, file_in, most_files}
 use Rattle.yv_search.specs.InnerSearch.{IsAt, Passes, at_start, past, Finds, next_file, no_more}
 use Rattle.yv_search.specs.InnerGather.{Takes, Begins, Underway}
 use Rattle.yv_search.specs.declared.search.Search.{Search}
@@ -95,29 +95,30 @@ gathered listing shelf now named files old new way finds = by None (finds way.st
     by : (o : Option ListedFile) → Finds listing way.state new o → o ≡ None → AreGathered listing shelf named files
     by _ (next_file s w c passes asks at) e = absurd (cc)
     by _ (no_more s passes n) e = record {
-      start = way.start;
       end = s;
-      begins = way.begins;
-      steps = steps_pass listing shelf way.start way.state s way.steps passes;
+      reached = record { start = way.start; begins = way.begins; steps = steps_pass listing shelf way.start way.state s way.steps passes };
       done = n;
       files_are = way.files_are ∙ ap (map file_in) (sym (passes_files listing way.state s passes));
     }
+
+asks_for : (listing : List ListedFile) (shelf : Shelf) (named files : List File) (new : Search) (f : ListedFile) (a : Asked listing shelf named files new f) → AsksFor listing shelf named a.state a.candidate
+asks_for listing shelf named files new f a = record { reached = record { start = a.start; begins = a.begins; steps = a.steps }; want = a.want; asks = a.asks }
 
 -- a file is asked for, and there are as many as there may be
 pub too_many : (listing : List ListedFile) (shelf now : Shelf) (named files : List File) (old new : Search) (f : ListedFile) → Underway listing shelf now named files old
     → ((s : State) → IsAt listing old s → Finds listing s new (Some f)) → most_files ≤ length files → AreTooMany listing shelf named
 too_many listing shelf now named files old new f way finds full =
     let a : Asked listing shelf named files new f = asked listing shelf now named files old new f way finds in
-    record { start = a.start; end = a.state; want = a.want; candidate = a.candidate; begins = a.begins; steps = a.steps; asks = a.asks; full = omega (arith, full, ap length a.files_are, length-map a.state.files file_in) }
+    record { state = a.state; candidate = a.candidate; asks = asks_for listing shelf named files new f a; full = omega (arith, full, ap length a.files_are, length-map a.state.files file_in) }
 
 -- a file is asked for that the shelf doesn't have
 pub missing : (listing : List ListedFile) (shelf now : Shelf) (named files : List File) (old new : Search) (f : ListedFile) (name : List ℕ) → Underway listing shelf now named files old
     → ((s : State) → IsAt listing old s → Finds listing s new (Some f)) → name ≡ found_name f → Gives now name None → IsMissing listing shelf named name
 missing listing shelf now named files old new f name way finds is gives =
     let a : Asked listing shelf named files new f = asked listing shelf now named files old new f way finds in
-    record { start = a.start; end = a.state; want = a.want; candidate = a.candidate; begins = a.begins; steps = a.steps; asks = a.asks; name_is = is ∙ ap found_name (sym a.is); lacks = subst (λ (s : Shelf). Gives s name None) way.same gives }
+    record { state = a.state; candidate = a.candidate; asks = asks_for listing shelf named files new f a; name_is = is ∙ ap found_name (sym a.is); lacks = subst (λ (s : Shelf). Gives s name None) way.same gives }
 
--- a file that is asked for is taken
+-- a file that is asked for is read
 pub way_on : (listing : List ListedFile) (shelf now later : Shelf) (named files more : List File) (old mid new : Search) (f : ListedFile) (file : File) → Underway listing shelf now named files old
     → ((s : State) → IsAt listing old s → Finds listing s mid (Some f)) → file.name ≡ found_name f → Gives now file.name (Some file.bytes) → later ≡ now
     → ((s : State) → IsAt listing mid s → Takes listing s file new) → more ≡ files ++ file ∷ [] → Underway listing shelf later named more new

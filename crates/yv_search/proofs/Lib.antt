@@ -1,5 +1,16 @@
 pub mod LastParts
 pub mod ListSteps
+pub mod Items
+pub mod FileEdges
+pub mod RoleLeast
+pub mod RoleEdges
+pub mod RoleMarks
+pub mod FileLists
+pub mod GraphEdges
+pub mod TableSteps
+pub mod NumberSteps
+pub mod NameSteps
+pub mod PlaceListing
 pub mod MapSteps
 pub mod Groups
 pub mod WantSteps

@@ -78,5 +78,6 @@ files_grow listing shelf start _ (onward u v run step) = by u v step (files_grow
 
 pub named_first : (listing : List ListedFile) (shelf : Shelf) (named files : List File) → AreGathered listing shelf named files → (found : List File) × (files ≡ named ++ found)
 named_first listing shelf named files g =
-    let r : (more : List File) × (map file_in g.end.files ≡ map file_in g.start.files ++ more) = files_grow listing shelf g.start g.end g.steps in
-    (r.0, g.files_are ∙ r.1 ∙ ap (λ l. l ++ r.0) g.begins.files)
+    let way = g.reached in
+    let r : (more : List File) × (map file_in g.end.files ≡ map file_in way.start.files ++ more) = files_grow listing shelf way.start g.end way.steps in
+    (r.0, g.files_are ∙ r.1 ∙ ap (λ l. l ++ r.0) way.begins.files)

@@ -103,6 +103,8 @@ module _ (listing : List ListedFile) (shelf : List ℕ → Option (List ℕ)) wh
 
   pub gathered_once : (named files others : List File) → AreGathered listing (Some shelf) named files → AreGathered listing (Some shelf) named others → files ≡ others
   gathered_once named files others a b =
-      let start : b.start ≡ a.start = starts_same named b.start a.start b.begins a.begins in
-      let run : Steps listing (Some shelf) a.start b.end = subst (λ (x : State). Steps listing (Some shelf) x b.end) start b.steps in
-      a.files_are ∙ ap (λ (x : State). map file_in x.files) (ends_same a.start a.end b.end a.steps a.done run b.done) ∙ sym b.files_are
+      let p = a.reached in
+      let q = b.reached in
+      let start : q.start ≡ p.start = starts_same named q.start p.start q.begins p.begins in
+      let run : Steps listing (Some shelf) p.start b.end = subst (λ (x : State). Steps listing (Some shelf) x b.end) start q.steps in
+      a.files_are ∙ ap (λ (x : State). map file_in x.files) (ends_same p.start a.end b.end p.steps a.done run b.done) ∙ sym b.files_are

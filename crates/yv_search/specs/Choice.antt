@@ -1,4 +1,4 @@
--- Which file is taken for a name.
+-- Which file is chosen for a name.
 use Rattle.std.specs.Prelude.{ℕ, ◌==◌, ◌&&◌, Bool, true, false, List, [], ◌∷◌, Option, Some, None, if◌then◌else◌}
 use Rattle.std.specs.Option.{option_and_then}
 use Rattle.std.specs.Ordering.{nat_cmp}
@@ -10,12 +10,12 @@ use Rattle.yv_search.specs.FileNames.{FileName, name_in_path}
 use Rattle.yv_search.specs.Listing.{ListedFile}
 use Rattle.yv_search.specs.Wants.{Want}
 
--- a file that may be taken, and the date in its name
+-- a file that may be chosen, and the date in its name
 pub record Candidate : Type 0 where
   pub file : ListedFile
   pub date : Option (List ℕ)
 
--- where a date is wanted, a file with it or one without a date may be taken, else each
+-- where a date is wanted, a file with it or one without a date may be chosen, else each
 abbrev pub suits : Option (List ℕ) → Option (List ℕ) → Bool
 suits None date = true
 suits (Some d) None = true
@@ -43,18 +43,18 @@ is_later None e = false
 is_later (Some d) None = true
 is_later (Some d) (Some e) = is_greater (slice_cmp nat_cmp d e)
 
--- what is taken in place of an earlier file: only one of the same folder, with a later date
+-- what is chosen in place of an earlier file: only one of the same folder, with a later date
 abbrev pub is_better : Candidate → Candidate → Bool
 is_better d c = (d.file.folder == c.file.folder) && is_later d.date c.date
 
--- a candidate, or in its place what is taken of those after it
+-- a candidate, or in its place what is chosen of those after it
 abbrev pub better_of : Option Candidate → Option Candidate → Option Candidate
 better_of None later = later
 better_of (Some c) None = Some c
 better_of (Some c) (Some d) = Some (if is_better d c then d else c)
 
--- the file that is taken of these: of the first folder that has a candidate the one with the latest
--- date, of several alike the first
+-- the file that is chosen of these: of the first folder that has a candidate the one with the
+-- latest date, of several alike the first
 abbrev pub choice_of : Want → List ListedFile → Option Candidate
 choice_of w [] = None
 choice_of w (f ∷ fs) = better_of (candidate w f) (choice_of w fs)

@@ -17,26 +17,34 @@ pub record IsStart (named : List File) (s : State) : Type 0 where
   pub roots : All (λ f. HasRoot f.file.bytes f.root) s.files
   pub sought : s.sought ≡ []
 
+-- a state is reached from the named files by a finite run of steps
+pub record IsReached (listing : List ListedFile) (shelf : Shelf) (named : List File)
+    (state : State) : Type 0 where
+  pub start : State
+  pub begins : IsStart named start
+  pub steps : Steps listing shelf start state
+
 -- the files are the named ones and then those that a finite run of steps finds, after which nothing
 -- is to be looked for
 pub record AreGathered (listing : List ListedFile) (shelf : Shelf) (named files : List File) : Type 0 where
-  pub start : State
   pub end : State
-  pub begins : IsStart named start
-  pub steps : Steps listing shelf start end
+  pub reached : IsReached listing shelf named end
   pub done : next end ≡ None
   pub files_are : files ≡ map file_in end.files
+
+-- a file is asked for in a state that is reached
+pub record AsksFor (listing : List ListedFile) (shelf : Shelf) (named : List File) (state : State)
+    (candidate : Candidate) : Type 0 where
+  pub reached : IsReached listing shelf named state
+  pub want : Want
+  pub asks : Asks listing state want candidate
 
 -- a file is asked for, of which the shelf has nothing
 pub record IsMissing (listing : List ListedFile) (shelf : Shelf) (named : List File)
     (name : List ℕ) : Type 0 where
-  pub start : State
-  pub end : State
-  pub want : Want
+  pub state : State
   pub candidate : Candidate
-  pub begins : IsStart named start
-  pub steps : Steps listing shelf start end
-  pub asks : Asks listing end want candidate
+  pub asks : AsksFor listing shelf named state candidate
   pub name_is : name ≡ found_name candidate.file
   pub lacks : Gives shelf name None
 
@@ -46,11 +54,7 @@ most_files = 256
 
 -- a file more is asked for than there may be
 pub record AreTooMany (listing : List ListedFile) (shelf : Shelf) (named : List File) : Type 0 where
-  pub start : State
-  pub end : State
-  pub want : Want
+  pub state : State
   pub candidate : Candidate
-  pub begins : IsStart named start
-  pub steps : Steps listing shelf start end
-  pub asks : Asks listing end want candidate
-  pub full : most_files ≤ length end.files
+  pub asks : AsksFor listing shelf named state candidate
+  pub full : most_files ≤ length state.files

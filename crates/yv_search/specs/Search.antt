@@ -71,7 +71,7 @@ pub record Asks (listing : List ListedFile) (s : State) (w : Want) (c : Candidat
   pub chosen : choice_of w listing ≡ Some c
 
 -- a step of a search: the name of the next want is looked for, and where there is a file for it,
--- its bytes are taken from the shelf and it comes after the other files
+-- its bytes come from the shelf and it comes after the other files
 pub data Step (listing : List ListedFile) (shelf : Shelf) : State → State → Type 0 where
   passed : (s : State) (w : Want) → next s ≡ Some w → choice_of w listing ≡ None
       → Step listing shelf s (seek s w.name)

@@ -1,7 +1,7 @@
 //! The files of a search: those that were named, and those that are found.
 ghost use Rattle.std.specs.{Prelude.{◌≡◌, ℕ, List, [], map, Option, string_bytes, IfOk, OnOk}, Option.{option_map}};
 ghost use Rattle.yv_base_streams.specs.Files.{file_of};
-ghost use Rattle.yv_search.specs.{Listing.{ListedFile, folder_of, files_of, found_name}, Search.{State, Gives}, SearchAnswers.{Answers}, InnerIndex.{listed_of}, InnerSearch.{IsAt}, InnerGather.{Takes, Begins}};
+ghost use Rattle.yv_search.specs.{declared.file_search.Gathering.TheVariants.{NoMemory}, Listing.{ListedFile, folder_of, files_of, found_name}, Search.{State, Gives}, SearchAnswers.{Answers}, InnerIndex.{listed_of}, InnerSearch.{IsAt}, InnerGather.{Takes, Begins}};
 
 use crate::index::File;
 use crate::listing::Folder;
@@ -39,9 +39,6 @@ pub enum Gathering {
 }
 
 impl From<AllocError> for Gathering {
-    ghost use Rattle.std.specs.Prelude.{◌≡◌};
-    ghost use Rattle.yv_search.specs.declared.file_search.Gathering.TheVariants.{NoMemory};
-
     ghost from_gives = { λ _ gathering. gathering ≡ NoMemory };
 
     fn from(_error: AllocError) -> Gathering {
@@ -50,9 +47,6 @@ impl From<AllocError> for Gathering {
 }
 
 impl<T: Drop> From<AllocFailed<T>> for Gathering {
-    ghost use Rattle.std.specs.Prelude.{◌≡◌};
-    ghost use Rattle.yv_search.specs.declared.file_search.Gathering.TheVariants.{NoMemory};
-
     ghost from_gives = { λ _ gathering. gathering ≡ NoMemory };
 
     fn from(_error: AllocFailed<T>) -> Gathering {

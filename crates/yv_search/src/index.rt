@@ -1,4 +1,4 @@
-//! The files of folders, by name, and which of them is taken.
+//! The files of folders, by name, and which of them is chosen.
 ghost use Rattle.std.specs.{Prelude.{◌≡◌, ℕ, List, [], ◌∷◌, ◌++◌, map, string_bytes, if◌then◌else◌, Some, None, IfOk, OnOk}, Option.{option_map}, Str.{bytes_eq}};
 ghost use Rattle.yv_search.specs.{Listing.{Folder as FolderSpec, ListedFile, folder_of, files_in, files_of}, FileNames.{name_in_path}, Choice.{suits, is_later, is_better, better_of, choice_of}, InnerIndex.{listed_of, candidate_of, group_of, rows_at, if_name, all_named, text_of, chosen_of}};
 
@@ -95,7 +95,7 @@ impl<'a> Index<'a> {
         Ok(())
     }
 
-    /// The file that is taken for a name, and perhaps a date.
+    /// The file that is chosen for a name, and perhaps a date.
     pub(crate) fn choose(&self, name: &[u8], date: Option<&[u8]>) -> Option<File<'a>>
         ensures { (files : List ListedFile)
             → ((q : List ℕ) → group_of self.now q ≡ all_named q files)
@@ -110,7 +110,7 @@ impl<'a> Index<'a> {
     }
 }
 
-// The file that is taken of some of the name that is wanted.
+// The file that is chosen of some of the name that is wanted.
 fn chosen_file<'a>(rows: &[Row<'a>], date: Option<&[u8]>) -> Option<File<'a>>
     ensures { option_map listed_of result
         ≡ option_map (λ c. c.file) (chosen_of (text_of date.entry) (map candidate_of rows.now)) }
@@ -121,7 +121,7 @@ fn chosen_file<'a>(rows: &[Row<'a>], date: Option<&[u8]>) -> Option<File<'a>>
     }
 }
 
-// Which of some files of the name that is wanted is taken.
+// Which of some files of the name that is wanted is chosen.
 fn choice<'a>(rows: &[Row<'a>], date: Option<&[u8]>) -> Option<Row<'a>>
     ensures { option_map candidate_of result
         ≡ chosen_of (text_of date.entry) (map candidate_of rows.now) }
@@ -138,7 +138,7 @@ fn choice<'a>(rows: &[Row<'a>], date: Option<&[u8]>) -> Option<Row<'a>>
     kept
 }
 
-// Whether a file with this date may be taken.
+// Whether a file with this date may be chosen.
 fn suits(wanted: Option<&[u8]>, date: Option<&[u8]>) -> bool
     ensures { result ≡ suits (text_of wanted.entry) (text_of date.entry) }
 {
@@ -148,7 +148,7 @@ fn suits(wanted: Option<&[u8]>, date: Option<&[u8]>) -> bool
     }
 }
 
-// A file, or in its place the one that is taken of those after it.
+// A file, or in its place the one that is chosen of those after it.
 fn better_of<'a>(row: Row<'a>, later: Option<Row<'a>>) -> Row<'a>
     ensures { Some (candidate_of result)
         ≡ better_of (Some (candidate_of row.entry)) (option_map candidate_of later.entry) }
@@ -159,7 +159,7 @@ fn better_of<'a>(row: Row<'a>, later: Option<Row<'a>>) -> Row<'a>
     }
 }
 
-// Whether a file is taken in place of an earlier one.
+// Whether a file is chosen in place of an earlier one.
 fn is_better(row: &Row<'_>, earlier: &Row<'_>) -> bool
     ensures { result ≡ is_better (candidate_of row.now) (candidate_of earlier.now) }
 {

@@ -1,6 +1,7 @@
 //! What the roots of files ask for (RFC 7950, sections 7.1.5, 7.1.6 and 7.2.2).
-ghost use Rattle.std.specs.{Prelude.{◌≡◌, ◌++◌, map, codes, IfOk, OnOk}, Option.{option_map}};
-ghost use Rattle.yv_search.specs.{Wants.{has_word, argument_of, is_root, module_of, asks_dated, asks, date_of, want_of, wants}, InnerWants.{owned_text, want}};
+ghost use Rattle.std.specs.{Prelude.{◌≡◌, ◌++◌, ℕ, List, Some, map, IfOk, OnOk}, Option.{option_map}};
+ghost use Rattle.yv_text_statement.specs.Keywords.{spelling};
+ghost use Rattle.yv_search.specs.{Wants.{argument_of, is_root, module_of, asks_dated, asks, date_of, want_of, wants}, InnerWants.{owned_text, want}};
 
 use std::alloc::{AllocError, Global};
 use yv_text_if_feature::is_identifier;
@@ -20,13 +21,13 @@ pub(crate) fn is_root(statement: &Statement<'_>) -> bool
     statement.is(Keyword::Module) || statement.is(Keyword::Submodule)
 }
 
-/// The argument of the first `belongs-to` in a block.
-fn belongs_to<'a>(statement: &'a Statement<'_>) -> Option<&'a str>
-    ensures { option_map (λ text. text.now) result
-        ≡ argument_of (codes "belongs-to") statement.now }
+/// The argument of the first statement with a keyword in the block of another.
+pub(crate) fn argument_of<'a>(statement: &'a Statement<'_>, keyword: Keyword) -> Option<&'a str>
+    ensures { (word : List ℕ) → spelling keyword ≡ Some word
+        → option_map (λ text. text.now) result ≡ argument_of word statement.now }
 {
     for child in statement.children() {
-        if child.is(Keyword::BelongsTo) {
+        if child.is(keyword) {
             return child.argument();
         }
     }
@@ -40,21 +41,8 @@ pub(crate) fn module_of<'a>(root: &'a Statement<'_>) -> Option<&'a str>
     if root.is(Keyword::Module) {
         root.argument()
     } else {
-        belongs_to(root)
+        argument_of(root, Keyword::BelongsTo)
     }
-}
-
-// The argument of the first `revision-date` in a block.
-fn revision_date<'a>(statement: &'a Statement<'_>) -> Option<&'a str>
-    ensures { option_map (λ text. text.now) result
-        ≡ argument_of (codes "revision-date") statement.now }
-{
-    for child in statement.children() {
-        if child.is(Keyword::RevisionDate) {
-            return child.argument();
-        }
-    }
-    None
 }
 
 // Whether a statement asks for a file, perhaps with a date.
@@ -76,7 +64,7 @@ fn date_of<'a>(statement: &'a Statement<'_>) -> Option<&'a str>
     ensures { option_map (λ text. text.now) result ≡ date_of statement.now }
 {
     if asks_dated(statement) {
-        revision_date(statement)
+        argument_of(statement, Keyword::RevisionDate)
     } else {
         None
     }
