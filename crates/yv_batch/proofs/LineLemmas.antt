@@ -9,7 +9,9 @@ use Rattle.yv_batch.specs.AskedDocument.{AskedDocument, asked_of, Read, ReadResu
 use Rattle.yv_batch.specs.Pieces.{pieces, TakesPiece}
 use Rattle.yv_batch.specs.InnerPieces.{IsEnd}
 use Rattle.yv_batch.specs.InnerLine.{HasBytes, IsRead}
-use Rattle.yv_batch.specs.InnerLines.{IsLine, IsSame}
+use Rattle.yv_batch.specs.InnerLines.{IsLine}
+use Rattle.yv_batch.specs.InnerSupply.{IsSame}
+use Rattle.yv_batch.proofs.SupplyLemmas.{same_both, takes_after}
 use Rattle.yv_batch.specs.LinesLeft.{lines_left}
 use Rattle.yv_batch.specs.LineDocuments.{is_blank, is_blank_byte, line_asked, lines_asked}
 use Rattle.yv_batch.specs.Supply.{Takes}
@@ -74,22 +76,6 @@ line_read source n false (Some xs) (Some ys) front (line.Document f) takes read 
     let is : is_blank takes.piece ≡ false = sym (blank_front takes.piece) ∙ ap is_blank (sym takes.first) ∙ read.0 in
     ap (lines_asked source (n + 1)) takes.passes ∙ choice_of source (n + 1) takes.piece (pieces 10 ys) false is
     ∙ ap (λ (d : AskedDocument). d ∷ lines_asked source (n + 1 + 1) (pieces 10 ys)) (document_of source (n + 1) front takes.piece f read.1 takes.first)
-
-same_both : (a b c : Option (List AskedDocument)) → IsSame a b → IsSame b c → IsSame a c
-same_both None b c p q = tt
-same_both (Some xs) None c p q = absurd p
-same_both (Some xs) (Some ys) None p q = absurd q
-same_both (Some xs) (Some ys) (Some zs) p q = p ∙ q
-
-pub same_start : (a : Option (List AskedDocument)) → IsSame a a
-same_start None = tt
-same_start (Some xs) = refl
-
--- after blank lines
-pub takes_after : (a b c : Option (List AskedDocument)) (fetched : Option AskedDocument) → IsSame a b → Takes b c fetched → Takes a c fetched
-takes_after None b c fetched p q = tt
-takes_after (Some xs) None c fetched p q = absurd p
-takes_after (Some xs) (Some ys) c fetched p q = subst (λ (l : List AskedDocument). Takes (Some l) c fetched) (sym p) q
 
 -- one more of them
 pub blank_more : (source : List ℕ) (a b c : Option (List AskedDocument)) (read : Line) → read ≡ line.Blank → IsSame a b → IsLine source b c read → IsSame a c

@@ -193,7 +193,7 @@ taken_part end limit start old new front more bytes count room true place passed
   first = items ∙ ap (λ (l : List ℕ). front ++ l) (take_min count room bytes place.within) ∙ front_more limit front kept.passed (take count bytes) room kept.first is;
 }
 
-none_passed : (limit : ℕ) (passed : List ℕ) → 0 < limit → take limit passed ≡ [] → passed ≡ []
+pub none_passed : (limit : ℕ) (passed : List ℕ) → 0 < limit → take limit passed ≡ [] → passed ≡ []
 none_passed limit [] lt e = refl
 none_passed zero (x ∷ xs) lt e = absurd (omega arith)
 none_passed (suc n) (x ∷ xs) lt e = absurd (cc)

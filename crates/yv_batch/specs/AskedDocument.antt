@@ -26,3 +26,9 @@ reading_of content.NoRoom = NoRoom
 -- a document of this name
 abbrev pub asked_of : (name : List ℕ) → Fetched → AskedDocument
 asked_of name f = record { name = name; line = f.line; fetched = reading_of f.content }
+
+-- what was read, and wasn't lost
+abbrev pub CanRead : Content → Type 0
+CanRead (content.Read v) = Unit {0}
+CanRead content.Unread = ⊥
+CanRead content.NoRoom = ⊥

@@ -1,14 +1,61 @@
 -- Only private clauses cite this: how far the answers have come.
-use Rattle.std.specs.Prelude.{◌≡◌, ℕ, List, Bool, false, flat_map}
+use Rattle.std.specs.Prelude.{◌≡◌, ◌⊎◌, ◌^◌, ◌-◌, ℕ, List, [], ◌∷◌, ◌++◌, Bool, false, length, take}
 use Rattle.std.specs.declared.option.Option.{Option}
 use Rattle.std.specs.Io.KnownBytes.{Appends}
-use Rattle.yv_batch.specs.AskedDocument.{AskedDocument}
-use Rattle.yv_batch.specs.Supply.{Split}
+use Rattle.yv_batch.specs.AskedDocument.{AskedDocument, NoRoom}
+use Rattle.yv_batch.specs.Batch.{IsTally, document_text, documents_text}
+use Rattle.yv_batch.specs.Level.{level_number}
+use Rattle.yv_batch.specs.Supply.{AreAll, Split}
+use Rattle.yv_batch.specs.declared.batch.BatchEnd.{BatchEnd}
+use Rattle.yv_batch.specs.declared.batch.BatchEnd.TheVariants as ended
+use Rattle.yv_batch.specs.declared.batch.Tally.{Tally}
+use Rattle.yv_batch.specs.declared.level.Level.{Level}
+
+-- the document that is answered where memory was refused for this one
+abbrev pub without_room : AskedDocument → AskedDocument
+without_room a = record a { fetched = NoRoom }
+
+-- a document that is answered in place of one that was asked for: the same, or memory was refused
+abbrev pub IsSeen : (asked seen : AskedDocument) → Type 0
+IsSeen asked seen = (seen ≡ asked) ⊎ (seen ≡ without_room asked)
+
+-- a document was answered
+pub record IsAnswer (lines : AskedDocument → List (List ℕ)) (level : AskedDocument → ℕ)
+    (asked : AskedDocument) (old new : Option (List ℕ)) (l : Level) : Type 0 where
+  pub seen : AskedDocument
+  pub is : IsSeen asked seen
+  pub good : level_number l ≡ level seen
+  pub written : Appends old new (document_text lines seen)
+
+-- the first bytes of its answer were written
+pub record BeginsAnswer (lines : AskedDocument → List (List ℕ)) (asked : AskedDocument)
+    (old new : Option (List ℕ)) : Type 0 where
+  pub seen : AskedDocument
+  pub is : IsSeen asked seen
+  pub count : ℕ
+  pub written : Appends old new (take count (document_text lines seen))
 
 -- these were fetched and answered
-pub record IsAnswered (text : AskedDocument → List ℕ) (has_failed : Bool)
-    (unread rest : Option (List AskedDocument)) (old new : Option (List ℕ)) : Type 0 where
+pub record IsAnswered (lines : AskedDocument → List (List ℕ)) (level : AskedDocument → ℕ)
+    (has_failed : Bool) (tally : Tally) (unread rest : Option (List AskedDocument))
+    (old new : Option (List ℕ)) : Type 0 where
   pub asked : List AskedDocument
   pub works : has_failed ≡ false
   pub split : Split unread rest asked
-  pub written : Appends old new (flat_map text asked)
+  pub written : Appends old new (documents_text lines asked)
+  pub counts : IsTally level asked tally
+
+-- all documents were answered, or the first were, as far as the last line
+pub data AnswersEach (lines : AskedDocument → List (List ℕ)) (level : AskedDocument → ℕ)
+    (how : BatchEnd) (unread rest : Option (List AskedDocument)) (old new : Option (List ℕ))
+    : Type 0 where
+  all : (asked : List AskedDocument) (tally : Tally) → AreAll unread asked
+      → Appends old new (documents_text lines asked) → IsTally level asked tally
+      → how ≡ ended.All tally → AnswersEach lines level how unread rest old new
+  front : (asked : List AskedDocument) (next : AskedDocument) (count : ℕ)
+      → Split unread rest (asked ++ next ∷ [])
+      → Appends old new (documents_text lines asked ++ take count (document_text lines next))
+      → how ≡ ended.WriteFault → AnswersEach lines level how unread rest old new
+  first : (asked : List AskedDocument) → Split unread rest asked
+      → Appends old new (documents_text lines asked) → length asked ≡ 2 ^ 64 - 1
+      → how ≡ ended.Endless → AnswersEach lines level how unread rest old new

@@ -1,17 +1,12 @@
 -- Only private clauses cite this: what comes of the next line of a source.
-use Rattle.std.specs.Prelude.{◌≡◌, ℕ, List, ⊤}
+use Rattle.std.specs.Prelude.{ℕ, List}
 use Rattle.std.specs.declared.option.Option.{Option}
 use Rattle.std.specs.declared.option.Option.TheVariants.{None, Some}
 use Rattle.yv_batch.specs.AskedDocument.{AskedDocument, asked_of}
+use Rattle.yv_batch.specs.InnerSupply.{IsSame}
 use Rattle.yv_batch.specs.Supply.{Takes}
 use Rattle.yv_batch.specs.declared.lines.Line.{Line}
 use Rattle.yv_batch.specs.declared.lines.Line.TheVariants as line
-
--- the same is still to come, where it is known
-abbrev pub IsSame : Option (List AskedDocument) → Option (List AskedDocument) → Type 0
-IsSame None new = ⊤
-IsSame (Some xs) None = ⊥
-IsSame (Some xs) (Some ys) = xs ≡ ys
 
 -- a line that was read
 abbrev pub IsLine : (source : List ℕ) → Option (List AskedDocument) → Option (List AskedDocument) → Line → Type 0

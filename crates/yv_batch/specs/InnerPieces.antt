@@ -1,19 +1,9 @@
 -- Only private clauses cite this: how far a text has come.
-use Rattle.std.specs.Prelude.{◌≡◌, ℕ, ◌==◌, ◌≤◌, ◌<◌, Bool, true, false, List, [], ◌∷◌, ◌++◌, length, take, slice_index, slice_range, ⊤}
+use Rattle.std.specs.Prelude.{◌≡◌, ℕ, ◌==◌, ◌≤◌, ◌<◌, Bool, true, false, List, [], ◌∷◌, ◌++◌, length, take, slice_index, ⊤}
 use Rattle.std.specs.declared.option.Option.{Option}
 use Rattle.std.specs.declared.option.Option.TheVariants.{None, Some}
-use Rattle.std.specs.Io.KnownBytes.{Consumes, IsAtEnd, Keeps, prepend_known}
-use Rattle.yv_base_streams.specs.Stream.{stream_inner}
+use Rattle.std.specs.Io.KnownBytes.{Consumes, IsAtEnd, Keeps}
 use Rattle.yv_batch.specs.Pieces.{TakesPiece}
-use Rattle.yv_batch.specs.declared.pieces.Pieces.{Pieces}
-
--- the bytes of the chunk that are still to come
-abbrev pub pending_of : {R : Type 0} → Pieces R → List ℕ
-pending_of p = slice_range p.chunk p.from p.to
-
--- these bytes, and those that the reader has left, where they are known
-abbrev pub left_of : {R : Type 0} → (remaining : R → Option (List ℕ)) → Pieces R → Option (List ℕ)
-left_of remaining p = prepend_known (pending_of p) (remaining (stream_inner p.reader))
 
 -- none of these bytes is `end`
 abbrev pub Lacks : (end : ℕ) → List ℕ → Type 0
@@ -59,12 +49,6 @@ IsTaken end limit old new front true = TakesPiece end limit old new front
 pub record PassesPart (end : ℕ) (old new : Option (List ℕ)) : Type 0 where
   pub part : List ℕ
   pub underway : IsUnderway end old new part
-
--- a part of a text was passed when memory was refused
-pub record IsRefused (end : ℕ) (old new : Option (List ℕ)) : Type 0 where
-  pub part : List ℕ
-  pub underway : IsUnderway end old new part
-  pub more : HasMore old
 
 -- nothing was to come, nor is it
 abbrev pub IsEnd : Option (List ℕ) → Option (List ℕ) → Type 0

@@ -1,76 +1,234 @@
 //! Documents one after the other, each answered before the next is fetched.
-ghost use Rattle.std.specs.{Prelude.{◌≡◌, ◌↔◌, ℕ, List, Option, true, false, take}, Io.KnownBytes.{Appends}};
-ghost use Rattle.yv_base_streams.specs.Stream.{stream_inner, has_failed, FailsOnceAtMost};
-ghost use Rattle.yv_batch.specs.{AskedDocument.{AskedDocument, asked_of}, Answers.{Answers}};
+ghost use Rattle.std.specs.{Prelude.{◌≡◌, ◌<◌, ◌-◌, ◌^◌, ◌+◌, ◌↔◌, ◌==◌, cond, max, ℕ, List, Option, true, false, take, IfOk, IfSome, OnErr, OnOk}, Io.KnownBytes.{Appends}};
+ghost use Rattle.yv_base_streams.specs.{Stream.{stream_inner, has_failed, FailsOnceAtMost}, Pages.{Adds, paged_output}};
+ghost use Rattle.yv_batch.specs.{AskedDocument.{AskedDocument, asked_of, CanRead}, Answers.{Answers}, Batch.{document_text, total_line}, InnerBatch.{AnswersEach, BeginsAnswer, IsAnswer}, Level.{level_number}};
 
-use crate::documents::{Documents, Fetched};
-use std::alloc::Global;
+use crate::documents::{Content, Documents, Fetched};
+use crate::level::Level;
+use itoa::Buffer;
+use std::alloc::{AllocError, Global};
 use std::io::Write;
-use yv_base_streams::Counted;
+use yv_base_streams::{Counted, Page};
 
-/// An answer to a document: what is written of it.
+/// An answer to documents: what is written of each.
 pub trait Answer {
-    // The text that is written of it.
-    ghost text: { Self → AskedDocument → List ℕ };
+    // The lines that are written of a document.
+    ghost lines: { Self → AskedDocument → List (List ℕ) };
 
-    /// Writes what is said of a document of this name, and answers whether all was taken.
+    // How good a document is, from 0 to 3.
+    ghost level: { Self → AskedDocument → ℕ };
+
+    /// Writes the lines of a document of this name, each with its label, and answers how good the
+    /// document is: `None` if the writer failed. Where memory is refused, nothing is written.
     fn write<W: Write>(
-        &self,
+        &mut self,
         alloc: Global,
         name: &[u8],
         document: &Fetched,
         writer: &mut Counted<W>,
-    ) -> bool
+    ) -> Result<Option<Level>, AllocError>
         // The writer has not failed.
         requires { has_failed writer.old ≡ false }
-        // If true is returned, the writer has received the text, and nothing else.
-        ensures ends { result ≡ true
-            → Appends (W.contents (stream_inner writer.old)) (W.contents (stream_inner writer.new))
-            (text self.now (asked_of name.now document.now)) }
-        // In any case it has received the first bytes of that text, and nothing else.
-        ensures part { (n : ℕ)
+        // If a level is returned, it is that of the document.
+        ensures level { IfOk result (λ o. IfSome o (λ l.
+            level_number l ≡ level self.old (asked_of name.now document.now))) }
+        // If a level is returned, the writer has received the document's lines, and nothing else.
+        ensures ends { IfOk result (λ o. IfSome o (λ _.
+            Appends (W.contents (stream_inner writer.old)) (W.contents (stream_inner writer.new))
+            (document_text (lines self.old) (asked_of name.now document.now)))) }
+        // Unless memory was refused, it has received the first bytes of those lines, and nothing
+        // else.
+        ensures part { OnOk result ((n : ℕ)
             × Appends (W.contents (stream_inner writer.old)) (W.contents (stream_inner writer.new))
-            (take n (text self.now (asked_of name.now document.now))) }
-        // False is returned exactly if the writer has failed.
-        ensures fault { result ≡ false ↔ (has_failed writer.new ≡ true) }
+            (take n (document_text (lines self.old) (asked_of name.now document.now)))) }
+        // If memory was refused, it has received nothing.
+        ensures refused { OnErr result (stream_inner writer.new ≡ stream_inner writer.old) }
+        // Memory is refused only for a document that could be read.
+        ensures room { OnErr result (CanRead document.now.content) }
+        // `None` is returned exactly if the writer has failed.
+        ensures fault { result ≡ Ok None ↔ (has_failed writer.new ≡ true) }
         // At most one call of the writer failed in a way that is not tolerated, and none came after
         // it.
-        ensures once { FailsOnceAtMost writer.new };
+        ensures once { FailsOnceAtMost writer.new }
+        // Later documents are answered as this one.
+        ensures same_lines { lines self.new ≡ lines self.old }
+        // So are their levels.
+        ensures same_levels { level self.new ≡ level self.old };
+}
+
+/// A tally: how many documents were answered, how many of them are valid, and the worst of their
+/// levels.
+#[derive(Clone, Copy, PartialEq, Eq, Debug)]
+pub struct Tally {
+    pub count: u64,
+    pub valid: u64,
+    pub level: Level,
+}
+
+impl Tally {
+    // No document was answered yet.
+    fn new() -> Tally
+        ensures count { result.count ≡ 0 }
+        ensures valid { result.valid ≡ 0 }
+        ensures level { level_number result.level ≡ 0 }
+    {
+        Tally {
+            count: 0,
+            valid: 0,
+            level: Level::Valid,
+        }
+    }
+
+    // One more document was answered.
+    fn add(&mut self, level: Level)
+        requires count { self.old.count < 2 ^ 64 - 1 }
+        requires valid { self.old.valid < 2 ^ 64 - 1 }
+        ensures count { self.new.count ≡ self.old.count + 1 }
+        ensures valid { self.new.valid ≡ self.old.valid + cond (level_number level == 0) 1 0 }
+        ensures level { level_number self.new.level
+            ≡ max (level_number self.old.level) (level_number level) }
+    {
+        self.count += 1;
+        if level == Level::Valid {
+            self.valid += 1;
+        }
+        self.level = self.level.worse(level);
+    }
 }
 
 /// How a batch ended.
-#[derive(Clone, Copy, PartialEq, Eq, Debug, Drop)]
+#[derive(Clone, Copy, PartialEq, Eq, Debug)]
 pub enum BatchEnd {
     /// All documents were answered.
-    All,
+    All(Tally),
     /// The writer failed.
     WriteFault,
     /// There are 2^64 - 1 of them or more.
     Endless,
 }
 
-/// Answers all documents in order.
+/// Answers all documents in order, and writes how many of them are valid.
 pub fn answer_all<D: Documents, A: Answer, W: Write>(
     alloc: Global,
     documents: &mut D,
-    answer: &A,
+    answer: &mut A,
     writer: &mut Counted<W>,
 ) -> BatchEnd
     // The writer has not failed.
     requires { has_failed writer.old ≡ false }
-    // All documents were answered in order, and what was written of them was appended to what the
-    // writer held; or the writer failed, and of the last answer only the first bytes were; or
-    // 2^64 - 1 documents were answered.
-    ensures { Answers (A.text answer.now) result (D.left documents.old) (D.left documents.new)
-        (W.contents (stream_inner writer.old)) (W.contents (stream_inner writer.new)) }
+    // All documents were answered in order, and what was written of them and of their number was
+    // appended to what the writer held; or the writer failed, and of the last answer or of the last
+    // line only the first bytes were; or 2^64 - 1 documents were answered.
+    ensures answers { Answers (A.lines answer.old) (A.level answer.old) result
+        (D.left documents.old) (D.left documents.new) (W.contents (stream_inner writer.old))
+        (W.contents (stream_inner writer.new)) }
+    // If all were answered, the supply said that there are no more.
+    ensures over { (tally : Tally) → result ≡ BatchEnd.All tally
+        → D.is_over documents.new ≡ true }
+    // `WriteFault` is returned exactly if the writer has failed.
+    ensures fault { result ≡ BatchEnd.WriteFault ↔ (has_failed writer.new ≡ true) }
+    // At most one call of the writer failed in a way that is not tolerated, and none came after it.
+    ensures once { FailsOnceAtMost writer.new }
 {
-    for _ in 0..u64::MAX {
+    let end = answer_each(alloc, documents, answer, writer);
+    let BatchEnd::All(tally) = end else {
+        return end;
+    };
+    if write_total(writer, &tally) {
+        end
+    } else {
+        BatchEnd::WriteFault
+    }
+}
+
+// Answers all documents in order.
+fn answer_each<D: Documents, A: Answer, W: Write>(
+    alloc: Global,
+    documents: &mut D,
+    answer: &mut A,
+    writer: &mut Counted<W>,
+) -> BatchEnd
+    requires { has_failed writer.old ≡ false }
+    ensures answers { AnswersEach (A.lines answer.old) (A.level answer.old) result
+        (D.left documents.old) (D.left documents.new) (W.contents (stream_inner writer.old))
+        (W.contents (stream_inner writer.new)) }
+    ensures over { (tally : Tally) → result ≡ BatchEnd.All tally
+        → D.is_over documents.new ≡ true }
+    ensures fault { result ≡ BatchEnd.WriteFault ↔ (has_failed writer.new ≡ true) }
+    ensures once { FailsOnceAtMost writer.new }
+{
+    let mut tally = Tally::new();
+    while tally.count < u64::MAX {
         let Some(document) = documents.next(alloc) else {
-            return BatchEnd::All;
+            return BatchEnd::All(tally);
         };
-        if !answer.write(alloc, documents.name(), &document, writer) {
-            return BatchEnd::WriteFault;
+        match answer_one(alloc, documents.name(), document, answer, writer) {
+            Some(level) => tally.add(level),
+            None => return BatchEnd::WriteFault,
         }
     }
     BatchEnd::Endless
+}
+
+// Answers a document, or that memory was refused for it.
+fn answer_one<A: Answer, W: Write>(
+    alloc: Global,
+    name: &[u8],
+    document: Fetched,
+    answer: &mut A,
+    writer: &mut Counted<W>,
+) -> Option<Level>
+    requires { has_failed writer.old ≡ false }
+    ensures ends { IfSome result (IsAnswer (A.lines answer.old) (A.level answer.old)
+        (asked_of name.now document) (W.contents (stream_inner writer.old))
+        (W.contents (stream_inner writer.new))) }
+    ensures part { BeginsAnswer (A.lines answer.old) (asked_of name.now document)
+        (W.contents (stream_inner writer.old)) (W.contents (stream_inner writer.new)) }
+    ensures fault { result ≡ None ↔ (has_failed writer.new ≡ true) }
+    ensures once { FailsOnceAtMost writer.new }
+    ensures same_lines { A.lines answer.new ≡ A.lines answer.old }
+    ensures same_levels { A.level answer.new ≡ A.level answer.old }
+{
+    if let Ok(level) = answer.write(alloc, name, &document, writer) {
+        return level;
+    }
+    let lost = Fetched {
+        line: document.line,
+        content: Content::NoRoom,
+    };
+    match answer.write(alloc, name, &lost, writer) {
+        Ok(level) => level,
+        Err(_) => unreachable!(),
+    }
+}
+
+// Writes the last line, and answers whether all of it was accepted.
+fn write_total<W: Write>(writer: &mut Counted<W>, tally: &Tally) -> bool
+    requires { has_failed writer.old ≡ false }
+    ensures ends { result ≡ true
+        → Appends (W.contents (stream_inner writer.old)) (W.contents (stream_inner writer.new))
+        (total_line tally.now.valid tally.now.count) }
+    ensures part { (n : ℕ)
+        × Appends (W.contents (stream_inner writer.old)) (W.contents (stream_inner writer.new))
+        (take n (total_line tally.now.valid tally.now.count)) }
+    ensures fault { result ≡ false ↔ (has_failed writer.new ≡ true) }
+    ensures once { FailsOnceAtMost writer.new }
+{
+    let mut page = Page::new();
+    put_total(&mut page, writer, tally);
+    page.turn(writer);
+    !writer.has_failed()
+}
+
+// The line of how many documents are valid.
+fn put_total<W: Write>(page: &mut Page, writer: &mut Counted<W>, tally: &Tally)
+    ensures { Adds (total_line tally.now.valid tally.now.count)
+        (paged_output W.contents writer.old page.old)
+        (paged_output W.contents writer.new page.new) }
+{
+    page.put(writer, b"valid: ");
+    page.put(writer, Buffer::new().format(tally.valid).as_bytes());
+    page.put(writer, b" of ");
+    page.put(writer, Buffer::new().format(tally.count).as_bytes());
+    page.put(writer, b"\n");
 }

@@ -2,7 +2,7 @@
 ghost use Rattle.std.specs.{Prelude.{◌≡◌, ℕ, List, Option, length, option_map, string_bytes}, List.{list_all}};
 ghost use Rattle.yv_batch.specs.{AskedDocument.{AskedDocument}, InnerLine.{IsRead}, LineDocuments.{is_blank, is_blank_byte}};
 
-use crate::documents::{Content, Documents, Fetched};
+use crate::documents::{Content, Documents, Fetched, content_of};
 use crate::pieces::Pieces;
 use std::alloc::Global;
 use std::io::Read;
@@ -20,6 +20,7 @@ pub struct Lines<R> {
     pieces: Pieces<R>,
     number: u64,
     has_lost: bool,
+    is_broken: bool,
     is_over: bool,
 }
 
@@ -85,6 +86,7 @@ impl<R: Read> Lines<R> {
             pieces: Pieces::new(reader),
             number: 0,
             has_lost: false,
+            is_broken: false,
             is_over: false,
         }
     }
@@ -95,47 +97,49 @@ impl<R: Read> Lines<R> {
             (lines_of R.remaining self.new) result }
         ensures source { string_bytes self.new.source ≡ string_bytes self.old.source }
     {
-        if self.is_over {
+        if self.is_broken {
             return Line::End;
         }
         let Some(number) = self.number.checked_add(1) else {
-            return Line::Document(self.give_up());
+            return Line::Document(self.lose(InputFault::Read));
         };
         self.number = number;
         match self.pieces.next(alloc, b'\n', MOST_BYTES + 1) {
             Ok(None) => Line::End,
             Ok(Some(front)) => line_of(number, front),
-            Err(InputFault::NoMemory) => Line::Document(self.lose()),
-            Err(InputFault::Read) => Line::Document(self.give_up()),
+            Err(fault) => Line::Document(self.lose(fault)),
         }
     }
 
-    // The answer where memory was refused for a line.
-    fn lose(&mut self) -> Fetched
+    // The answer where a line could not be had: what is still to come is no longer known. Where
+    // reading failed, nothing is.
+    fn lose(&mut self, fault: InputFault) -> Fetched
         ensures line { (old : Option (List AskedDocument))
             → Takes old (lines_of R.remaining self.new)
             (Some (asked_of (string_bytes self.old.source) result)) }
         ensures source { string_bytes self.new.source ≡ string_bytes self.old.source }
     {
         self.has_lost = true;
+        self.is_broken = matches!(fault, InputFault::Read);
         Fetched {
             line: Some(self.number),
-            content: Content::NoRoom,
+            content: content_of(fault),
         }
     }
 
-    // The answer where the source can't be read on.
-    fn give_up(&mut self) -> Fetched
-        ensures line { (old : Option (List AskedDocument))
-            → Takes old (lines_of R.remaining self.new)
-            (Some (asked_of (string_bytes self.old.source) result)) }
-        ensures source { string_bytes self.new.source ≡ string_bytes self.old.source }
+    // The document of the next line that isn't blank.
+    fn fetch(&mut self, alloc: Global) -> Option<Fetched>
+        ensures { Takes (lines_of R.remaining self.old) (lines_of R.remaining self.new)
+            (option_map (asked_of (string_bytes self.new.source)) result) }
     {
-        self.is_over = true;
-        Fetched {
-            line: Some(self.number),
-            content: Content::Unread,
+        for _ in 0..u64::MAX {
+            match self.next_line(alloc) {
+                Line::Blank => {}
+                Line::Document(fetched) => return Some(fetched),
+                Line::End => return None,
+            }
         }
+        Some(self.lose(InputFault::Read))
     }
 }
 
@@ -147,15 +151,12 @@ impl<R: Read> Documents for Lines<R> {
 
     ghost last_name = { λ l. string_bytes l.source };
 
+    ghost is_over = { λ l. l.is_over };
+
     fn next(&mut self, alloc: Global) -> Option<Fetched> {
-        for _ in 0..u64::MAX {
-            match self.next_line(alloc) {
-                Line::Blank => {}
-                Line::Document(fetched) => return Some(fetched),
-                Line::End => return None,
-            }
-        }
-        Some(self.give_up())
+        let fetched = self.fetch(alloc);
+        self.is_over = fetched.is_none();
+        fetched
     }
 
     fn name(&self) -> &[u8] {

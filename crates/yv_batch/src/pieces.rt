@@ -46,7 +46,7 @@ fn read_chunk<R: Read>(reader: &mut Counted<R>, chunk: &mut [u8]) -> Result<usiz
 }
 
 impl<R: Read> Pieces<R> {
-    ghost use Rattle.yv_batch.specs.{Pieces.{PassesOne, TakesPiece}, InnerPieces.{HasMore, IsEnd, IsKept, IsPassed, IsPlace, IsRefused, IsTaken, IsUnderway, left_of, pending_of}};
+    ghost use Rattle.yv_batch.specs.{Pieces.{PassesOne, TakesPiece}, InnerPieces.{HasMore, IsEnd, IsKept, IsPassed, IsPlace, IsTaken, IsUnderway}, PiecesLeft.{left_of, pending_of}};
 
     /// The texts of what a reader gives.
     pub fn new(reader: Counted<R>) -> Pieces<R>
@@ -141,8 +141,8 @@ impl<R: Read> Pieces<R> {
 
     // Passes over the bytes at hand up to the end of a text, and answers whether it is there. They
     // are kept, as far as there is room for them.
-    fn take_part(&mut self, end: u8, limit: usize, front: &mut Vec<u8>) -> Result<bool, AllocError>
-        ensures taken { IfOk result (λ is_whole. (start : Option (List ℕ))
+    fn keep_part(&mut self, end: u8, limit: usize, front: &mut Vec<u8>) -> Result<bool, AllocError>
+        ensures gives { IfOk result (λ is_whole. (start : Option (List ℕ))
             → IsKept end limit start (left_of R.remaining self.old) front.old.items
             → IsTaken end limit start (left_of R.remaining self.new) front.new.items is_whole) }
         ensures same { OnErr result
@@ -154,34 +154,6 @@ impl<R: Read> Pieces<R> {
         Ok(self.pass_part(end, count))
     }
 
-    // The first bytes of the next text, of which at most so many are wanted. After `NoMemory` a
-    // part of it was passed.
-    fn read_piece(
-        &mut self,
-        alloc: Global,
-        end: u8,
-        limit: usize,
-    ) -> Result<Option<Vec<u8>>, InputFault>
-        requires { 0 < limit }
-        ensures taken { IfOk result (λ o. MatchOption o
-            (IsEnd (left_of R.remaining self.old) (left_of R.remaining self.new))
-            (λ v. TakesPiece end limit (left_of R.remaining self.old)
-            (left_of R.remaining self.new) v.items)) }
-        ensures refused { IsErrOf result InputFault.NoMemory
-            → IsRefused end (left_of R.remaining self.old) (left_of R.remaining self.new) }
-    {
-        let mut front = Vec::new(alloc);
-        for _ in 0..u64::MAX {
-            if !self.fill()? {
-                return Ok(some_piece(front));
-            }
-            if self.take_part(end, limit, &mut front)? {
-                return Ok(Some(front));
-            }
-        }
-        Err(InputFault::Read)
-    }
-
     /// The first bytes of the next text, of which at most so many are wanted: none at the end.
     /// After `NoMemory` the text was passed over. After `Read` the reader is to be given up.
     pub(crate) fn next(
@@ -191,20 +163,36 @@ impl<R: Read> Pieces<R> {
         limit: usize,
     ) -> Result<Option<Vec<u8>>, InputFault>
         requires { 0 < limit }
-        ensures taken { IfOk result (λ o. MatchOption o
+        ensures gives { IfOk result (λ o. MatchOption o
             (IsEnd (left_of R.remaining self.old) (left_of R.remaining self.new))
             (λ v. TakesPiece end limit (left_of R.remaining self.old)
             (left_of R.remaining self.new) v.items)) }
         ensures refused { IsErrOf result InputFault.NoMemory
             → PassesOne end (left_of R.remaining self.old) (left_of R.remaining self.new) }
     {
-        match self.read_piece(alloc, end, limit) {
-            Ok(piece) => Ok(piece),
-            Err(InputFault::Read) => Err(InputFault::Read),
-            Err(InputFault::NoMemory) => {
-                self.pass_rest(end)?;
-                Err(InputFault::NoMemory)
+        let mut front = Vec::new(alloc);
+        for _ in 0..u64::MAX {
+            if !self.fill()? {
+                return Ok(some_piece(front));
             }
+            match self.keep_part(end, limit, &mut front) {
+                Ok(true) => return Ok(Some(front)),
+                Ok(false) => {}
+                Err(_) => return Err(self.pass_over(end)),
+            }
+        }
+        Err(InputFault::Read)
+    }
+
+    // Passes over a text for which memory was refused, or its rest.
+    fn pass_over(&mut self, end: u8) -> InputFault
+        ensures { result ≡ InputFault.NoMemory → (start : Option (List ℕ)) (passed : List ℕ)
+            → IsUnderway end start (left_of R.remaining self.old) passed → HasMore start
+            → PassesOne end start (left_of R.remaining self.new) }
+    {
+        match self.pass_rest(end) {
+            Ok(()) => InputFault::NoMemory,
+            Err(_) => InputFault::Read,
         }
     }
 }

@@ -1,5 +1,5 @@
 use Rattle.std.proofs.Common.{◌≡◌, ◌++◌, false, Ok, take, rules}
-use Rattle.yv_batch.specs.InnerPieces.{left_of, pending_of}
+use Rattle.yv_batch.specs.PiecesLeft.{left_of, pending_of}
 use Rattle.yv_batch.proofs.PieceLemmas.{goes_on, is_over, passes_ended, passes_last, underway_kept, underway_more, underway_start}
 use Rattle.yv_batch.proofs.pieces.Pieces.pass_rest.Goals as goal
 

@@ -1,4 +1,5 @@
-use Rattle.yv_batch.specs.InnerPieces.{PassesPart, left_of}
+use Rattle.yv_batch.specs.InnerPieces.{PassesPart}
+use Rattle.yv_batch.specs.PiecesLeft.{left_of}
 use Rattle.yv_batch.proofs.pieces.Pieces.pass_rest.Given as goal
 
 -- a part of the text was passed

@@ -2,8 +2,9 @@ use Rattle.std.proofs.Common.{◌∙◌, ℕ, List, Some, refl, string_bytes, su
 use Rattle.yv_batch.specs.AskedDocument.{asked_of}
 use Rattle.yv_batch.specs.LinesLeft.{lines_of}
 use Rattle.yv_batch.specs.Supply.{Takes}
-use Rattle.yv_batch.proofs.LineLemmas.{blank_more, document_after, end_after, same_start}
-use Rattle.yv_batch.proofs.lines.LinesDocuments.next.Goals as goal
+use Rattle.yv_batch.proofs.LineLemmas.{blank_more, document_after, end_after}
+use Rattle.yv_batch.proofs.SupplyLemmas.{same_start}
+use Rattle.yv_batch.proofs.lines.Lines.fetch.Goals as goal
 
 pub loop-init : goal.loop-init
 loop-init g c = record { same = same_start (lines_of g.R.Read.remaining c.args.self.now); source = refl }
@@ -30,5 +31,5 @@ returns-in-End g c =
 pub returns : goal.returns
 returns g c =
     let old = lines_of g.R.Read.remaining c.args.self.now in
-    let new = lines_of g.R.Read.remaining c.give_up.new.self in
-    subst (λ (name : List ℕ). Takes old new (Some (asked_of name c.give_up.result))) (sym c.give_up.ensures.source) (c.give_up.ensures.line old)
+    let new = lines_of g.R.Read.remaining c.lose.new.self in
+    subst (λ (name : List ℕ). Takes old new (Some (asked_of name c.lose.result))) (sym c.lose.ensures.source) (c.lose.ensures.line old)

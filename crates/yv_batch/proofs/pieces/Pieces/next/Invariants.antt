@@ -1,5 +1,6 @@
-use Rattle.yv_batch.specs.InnerPieces.{IsKept, left_of}
-use Rattle.yv_batch.proofs.pieces.Pieces.read_piece.Given as goal
+use Rattle.yv_batch.specs.InnerPieces.{IsKept}
+use Rattle.yv_batch.specs.PiecesLeft.{left_of}
+use Rattle.yv_batch.proofs.pieces.Pieces.next.Given as goal
 
 -- a part of the text was passed, and its first bytes are kept
 abbrev pub invariant-loop : goal.invariant-loop

@@ -1,7 +1,7 @@
 use Rattle.std.proofs.Common.{◌≡◌, string_bytes}
-use Rattle.yv_batch.specs.InnerLines.{IsSame}
+use Rattle.yv_batch.specs.InnerSupply.{IsSame}
 use Rattle.yv_batch.specs.LinesLeft.{lines_of}
-use Rattle.yv_batch.proofs.lines.LinesDocuments.next.Given as goal
+use Rattle.yv_batch.proofs.lines.Lines.fetch.Given as goal
 
 -- only blank lines were read
 abbrev pub invariant-loop : goal.invariant-loop
