@@ -32,9 +32,9 @@ fn plain_selection(
     selection: Selection,
 ) -> Result<Selection, AllocError>
     ensures imports { IfOk result (λ s. IsImportOnly (map file_of files.now) named
-        (selected_of selection.entry).imports (selected_of s).imports) }
+        (selected_of selection).imports (selected_of s).imports) }
     ensures support { IfOk result
-        (λ s. (selected_of s).support ≡ (selected_of selection.entry).support) }
+        (λ s. (selected_of s).support ≡ (selected_of selection).support) }
 {
     let Selection {
         support,
@@ -80,8 +80,8 @@ pub(crate) enum Plan {
 
 /// The plan for a request, with the files that it names and those that a search of its folders
 /// found.
-pub(crate) fn plan(alloc: Global, request: Request, files: &[Input]) -> Result<Plan, AllocError>
-    requires limit { IsLimited request.entry }
+pub(crate) fn plan_of(alloc: Global, request: Request, files: &[Input]) -> Result<Plan, AllocError>
+    requires limit { IsLimited request }
     ensures each { IfOk result (IsFor (length files.now)) }
 {
     let Request {

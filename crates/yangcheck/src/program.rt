@@ -3,7 +3,7 @@ ghost use Rattle.std.specs.Prelude.{◌≡◌, length};
 ghost use Rattle.yv_run.specs.Status.{exit_of};
 ghost use Rattle.yv_job.specs.{Jobs.{HasFiles, HasLimit}, Requests.{IsLimited}};
 
-use crate::plan::{Plan, plan};
+use crate::plan::{Plan, plan_of};
 use crate::search::find_files;
 use crate::stop::{Stop, read_failure};
 use std::alloc::{AllocError, Global};
@@ -104,14 +104,14 @@ fn do_request<R: Files + io::Input + Print + Eprint + AllocGlobal + Clone + Drop
     rt: &R,
     request: Request,
 ) -> u8
-    requires { IsLimited request.entry }
+    requires { IsLimited request }
 {
     let files = match find_files(rt, &request) {
         Ok(files) => files,
         Err(Stop::Usage(text)) => return print_refusal(rt, text.as_str()),
         Err(Stop::Ended(ended)) => return print_reason(rt, &ended),
     };
-    match plan(rt.alloc(), request, files.as_slice()) {
+    match plan_of(rt.alloc(), request, files.as_slice()) {
         Ok(Plan::Run(job)) => {
             let ended = run_files(rt, &job, files.as_slice());
             let exit = print_reason(rt, &ended);
