@@ -93,11 +93,11 @@ fn push_about(
 }
 
 // What is said of a refusal.
-fn sentence(
+fn sentence<'a>(
     alloc: Global,
     inputs: &[Input],
-    rows: &Rows<'_, '_>,
-    job: &Job,
+    rows: &Rows<'a, '_>,
+    job: &'a Job,
     refusal: &Refusal,
 ) -> Result<String, AllocError>
     ensures { IfOk result (λ s. Names (rows_in rows.now) refusal.now (string_bytes s)) }
@@ -115,12 +115,12 @@ fn sentence(
 /// Adds what is said of a refusal: a sentence that names the word at fault, if there is a statement
 /// at its place, and else one that fits every refusal of its code. The sentence reports the cause
 /// as far as it is found. If memory runs out, the text is as it was.
-pub fn push_sentence(
+pub fn push_sentence<'a>(
     alloc: Global,
     text: &mut String,
     inputs: &[Input],
-    rows: &Rows<'_, '_>,
-    job: &Job,
+    rows: &Rows<'a, '_>,
+    job: &'a Job,
     refusal: &Refusal,
 ) -> Result<(), AllocError>
     // The text is extended, and quotes the word of the first statement at the refusal's place.
