@@ -1,5 +1,5 @@
 -- The command line is one of those whose matches clap's clauses give exactly.
-use Rattle.std.proofs.Common.{◌≡◌, ◌∙◌, sym, subst, true, refl, codes, List, [], Some, None, Result, Ok, Err, IfOk, IfErr}
+use Rattle.std.proofs.Common.{◌≡◌, ◌∙◌, sym, subst, true, refl, codes, List, [], Option, Some, None, Result, Ok, Err, IfOk, IfErr}
 use Rattle.clap.specs.Words.{App, Text, Row, first_of, is_simple, is_simple_and_free, fault_of, FailsBy, HasKind, HasMatchesOf, subcommand_of, subcommand_rows_of}
 use Rattle.clap.specs.declared.parser.matches.ArgMatches.{ArgMatches}
 use Rattle.clap.specs.declared.error.Error.{Error}
@@ -7,7 +7,8 @@ use Rattle.clap.proofs.OnLiterals.{clap_on_literals}
 use Rattle.yv_job.specs.CommandLine.{yangcheck_app}
 use Rattle.yv_job.specs.Asks.{IsAsked}
 use Rattle.yv_job.specs.Jobs.{Compiles, Draws, Checks}
-use Rattle.yv_job.specs.Requests.{ActionAsked, Lists, Does}
+use Rattle.yv_job.specs.Requests.{ActionAsked, Lists, Does, ChecksAll}
+use Rattle.yv_job.specs.declared.request.Each.{Each}
 
 pub app_simple : is_simple yangcheck_app ≡ true
 unfolding clap_on_literals
@@ -31,14 +32,9 @@ matches_here a words r e kinds matches =
     (subst (λ b. IfOk r (HasMatchesOf b words)) e matches)
 
 -- a command that lacks its name is none
-pub no_module : (name : Text) (rows : List Row) → name ≡ codes "tree" → None ≡ first_of (codes "module") rows → (a : ActionAsked) → IsAsked name rows a → ⊥
-no_module name rows e f Lists h = let g : codes "files" ≡ codes "tree" = sym h ∙ e in cc
-no_module name rows e f (Does Compiles) h = let g : codes "compile" ≡ codes "tree" = sym h ∙ e in cc
-no_module name rows e f (Does (Draws m)) h = let g : None ≡ Some m = f ∙ h.1 in cc
-no_module name rows e f (Does (Checks d)) h = let g : codes "validate" ≡ codes "tree" = sym h.0 ∙ e in cc
-
-pub no_data : (name : Text) (rows : List Row) → name ≡ codes "validate" → None ≡ first_of (codes "data") rows → (a : ActionAsked) → IsAsked name rows a → ⊥
-no_data name rows e f Lists h = let g : codes "files" ≡ codes "validate" = sym h ∙ e in cc
-no_data name rows e f (Does Compiles) h = let g : codes "compile" ≡ codes "validate" = sym h ∙ e in cc
-no_data name rows e f (Does (Draws m)) h = let g : codes "tree" ≡ codes "validate" = sym h.0 ∙ e in cc
-no_data name rows e f (Does (Checks d)) h = let g : None ≡ Some d = f ∙ h.1 in cc
+pub no_module : (name : Text) (rows : List Row) (each : Option Each) → name ≡ codes "tree" → None ≡ first_of (codes "module") rows → (a : ActionAsked) → IsAsked name rows each a → ⊥
+no_module name rows each e f Lists h = let g : codes "files" ≡ codes "tree" = sym h ∙ e in cc
+no_module name rows each e f (Does Compiles) h = let g : codes "compile" ≡ codes "tree" = sym h ∙ e in cc
+no_module name rows each e f (Does (Draws m)) h = let g : None ≡ Some m = f ∙ h.1 in cc
+no_module name rows each e f (Does (Checks d)) h = let g : codes "validate" ≡ codes "tree" = sym h.0 ∙ e in cc
+no_module name rows each e f (ChecksAll ds) h = let g : codes "validate" ≡ codes "tree" = sym h.0 ∙ e in cc

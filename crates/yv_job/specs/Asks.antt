@@ -1,26 +1,44 @@
 -- What the words of a command line ask for. The first word is the program's name.
-use Rattle.std.specs.Prelude.{◌≡◌, ◌≤◌, ℕ, List, [], Option, Some, None, codes, length}
+use Rattle.std.specs.Prelude.{◌≡◌, ◌≤◌, ◌⊎◌, ◌∷◌, ℕ, List, [], Option, Some, None, IsSome, codes, length}
 use Rattle.std.specs.Option.{unwrap_or}
 use Rattle.std.specs.Str.Parse.{IsNumeral, digits_value}
 use Rattle.clap.specs.Words.{Text, Row, all_of, first_of, fault_of, subcommand_of}
 use Rattle.yv_job.specs.Jobs.{CommandAsked, Compiles, Draws, Checks}
-use Rattle.yv_job.specs.Requests.{ActionAsked, Lists, Does, RequestAsked}
+use Rattle.yv_job.specs.Requests.{ActionAsked, Lists, Does, ChecksAll, RequestAsked}
+use Rattle.yv_job.specs.declared.request.Each.{Each}
+use Rattle.yv_job.specs.declared.request.Each.TheVariants as each
 use Rattle.yv_text_statement.specs.Selection.{ModuleChoice, Entry}
 use Rattle.yv_text_statement.specs.declared.document_kind.Kind.{Kind}
 use Rattle.yv_text_statement.specs.declared.document_kind.Kind.TheVariants.{All, ConfigOnly}
 use Rattle.yv_job.specs.CommandLine.{yangcheck_app}
 use Rattle.yv_job.specs.Names.{IsNames, IsSupport}
 
--- the command of this name, with the values of its arguments, compiles, draws or checks
-abbrev pub IsCommand : Text → List Row → CommandAsked → Type 0
-IsCommand name rows Compiles = name ≡ codes "compile"
-IsCommand name rows (Draws m) = (name ≡ codes "tree") × (first_of (codes "module") rows ≡ Some m)
-IsCommand name rows (Checks f) = (name ≡ codes "validate") × (first_of (codes "data") rows ≡ Some f)
+-- the documents that were named, in order: one or more
+abbrev pub data_of : List Row → Option (List Text)
+data_of rows = all_of (codes "data") rows
 
--- it does that, or shows which files there are
-abbrev pub IsAsked : Text → List Row → ActionAsked → Type 0
-IsAsked name rows Lists = name ≡ codes "files"
-IsAsked name rows (Does c) = IsCommand name rows c
+-- the command of this name, with the values of its arguments, compiles, draws, or checks one
+-- document, which is a whole file
+abbrev pub IsCommand : Text → List Row → Option Each → CommandAsked → Type 0
+IsCommand name rows each Compiles = name ≡ codes "compile"
+IsCommand name rows each (Draws m) =
+    (name ≡ codes "tree") × (first_of (codes "module") rows ≡ Some m)
+IsCommand name rows each (Checks f) =
+    (name ≡ codes "validate") × (data_of rows ≡ Some (f ∷ [])) × (each ≡ None)
+
+-- the sources are those that were given, one or more, and they are several or it was said what each
+-- of them holds
+pub record AreSources (rows : List Row) (each : Option Each) (sources : List Text) : Type 0 where
+  pub given : data_of rows ≡ Some sources
+  pub some : 1 ≤ length sources
+  pub many : (2 ≤ length sources) ⊎ IsSome each
+
+-- it does that, or checks all documents of sources, or shows which files there are
+abbrev pub IsAsked : Text → List Row → Option Each → ActionAsked → Type 0
+IsAsked name rows each Lists = name ≡ codes "files"
+IsAsked name rows each (Does c) = IsCommand name rows each c
+IsAsked name rows each (ChecksAll sources) =
+    (name ≡ codes "validate") × AreSources rows each sources
 
 -- the folders that were named, none where none were
 abbrev pub IsFolders : List Row → List Text → Type 0
@@ -55,6 +73,19 @@ abbrev pub IsKindFor : Option Text → Kind → Type 0
 IsKindFor None k = k ≡ All
 IsKindFor (Some t) k = t ≡ kind_word k
 
+-- what a command line calls what a source holds
+abbrev pub each_word : Each → Text
+each_word each.File = codes "file"
+each_word each.Line = codes "line"
+each_word each.Name = codes "name"
+each_word each.Name0 = codes "name0"
+
+-- the text says what each source holds, and nothing was said where there is none
+abbrev pub IsEachFor : Option Text → Option Each → Type 0
+IsEachFor None e = e ≡ None
+IsEachFor (Some t) None = ⊥
+IsEachFor (Some t) (Some e) = t ≡ each_word e
+
 -- the choice is that of `--support` and `--import-only`
 pub record IsChoice (rows : List Row) (c : ModuleChoice) : Type 0 where
   pub support : IsSupportFor (first_of (codes "support") rows) c.support
@@ -68,12 +99,13 @@ pub record IsFiles (rows : List Row) (files : List Text) : Type 0 where
 
 -- the command of this name, with the values of its arguments, asks for this
 pub record Asks (name : Text) (rows : List Row) (w : RequestAsked) : Type 0 where
-  pub asked : IsAsked name rows w.action
-  pub folders : IsFolders rows w.folders
-  pub files : IsFiles rows w.files
+  pub asked : IsAsked name rows w.each w.action
   pub limit : IsLimit (first_of (codes "max-nodes") rows) w.limit
   pub choice : IsChoice rows w.choice
   pub kind : IsKindFor (first_of (codes "kind") rows) w.kind
+  pub each : IsEachFor (first_of (codes "each") rows) w.each
+  pub folders : IsFolders rows w.folders
+  pub files : IsFiles rows w.files
 
 -- the same of a command that may not be there
 abbrev pub AsksIn : Option (Text × List Row) → RequestAsked → Type 0

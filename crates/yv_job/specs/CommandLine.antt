@@ -16,6 +16,10 @@ required_rule id = record (option_rule id) { required = true }
 abbrev pub repeated_rule : Text → Rule
 repeated_rule id = record (option_rule id) { action = Some Append }
 
+-- `--id VALUE`, once or more
+abbrev pub required_repeated_rule : Text → Rule
+required_repeated_rule id = record (repeated_rule id) { required = true }
+
 -- FILE...
 abbrev pub files_rule : Rule
 files_rule = record (new_rule (codes "file")) {
@@ -42,11 +46,12 @@ compile_app = with_shared (new_app (codes "compile"))
 abbrev pub tree_app : App
 tree_app = with_shared (with_rule (new_app (codes "tree")) (required_rule (codes "module")))
 
--- `validate --data F`, with `--kind K`
+-- `validate --data F..`, with `--each W` and `--kind K`
 abbrev pub validate_app : App
 validate_app =
-    let checking = with_rule (new_app (codes "validate")) (required_rule (codes "data")) in
-    with_shared (with_rule checking (option_rule (codes "kind")))
+    let checking = with_rule (new_app (codes "validate")) (required_repeated_rule (codes "data")) in
+    let splitting = with_rule checking (option_rule (codes "each")) in
+    with_shared (with_rule splitting (option_rule (codes "kind")))
 
 -- `files`
 abbrev pub files_app : App

@@ -5,11 +5,12 @@ use Rattle.std.specs.Fmt.{decimal}
 use Rattle.clap.specs.Words.{Text, Row, fault_of, all_of, first_of, IsAmong}
 use Rattle.clap.specs.declared.error.kind.ErrorKind.{ErrorKind}
 use Rattle.clap.specs.declared.error.kind.ErrorKind.TheVariants as kind
-use Rattle.yv_job.specs.Asks.{WordsAsk, IsAsked, IsFiles, IsLimit, IsSupportFor, IsImportsFor, IsKindFor}
+use Rattle.yv_job.specs.Asks.{WordsAsk, IsAsked, IsFiles, IsLimit, IsSupportFor, IsImportsFor, IsKindFor, IsEachFor}
 use Rattle.yv_job.specs.CommandLine.{yangcheck_app}
 use Rattle.yv_job.specs.Requests.{ActionAsked, RequestAsked}
 use Rattle.yv_text_statement.specs.Selection.{Entry}
 use Rattle.yv_text_statement.specs.declared.document_kind.Kind.{Kind}
+use Rattle.yv_job.specs.declared.request.Each.{Each}
 use Rattle.yv_job.specs.declared.request.JobFault.{JobFault}
 use Rattle.yv_job.specs.declared.request.JobFault.TheVariants.{Usage, Help, NoMemory}
 
@@ -66,10 +67,15 @@ pub data IsReason (name : Text) (rows : List Row) (line : Text) : Type 0 where
       → line ≡ value_line (codes "import-only") (codes "MODULE,MODULE")
       (first_of (codes "import-only") rows)
       → IsReason name rows line
+  of_each : ((e : Option Each) → IsEachFor (first_of (codes "each") rows) e → ⊥)
+      → line ≡ value_line (codes "each") (codes "file, line, name or name0")
+      (first_of (codes "each") rows)
+      → IsReason name rows line
   of_files : ((fs : List Text) → IsFiles rows fs → ⊥)
       → line ≡ files_line (all_of (codes "file") rows) → IsReason name rows line
-  of_command : ((a : ActionAsked) → IsAsked name rows a → ⊥) → line ≡ command_line
-      → IsReason name rows line
+  of_command : ((e : Option Each) (a : ActionAsked)
+      → IsEachFor (first_of (codes "each") rows) e → IsAsked name rows e a → ⊥)
+      → line ≡ command_line → IsReason name rows line
 
 -- the text is the first line, and the reason why the command that was found asks for no request
 abbrev pub TellsReason : Option (Text × List Row) → Text → Type 0

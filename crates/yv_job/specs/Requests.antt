@@ -1,52 +1,59 @@
--- What a clause reads of a request: a job whose files may still have to be found, or the question
--- which files there are.
-use Rattle.std.specs.Prelude.{◌≤◌, length, ℕ, List, [], map, string_bytes}
+-- What a clause reads of a request: a job whose files may still have to be found, or many documents,
+-- or the question which files there are.
+use Rattle.std.specs.Prelude.{◌≤◌, length, ℕ, List, [], map, string_bytes, Option, None}
 use Rattle.yv_job.specs.declared.request.Request.{Request}
 use Rattle.yv_job.specs.declared.request.Action.{Action}
-use Rattle.yv_job.specs.declared.request.Action.TheVariants.{Run, Files}
+use Rattle.yv_job.specs.declared.request.Action.TheVariants.{Run, ValidateAll, Files}
+use Rattle.yv_job.specs.declared.request.Each.{Each}
 use Rattle.yv_job.specs.Jobs.{CommandAsked, Task, asked_of}
 use Rattle.yv_text_statement.specs.Selection.{ModuleChoice, selected_of}
 use Rattle.yv_text_statement.specs.declared.document_kind.Kind.{Kind}
 
--- which files there are, and which modules are implemented; or what a command does
+-- which files there are, and which modules are implemented; or what a command does; or that all
+-- documents of these sources are checked
 pub data ActionAsked : Type 0 where
   Lists : ActionAsked
   Does : CommandAsked → ActionAsked
+  ChecksAll : (sources : List (List ℕ)) → ActionAsked
 
 -- a request, as clauses see it
 pub record RequestAsked : Type 0 where
   pub action : ActionAsked
-  pub folders : List (List ℕ)
-  pub files : List (List ℕ)
   pub limit : ℕ
   pub choice : ModuleChoice
   pub kind : Kind
+  pub each : Option Each
+  pub folders : List (List ℕ)
+  pub files : List (List ℕ)
 
 -- what an action asks for
 abbrev pub action_of : Action → ActionAsked
 action_of Files = Lists
 action_of (Run c) = Does (asked_of c)
+action_of (ValidateAll v) = ChecksAll (map string_bytes v.items)
 
 -- what a request asks for
 abbrev pub request_of : Request → RequestAsked
 request_of r = record {
   action = action_of r.action;
-  folders = map string_bytes r.folders.items;
-  files = map string_bytes r.files.items;
   limit = r.limit;
   choice = selected_of r.selection;
   kind = r.kind;
+  each = r.each;
+  folders = map string_bytes r.folders.items;
+  files = map string_bytes r.files.items;
 }
 
 -- a request for a task, with no folder to search
 abbrev pub plain_request : Task → RequestAsked
 plain_request t = record {
   action = Does t.asked;
-  folders = [];
-  files = t.files;
   limit = t.limit;
   choice = t.choice;
   kind = t.kind;
+  each = None;
+  folders = [];
+  files = t.files;
 }
 
 -- a request names 1 to 256 files

@@ -80,20 +80,29 @@ Exit status:
 };
 
 pub(crate) const VALIDATE: CommandHelp = CommandHelp {
-    about: "Validate a JSON document against modules",
+    about: "Validate JSON documents against modules",
     details: "\
-Validates a JSON document (RFC 7951) against YANG 1.1 modules (RFC 7950).
+Validates JSON documents (RFC 7951) against YANG 1.1 modules (RFC 7950).
 
 The modules are compiled first. If they are invalid, one line, FILE:LINE: NAME,
 reports the first error, and the document is not read. Otherwise each fault has
 one line, KIND PATH, and the last line is `valid` or `faults: N`. With --kind config
 the document is checked as configuration alone: state data that is written is a
 fault, and none is required. Every module or submodule that a module imports or
-includes must be among the files, or in a folder that --path names.",
+includes must be among the files, or in a folder that --path names.
+
+The modules are compiled once for any number of documents. With two --data output
+has labels, with one it has none; --each file asks for labels. A label is the name of
+a document, and with --each line also the number of its line. Each line begins with
+one, and the last line is `valid: V of N`. The exit status is the greatest of the
+documents'. A document that cannot be read does not keep the others from being
+validated.",
     closing: "\
 Examples:
   yangcheck validate --data config.json example.yang types.yang
   yangcheck validate --data config.json --path models example.yang
+  yangcheck validate --data a.json --data b.json --path models example.yang
+  yangcheck validate --each line --data log.ndjson --path models example.yang
 
 Exit status:
   0  valid
@@ -127,7 +136,10 @@ Exit status:
   3  out of memory, cannot read, or cannot write",
 };
 
-pub const DATA: &str = "The JSON document, or - for standard input";
+pub const DATA: &str = "The JSON document, or - for standard input; may be repeated";
+
+pub const EACH: &str = "\
+What F holds: file (a document), line (documents on lines), name (file names on lines) or name0 (names ended by NUL) [default: file]";
 
 pub const KIND: &str = "\
 What the document holds: data (configuration and state) or config (configuration alone) [default: data]";

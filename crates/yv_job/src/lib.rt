@@ -17,6 +17,6 @@ mod words;
 pub use folder_search::FolderSearch;
 pub use job::{Command, Job};
 pub use laws::words_ask_once;
-pub use request::{Action, JobFault, Request};
+pub use request::{Action, Each, JobFault, Request};
 pub use words::read_request;
 pub use yv_text_statement::Kind;

@@ -7,9 +7,11 @@ ghost use Rattle.yv_text_statement.specs.Selection.{ModuleChoice, selected_of};
 
 use crate::job::Command;
 use crate::names::copy_texts;
-use crate::options::{imports_value, kind_value, limit_of, support_value};
-use crate::reasons::{COMMAND, IMPORTS, KINDS, NODES, SUPPORT, files_line, usage, value_line};
-use crate::request::{Action, Request};
+use crate::options::{each_value, imports_value, kind_value, limit_of, support_value};
+use crate::reasons::{
+    COMMAND, EACH, IMPORTS, KINDS, NODES, SUPPORT, files_line, usage, value_line,
+};
+use crate::request::{Action, Each, Request};
 use clap::ArgMatches;
 use std::alloc::{AllocError, Global};
 use yv_text_statement::Selection;
@@ -31,14 +33,37 @@ fn all<'m, 'a>(matches: &'m ArgMatches<'a>, id: &str) -> Option<&'m [&'a str]>
     matches.get_strs(id)
 }
 
+// What is to be checked: the one document, or all documents of sources.
+fn check_of(
+    alloc: Global,
+    below: &ArgMatches<'_>,
+    each: Option<Each>,
+) -> Result<Option<Action>, AllocError>
+    ensures { let rows = rows_of (found_of below.now) in
+        IfOk result
+        (λ o. MatchOption o ((a : ActionAsked) → IsAsked (codes "validate") rows each a → ⊥)
+        (λ a. IsAsked (codes "validate") rows each (action_of a))) }
+{
+    match all(below, "data") {
+        None | Some([]) => Ok(None),
+        Some([file]) if each.is_none() => {
+            let name = String::from_str(alloc, file)?;
+            Ok(Some(Action::Run(Command::Validate(name))))
+        }
+        Some(sources) => Ok(Some(Action::ValidateAll(copy_texts(alloc, sources)?))),
+    }
+}
+
+// The action that the command of this name asks for.
 fn action_of(
     alloc: Global,
     name: &str,
     below: &ArgMatches<'_>,
+    each: Option<Each>,
 ) -> Result<Option<Action>, AllocError>
     ensures { let rows = rows_of (found_of below.now) in
-        IfOk result (λ o. MatchOption o ((a : ActionAsked) → IsAsked name.now rows a → ⊥)
-        (λ a. IsAsked name.now rows (action_of a))) }
+        IfOk result (λ o. MatchOption o ((a : ActionAsked) → IsAsked name.now rows each a → ⊥)
+        (λ a. IsAsked name.now rows each (action_of a))) }
 {
     if name == "compile" {
         return Ok(Some(Action::Run(Command::Compile)));
@@ -56,13 +81,7 @@ fn action_of(
         };
     }
     if name == "validate" {
-        return match first(below, "data") {
-            Some(file) => {
-                let name = String::from_str(alloc, file)?;
-                Ok(Some(Action::Run(Command::Validate(name))))
-            }
-            None => Ok(None),
-        };
+        return check_of(alloc, below, each);
     }
     Ok(None)
 }
@@ -147,7 +166,11 @@ fn request_of_command(
     let Some(kind) = kind_value(word) else {
         return Ok(Err(value_line(alloc, "kind", KINDS, word)?));
     };
-    let Some(action) = action_of(alloc, name, below)? else {
+    let word = first(below, "each");
+    let Some(each) = each_value(word) else {
+        return Ok(Err(value_line(alloc, "each", EACH, word)?));
+    };
+    let Some(action) = action_of(alloc, name, below, each)? else {
         return Ok(Err(String::from_str(alloc, COMMAND)?));
     };
     let Some(files) = files_of(alloc, below)? else {
@@ -156,11 +179,12 @@ fn request_of_command(
     let folders = folders_of(alloc, below)?;
     Ok(Ok(Request {
         action,
-        folders,
-        files,
         limit,
         selection,
         kind,
+        each,
+        folders,
+        files,
     }))
 }
 

@@ -1,9 +1,10 @@
 //! The values of the options that all commands share.
-ghost use Rattle.std.specs.Prelude.{◌≡◌, ◌≤◌, ◌==◌, ℕ, List, slice_index, IfSome, IfOk, MatchOption, map, option_map, string_bytes};
-ghost use Rattle.yv_job.specs.Asks.{IsDecimal, IsLimit, IsSupportFor, IsImportsFor, IsKindFor};
+ghost use Rattle.std.specs.Prelude.{◌≡◌, ◌≤◌, ◌==◌, ℕ, List, Option, slice_index, IfSome, IfOk, MatchOption, map, option_map, string_bytes};
+ghost use Rattle.yv_job.specs.{Asks.{IsDecimal, IsLimit, IsSupportFor, IsImportsFor, IsKindFor, IsEachFor}, declared.request.Each.{Each as TheEach}};
 ghost use Rattle.yv_text_statement.specs.{Selection.{Entry, entry_of}, declared.document_kind.Kind.{Kind as TheKind}};
 
 use crate::names::{names_of, support_of};
+use crate::request::Each;
 use std::alloc::{AllocError, Global};
 use yv_text_statement::Kind;
 
@@ -88,6 +89,29 @@ pub fn kind_value(value: Option<&str>) -> Option<Kind>
     }
     if text == "config" {
         return Some(Kind::ConfigOnly);
+    }
+    None
+}
+
+/// What the value of `--each` says that a source holds: nothing where there is none.
+pub fn each_value(value: Option<&str>) -> Option<Option<Each>>
+    ensures { let text = option_map (λ t. t.now) value.entry in
+        MatchOption result ((e : Option TheEach) → IsEachFor text e → ⊥) (IsEachFor text) }
+{
+    let Some(text) = value else {
+        return Some(None);
+    };
+    if text == "file" {
+        return Some(Some(Each::File));
+    }
+    if text == "line" {
+        return Some(Some(Each::Line));
+    }
+    if text == "name" {
+        return Some(Some(Each::Name));
+    }
+    if text == "name0" {
+        return Some(Some(Each::Name0));
     }
     None
 }

@@ -10,6 +10,9 @@ pub const NODES: &str = "a number from 1 to 1000000";
 /// What `--kind` takes.
 pub const KINDS: &str = "data or config";
 
+/// What `--each` takes.
+pub const EACH: &str = "file, line, name or name0";
+
 /// What `--support` takes.
 pub const SUPPORT: &str = "MODULE:FEATURE,FEATURE/MODULE:";
 

@@ -1,7 +1,7 @@
 //! The command line's syntax, for clap.
 ghost use Rattle.std.specs.Prelude.{◌≡◌, IfOk, false, codes};
 ghost use Rattle.clap.specs.{Words.{app_of, rule_of, new_app, with_rule, with_subcommand}, declared.builder.command.Command.TheViews.{out-Command as fields_of}};
-ghost use Rattle.yv_job.specs.CommandLine.{option_rule, required_rule, repeated_rule, files_rule, with_shared, compile_app, tree_app, validate_app, files_app, top_app, yangcheck_app};
+ghost use Rattle.yv_job.specs.CommandLine.{option_rule, required_rule, repeated_rule, required_repeated_rule, files_rule, with_shared, compile_app, tree_app, validate_app, files_app, top_app, yangcheck_app};
 
 use crate::help::{self, CommandHelp};
 use clap::{Arg, ArgAction, Command};
@@ -33,6 +33,19 @@ fn repeated_option<'a>(alloc: Global, id: &'a str, value: &'a str, help: &'a str
     ensures local { result.global ≡ false }
 {
     option(alloc, id, value, help).action(ArgAction::Append)
+}
+
+// `--id VALUE`, once or more.
+fn required_repeated_option<'a>(
+    alloc: Global,
+    id: &'a str,
+    value: &'a str,
+    help: &'a str,
+) -> Arg<'a>
+    ensures rule { rule_of result ≡ required_repeated_rule id.entry.now }
+    ensures local { result.global ≡ false }
+{
+    repeated_option(alloc, id, value, help).required(true)
 }
 
 fn files<'a>(alloc: Global) -> Arg<'a>
@@ -119,10 +132,12 @@ fn validate<'a>(alloc: Global) -> Result<Command<'a>, AllocError>
     ensures local { IfOk result (λ c. (fields_of c).has_globals ≡ false) }
 {
     let command = command(alloc, "validate", &help::VALIDATE);
-    let data = required_option(alloc, "data", "F", help::DATA);
+    let data = required_repeated_option(alloc, "data", "F", help::DATA);
+    let each = option(alloc, "each", "W", help::EACH);
     let kind = option(alloc, "kind", "K", help::KIND);
     let checking = with_arg(command, data)?;
-    let asking = with_arg(checking, kind)?;
+    let splitting = with_arg(checking, each)?;
+    let asking = with_arg(splitting, kind)?;
     with_shared_options(alloc, asking)
 }
 

@@ -6,6 +6,7 @@ use Rattle.yv_job.proofs.syntax.validate.Goals as goal
 
 pub returns-clause-app : goal.returns-clause-app
 returns-clause-app c =
-    let checking = c.in_ok-checking.ensures.app ∙ ap₂ with_rule c.command-command.ensures.app c.required_option-data.ensures.rule in
-    let asking = c.in_ok-asking.ensures.app ∙ ap₂ with_rule checking c.option-kind.ensures.rule in
+    let checking = c.in_ok-checking.ensures.app ∙ ap₂ with_rule c.command-command.ensures.app c.required_repeated_option-data.ensures.rule in
+    let splitting = c.in_ok-splitting.ensures.app ∙ ap₂ with_rule checking c.option-each.ensures.rule in
+    let asking = c.in_ok-asking.ensures.app ∙ ap₂ with_rule splitting c.option-kind.ensures.rule in
     IfOk-weaker c.with_shared_options.result _ _ (λ m h. h ∙ ap with_shared asking) c.with_shared_options.ensures.app
