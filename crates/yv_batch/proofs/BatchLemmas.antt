@@ -9,11 +9,10 @@ use Rattle.std.proofs.KnownBytes.{Appends-nil, Appends-trans}
 use Rattle.std.proofs.lemmas.List.{append-nil}
 use Rattle.std.proofs.lemmas.List.Sums.{count_by-le-length, sum_by-append}
 use Rattle.yv_batch.specs.AskedDocument.{AskedDocument, asked_of}
-use Rattle.yv_batch.specs.Answers.{Answers, all, first, front, last}
+use Rattle.yv_batch.specs.Answers.{Answers, all, last}
 use Rattle.yv_batch.specs.Batch.{IsTally, batch_level, document_text, documents_text, total_line, total_text, valid_count}
 use Rattle.yv_batch.specs.Supply.{AreAll, IsLost, IsSplit, LosesOne, Split, Takes, is_end}
-use Rattle.yv_batch.specs.InnerBatch.{AnswersEach, IsAnswer, IsAnswered, IsSeen, BeginsAnswer, without_room}
-use Rattle.yv_batch.specs.InnerBatch as each
+use Rattle.yv_batch.specs.InnerBatch.{IsAnswer, IsAnswered, IsSeen, BeginsAnswer, without_room}
 use Rattle.yv_batch.specs.Level.{level_number}
 use Rattle.yv_batch.specs.declared.batch.BatchEnd.{BatchEnd}
 use Rattle.yv_batch.specs.declared.batch.BatchEnd.TheVariants as ended
@@ -159,35 +158,17 @@ takes_named mid rest name other o d e same t = subst (λ (n : List ℕ). Takes m
 
 -- ---- the last line
 
--- of documents that were not all answered there is none
-pub no_total : (lines : AskedDocument → List (List ℕ)) (level : AskedDocument → ℕ) (how : BatchEnd) (unread rest : Option (List AskedDocument)) (old new : Option (List ℕ)) → ((t : Tally) → how ≡ ended.All t → ⊥) → AnswersEach lines level how unread rest old new
-    → Answers lines level how unread rest old new
-no_total lines level how unread rest old new h (each.all asked t are written counts e) = absurd (h t e)
-no_total lines level how unread rest old new h (each.front asked next count split written e) = front asked next count split written e
-no_total lines level how unread rest old new h (each.first asked split written long e) = first asked split written long e
-
 same_total : (level : AskedDocument → ℕ) (asked : List AskedDocument) (t : Tally) → IsTally level asked t → total_line t.valid t.count ≡ total_text level asked
 same_total level asked t h = ap (λ (n : ℕ). total_line n t.count) h.valid ∙ ap (λ (n : ℕ). total_line (valid_count level asked) n) h.count
 
-end_tally : (t other : Tally) → ended.All t ≡ ended.All other → t ≡ other
-end_tally t other e = cc
-
 -- all were answered, and it was written
-pub with_total : (lines : AskedDocument → List (List ℕ)) (level : AskedDocument → ℕ) (how : BatchEnd) (unread rest : Option (List AskedDocument)) (old mid new : Option (List ℕ)) (t : Tally) → how ≡ ended.All t → AnswersEach lines level how unread rest old mid
-    → Appends mid new (total_line t.valid t.count) → Answers lines level (ended.All t) unread rest old new
-with_total lines level how unread rest old mid new t is (each.all asked other are written counts e) total =
-    let same : t ≡ other = end_tally t other (sym is ∙ e) in
-    let mine : IsTally level asked t = subst (IsTally level asked) (sym same) counts in
-    all asked t are (Appends-trans old mid new (documents_text lines asked) (total_text level asked) written (subst (λ (l : List ℕ). Appends mid new l) (same_total level asked t mine) total)) mine refl
-with_total lines level how unread rest old mid new t is (each.front asked next count split written e) total = let other : ended.All t ≡ ended.WriteFault = sym is ∙ e in absurd (cc)
-with_total lines level how unread rest old mid new t is (each.first asked split written long e) total = let other : ended.All t ≡ ended.Endless = sym is ∙ e in absurd (cc)
+pub with_total : (lines : AskedDocument → List (List ℕ)) (level : AskedDocument → ℕ) (unread rest : Option (List AskedDocument)) (old mid new : Option (List ℕ)) (asked : List AskedDocument) (t : Tally) → AreAll unread asked → Appends old mid (documents_text lines asked)
+    → IsTally level asked t → Appends mid new (total_line t.valid t.count) → Answers lines level (ended.All t) unread rest old new
+with_total lines level unread rest old mid new asked t are written counts total =
+    all asked t are (Appends-trans old mid new (documents_text lines asked) (total_text level asked) written (subst (λ (l : List ℕ). Appends mid new l) (same_total level asked t counts) total)) counts refl
 
 -- all were answered, and its first bytes were written
-pub with_front : (lines : AskedDocument → List (List ℕ)) (level : AskedDocument → ℕ) (how : BatchEnd) (unread rest : Option (List AskedDocument)) (old mid new : Option (List ℕ)) (t : Tally) (n : ℕ) → how ≡ ended.All t → AnswersEach lines level how unread rest old mid
-    → Appends mid new (take n (total_line t.valid t.count)) → Answers lines level ended.WriteFault unread rest old new
-with_front lines level how unread rest old mid new t n is (each.all asked other are written counts e) total =
-    let same : t ≡ other = end_tally t other (sym is ∙ e) in
-    let mine : IsTally level asked t = subst (IsTally level asked) (sym same) counts in
-    last asked n are (Appends-trans old mid new (documents_text lines asked) (take n (total_text level asked)) written (subst (λ (l : List ℕ). Appends mid new (take n l)) (same_total level asked t mine) total)) refl
-with_front lines level how unread rest old mid new t n is (each.front asked next count split written e) total = let other : ended.All t ≡ ended.WriteFault = sym is ∙ e in absurd (cc)
-with_front lines level how unread rest old mid new t n is (each.first asked split written long e) total = let other : ended.All t ≡ ended.Endless = sym is ∙ e in absurd (cc)
+pub with_front : (lines : AskedDocument → List (List ℕ)) (level : AskedDocument → ℕ) (unread rest : Option (List AskedDocument)) (old mid new : Option (List ℕ)) (asked : List AskedDocument) (t : Tally) (n : ℕ) → AreAll unread asked → Appends old mid (documents_text lines asked)
+    → IsTally level asked t → Appends mid new (take n (total_line t.valid t.count)) → Answers lines level ended.WriteFault unread rest old new
+with_front lines level unread rest old mid new asked t n are written counts total =
+    last asked n are (Appends-trans old mid new (documents_text lines asked) (take n (total_text level asked)) written (subst (λ (l : List ℕ). Appends mid new (take n l)) (same_total level asked t counts) total)) refl

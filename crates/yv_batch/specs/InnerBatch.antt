@@ -44,18 +44,3 @@ pub record IsAnswered (lines : AskedDocument → List (List ℕ)) (level : Asked
   pub split : Split unread rest asked
   pub written : Appends old new (documents_text lines asked)
   pub counts : IsTally level asked tally
-
--- all documents were answered, or the first were, as far as the last line
-pub data AnswersEach (lines : AskedDocument → List (List ℕ)) (level : AskedDocument → ℕ)
-    (how : BatchEnd) (unread rest : Option (List AskedDocument)) (old new : Option (List ℕ))
-    : Type 0 where
-  all : (asked : List AskedDocument) (tally : Tally) → AreAll unread asked
-      → Appends old new (documents_text lines asked) → IsTally level asked tally
-      → how ≡ ended.All tally → AnswersEach lines level how unread rest old new
-  front : (asked : List AskedDocument) (next : AskedDocument) (count : ℕ)
-      → Split unread rest (asked ++ next ∷ [])
-      → Appends old new (documents_text lines asked ++ take count (document_text lines next))
-      → how ≡ ended.WriteFault → AnswersEach lines level how unread rest old new
-  first : (asked : List AskedDocument) → Split unread rest asked
-      → Appends old new (documents_text lines asked) → length asked ≡ 2 ^ 64 - 1
-      → how ≡ ended.Endless → AnswersEach lines level how unread rest old new

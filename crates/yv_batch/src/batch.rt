@@ -1,7 +1,7 @@
 //! Documents one after the other, each answered before the next is fetched.
 ghost use Rattle.std.specs.{Prelude.{◌≡◌, ◌<◌, ◌-◌, ◌^◌, ◌+◌, ◌↔◌, ◌==◌, cond, max, ℕ, List, Option, true, false, take, IfOk, IfSome, OnErr, OnOk}, Io.KnownBytes.{Appends}};
 ghost use Rattle.yv_base_streams.specs.{Stream.{stream_inner, has_failed, FailsOnceAtMost}, Pages.{Adds, paged_output}};
-ghost use Rattle.yv_batch.specs.{AskedDocument.{AskedDocument, asked_of, CanRead}, Answers.{Answers}, Batch.{document_text, total_line}, InnerBatch.{AnswersEach, BeginsAnswer, IsAnswer}, Level.{level_number}};
+ghost use Rattle.yv_batch.specs.{AskedDocument.{AskedDocument, asked_of, CanRead}, Answers.{Answers}, Batch.{document_text, total_line}, InnerBatch.{BeginsAnswer, IsAnswer}, Level.{level_number}};
 
 use crate::documents::{Content, Documents, Fetched};
 use crate::level::Level;
@@ -130,37 +130,14 @@ pub fn answer_all<D: Documents, A: Answer, W: Write>(
     // At most one call of the writer failed in a way that is not tolerated, and none came after it.
     ensures once { FailsOnceAtMost writer.new }
 {
-    let end = answer_each(alloc, documents, answer, writer);
-    let BatchEnd::All(tally) = end else {
-        return end;
-    };
-    if write_total(writer, &tally) {
-        end
-    } else {
-        BatchEnd::WriteFault
-    }
-}
-
-// Answers all documents in order.
-fn answer_each<D: Documents, A: Answer, W: Write>(
-    alloc: Global,
-    documents: &mut D,
-    answer: &mut A,
-    writer: &mut Counted<W>,
-) -> BatchEnd
-    requires { has_failed writer.old ≡ false }
-    ensures answers { AnswersEach (A.lines answer.old) (A.level answer.old) result
-        (D.left documents.old) (D.left documents.new) (W.contents (stream_inner writer.old))
-        (W.contents (stream_inner writer.new)) }
-    ensures over { (tally : Tally) → result ≡ BatchEnd.All tally
-        → D.is_over documents.new ≡ true }
-    ensures fault { result ≡ BatchEnd.WriteFault ↔ (has_failed writer.new ≡ true) }
-    ensures once { FailsOnceAtMost writer.new }
-{
     let mut tally = Tally::new();
     while tally.count < u64::MAX {
         let Some(document) = documents.next(alloc) else {
-            return BatchEnd::All(tally);
+            return if write_total(writer, &tally) {
+                BatchEnd::All(tally)
+            } else {
+                BatchEnd::WriteFault
+            };
         };
         match answer_one(alloc, documents.name(), document, answer, writer) {
             Some(level) => tally.add(level),

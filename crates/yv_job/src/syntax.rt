@@ -1,7 +1,7 @@
 //! The command line's syntax, for clap.
 ghost use Rattle.std.specs.Prelude.{◌≡◌, IfOk, false, codes};
 ghost use Rattle.clap.specs.{Words.{app_of, rule_of, new_app, with_rule, with_subcommand}, declared.builder.command.Command.TheViews.{out-Command as fields_of}};
-ghost use Rattle.yv_job.specs.CommandLine.{option_rule, required_rule, repeated_rule, required_repeated_rule, files_rule, with_shared, compile_app, tree_app, validate_app, files_app, top_app, yangcheck_app};
+ghost use Rattle.yv_job.specs.CommandLine.{option_rule, required_rule, repeated_rule, required_repeated_rule, files_rule, with_shared, tree_app, validate_app, top_app, yangcheck_app};
 
 use crate::help::{self, CommandHelp};
 use clap::{Arg, ArgAction, Command};
@@ -109,12 +109,16 @@ fn with_shared_options<'a>(alloc: Global, command: Command<'a>) -> Result<Comman
     with_arg(searched, files(alloc))
 }
 
-fn compile<'a>(alloc: Global) -> Result<Command<'a>, AllocError>
-    ensures app { IfOk result (λ c. app_of c ≡ compile_app) }
+// A command with nothing but what all commands take.
+fn plain_command<'a>(
+    alloc: Global,
+    name: &'a str,
+    help: &CommandHelp,
+) -> Result<Command<'a>, AllocError>
+    ensures app { IfOk result (λ c. app_of c ≡ with_shared (new_app name.entry.now)) }
     ensures local { IfOk result (λ c. (fields_of c).has_globals ≡ false) }
 {
-    let command = command(alloc, "compile", &help::COMPILE);
-    with_shared_options(alloc, command)
+    with_shared_options(alloc, command(alloc, name, help))
 }
 
 fn tree<'a>(alloc: Global) -> Result<Command<'a>, AllocError>
@@ -141,14 +145,6 @@ fn validate<'a>(alloc: Global) -> Result<Command<'a>, AllocError>
     with_shared_options(alloc, asking)
 }
 
-fn list_files<'a>(alloc: Global) -> Result<Command<'a>, AllocError>
-    ensures app { IfOk result (λ c. app_of c ≡ files_app) }
-    ensures local { IfOk result (λ c. (fields_of c).has_globals ≡ false) }
-{
-    let command = command(alloc, "files", &help::FILES);
-    with_shared_options(alloc, command)
-}
-
 // The program with none of its commands.
 fn top<'a>(alloc: Global) -> Command<'a>
     ensures app { app_of result ≡ top_app (codes "yangcheck") }
@@ -163,8 +159,8 @@ fn top<'a>(alloc: Global) -> Command<'a>
 pub fn command_line<'a>(alloc: Global) -> Result<Command<'a>, AllocError>
     ensures { IfOk result (λ c. app_of c ≡ yangcheck_app) }
 {
-    let one = with_command(top(alloc), compile(alloc)?)?;
+    let one = with_command(top(alloc), plain_command(alloc, "compile", &help::COMPILE)?)?;
     let two = with_command(one, tree(alloc)?)?;
     let three = with_command(two, validate(alloc)?)?;
-    with_command(three, list_files(alloc)?)
+    with_command(three, plain_command(alloc, "files", &help::FILES)?)
 }

@@ -20,14 +20,14 @@ fn push_bytes(text: &mut String, bytes: &[u8]) -> Result<(), AllocError>
     Ok(())
 }
 
-// The first bytes of a text.
-fn front(bytes: &[u8]) -> &[u8]
-    ensures { result.now ≡ take 1400 bytes.now }
+/// The first items of a list, at most so many.
+pub(crate) fn first<T>(items: &[T], most: usize) -> &[T]
+    ensures { result.now ≡ take most items.now }
 {
-    if bytes.len() <= MOST_BYTES {
-        bytes
+    if items.len() <= most {
+        items
     } else {
-        &bytes[..MOST_BYTES]
+        &items[..most]
     }
 }
 
@@ -35,7 +35,7 @@ fn front(bytes: &[u8]) -> &[u8]
 pub(crate) fn push_line(text: &mut String, line: &str) -> Result<(), AllocError>
     ensures { OnOk result (string_bytes text.new ≡ string_bytes text.old ++ cleared_line line.now) }
 {
-    push_bytes(text, front(line.as_bytes()))?;
+    push_bytes(text, first(line.as_bytes(), MOST_BYTES))?;
     text.push_str("\n")?;
     Ok(())
 }

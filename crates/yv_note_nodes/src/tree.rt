@@ -6,7 +6,8 @@ use crate::augment_names::{AugmentNames, NamedAugments};
 use crate::nodes::Steps;
 use std::alloc::{AllocError, Global};
 use std::collections::BTreeMap;
-use yv_note_statements::{Site, StatementEntry, StatementLists, node_above, state_above};
+use yv_note_statements::{Message, Site, StatementEntry, StatementLists, node_above, state_above};
+use yv_text_statement::Code;
 
 /// How many statements are looked at for a note, beside as many as there are.
 const MOST_LOOKS: usize = 500_000;
@@ -37,6 +38,17 @@ impl<'s, 'a> Tree<'s, 'a> {
             looks: entries.len().saturating_add(MOST_LOOKS),
             known: BTreeMap::new(alloc),
         })
+    }
+
+    /// The tree around the statement of a refusal, whose message begins with the sentence on the
+    /// refusal's name.
+    pub(crate) fn explaining(
+        telling: &mut Message<'a>,
+        code: Code,
+        site: &Site<'s, 'a>,
+    ) -> Result<Tree<'s, 'a>, AllocError> {
+        telling.sentence(code);
+        Tree::around(telling.alloc(), site)
     }
 
     /// The allocator of the lists.

@@ -24,8 +24,8 @@ pub(crate) fn first_unread<'s, 'a>(
     match first.argument() {
         "boolean" => Ok(first_no_boolean(defaults)),
         "empty" => Ok(defaults.first().copied()),
-        "enumeration" => first_no_name(alloc, chain, defaults),
-        "bits" => first_with_unknown_bit(alloc, chain, defaults),
+        "enumeration" => first_with_unknown(alloc, chain, "enum", defaults),
+        "bits" => first_with_unknown(alloc, chain, "bit", defaults),
         _ => match Notation::of(chain) {
             Some(notation) => first_outside(alloc, chain, notation, defaults),
             None => Ok(None),
@@ -61,22 +61,6 @@ fn first_unknown(
     Ok(unknown.values().copied().min())
 }
 
-// The first default of an enumeration that is none of its names.
-fn first_no_name<'s, 'a>(
-    alloc: Global,
-    chain: &[Site<'s, 'a>],
-    defaults: &[Site<'s, 'a>],
-) -> Result<Option<Site<'s, 'a>>, AllocError> {
-    let mut words = Vec::new(alloc);
-    for default in defaults {
-        words.push(default.argument())?;
-    }
-    match first_unknown(alloc, chain, "enum", &words)? {
-        Some(place) => Ok(defaults.get(place).copied()),
-        None => Ok(None),
-    }
-}
-
 // The bits in a default that are looked at.
 fn push_bits<'a>(words: &mut Vec<&'a str>, text: &'a str) -> Result<(), AllocError> {
     for word in text.split(' ').take(MOST_WORDS) {
@@ -87,19 +71,25 @@ fn push_bits<'a>(words: &mut Vec<&'a str>, text: &'a str) -> Result<(), AllocErr
     Ok(())
 }
 
-// The first default with a word that is not a bit of a type.
-fn first_with_unknown_bit<'s, 'a>(
+// The first default that is not the name of an item of a type; for bits, the first with a word that
+// is none.
+fn first_with_unknown<'s, 'a>(
     alloc: Global,
     chain: &[Site<'s, 'a>],
+    keyword: &str,
     defaults: &[Site<'s, 'a>],
 ) -> Result<Option<Site<'s, 'a>>, AllocError> {
     let mut words = Vec::new(alloc);
     let mut ends = Vec::new(alloc);
     for default in defaults {
-        push_bits(&mut words, default.argument())?;
+        if keyword == "bit" {
+            push_bits(&mut words, default.argument())?;
+        } else {
+            words.push(default.argument())?;
+        }
         ends.push(words.len())?;
     }
-    match first_unknown(alloc, chain, "bit", &words)? {
+    match first_unknown(alloc, chain, keyword, &words)? {
         Some(place) => {
             let number = ends.partition_point(|end| *end <= place);
             Ok(defaults.get(number).copied())

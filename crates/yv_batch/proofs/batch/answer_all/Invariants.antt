@@ -1,7 +1,7 @@
 use Rattle.std.proofs.Common.{◌-◌, ◌≡◌, ◌≤◌}
 use Rattle.yv_base_streams.specs.Stream.{stream_inner, has_failed}
 use Rattle.yv_batch.specs.InnerBatch.{IsAnswered}
-use Rattle.yv_batch.proofs.batch.answer_each.Given as goal
+use Rattle.yv_batch.proofs.batch.answer_all.Given as goal
 
 -- the documents that were fetched were answered, and the answer is as at the start
 abbrev pub invariant-loop-tally : goal.invariant-loop-tally
