@@ -1,5 +1,5 @@
--- What a clause reads of a request: a job whose files may still have to be found, many documents, or
--- the question which files there are.
+-- What a clause reads of a request: a job whose files may still have to be found, many documents,
+-- or the question which files there are.
 use Rattle.std.specs.Prelude.{◌≤◌, length, ℕ, List, [], map, string_bytes, Option, None}
 use Rattle.yv_job.specs.declared.request.Request.{Request}
 use Rattle.yv_job.specs.declared.request.Action.{Action}

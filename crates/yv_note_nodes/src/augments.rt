@@ -33,7 +33,7 @@ pub fn tell_refine_target<'a>(
     telling: &mut Message<'a>,
     site: &Site<'_, 'a>,
 ) -> Result<(), AllocError> {
-    let mut tree = Tree::explaining(telling, Code::RefineTarget, site)?;
+    let mut tree = Tree::explain(telling, Code::RefineTarget, site)?;
     match way_of(&mut tree, site)? {
         Way::Until(node, name) => say_no_node(telling, &mut tree, &node, name, Steps::Schema),
         _ => Ok(()),
@@ -128,7 +128,7 @@ pub fn tell_augment_target<'a>(
     telling: &mut Message<'a>,
     site: &Site<'_, 'a>,
 ) -> Result<(), AllocError> {
-    let mut tree = Tree::explaining(telling, Code::AugmentTarget, site)?;
+    let mut tree = Tree::explain(telling, Code::AugmentTarget, site)?;
     match way_of(&mut tree, site)? {
         Way::Until(node, name) => say_missing_step(telling, &mut tree, &node, name)?,
         Way::To(node) => say_no_target(telling, &node),

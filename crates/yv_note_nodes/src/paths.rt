@@ -179,7 +179,7 @@ pub fn tell_path_cycle<'a>(
     telling: &mut Message<'a>,
     leaf: &Site<'_, 'a>,
 ) -> Result<(), AllocError> {
-    let mut tree = Tree::explaining(telling, Code::PathCycle, leaf)?;
+    let mut tree = Tree::explain(telling, Code::PathCycle, leaf)?;
     let mut ring = Vec::new(telling.alloc());
     let mut at = *leaf;
     for _ in 0..MOST_LEAFREFS {

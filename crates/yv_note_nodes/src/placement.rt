@@ -326,7 +326,7 @@ pub fn tell_second_node<'a>(
     telling: &mut Message<'a>,
     site: &Site<'_, 'a>,
 ) -> Result<(), AllocError> {
-    let mut tree = Tree::explaining(telling, Code::DuplicateNode, site)?;
+    let mut tree = Tree::explain(telling, Code::DuplicateNode, site)?;
     let landings = follow_out(&mut tree, site)?;
     for (place, one) in landings.iter().enumerate() {
         if let Some(other) = partner(&landings[..place], site.number, one) {

@@ -42,7 +42,7 @@ impl<'s, 'a> Tree<'s, 'a> {
 
     /// The tree around the statement of a refusal, whose message begins with the sentence on the
     /// refusal's name.
-    pub(crate) fn explaining(
+    pub(crate) fn explain(
         telling: &mut Message<'a>,
         code: Code,
         site: &Site<'s, 'a>,
