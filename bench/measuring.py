@@ -224,7 +224,11 @@ def machine_of(given):
 def compare(about, inputs):
     """Measures both programs on inputs by the words of the command line, and prints a line for each."""
     given = arguments(about).parse_args()
-    machine, programs = machine_of(given), programs_of(given)
+    print_rows(given, machine_of(given), programs_of(given), inputs)
+
+
+def print_rows(given, machine, programs, inputs):
+    """Measures both programs on those of the inputs that are asked for, and prints a line for each."""
     print(HEADING)
     for item in inputs:
         if given.only in item.name:
