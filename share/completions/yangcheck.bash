@@ -10,10 +10,11 @@ _yangcheck_module_names() {
   sed -n 's/^[[:space:]]*module[[:space:]]\{1,\}\([A-Za-z_][A-Za-z0-9_.-]*\).*/\1/p' "${files[@]}" 2> /dev/null
 }
 
-# Offers files with an ending, and directories.
+# Offers files with an ending, and directories. Offers all files where there are none of these.
 _yangcheck_files() {
   local ending=$1 word=$2
   mapfile -t COMPREPLY < <(compgen -f -X "!*$ending" -- "$word"; compgen -d -- "$word")
+  [ ${#COMPREPLY[@]} -gt 0 ] || mapfile -t COMPREPLY < <(compgen -f -- "$word")
   compopt -o filenames 2> /dev/null
 }
 
@@ -34,6 +35,7 @@ _yangcheck_value() {
   case $option in
     --path) _yangcheck_folders "$word" ;;
     --data) _yangcheck_files .json "$word" ;;
+    --each) _yangcheck_words "file line name name0" "$word" ;;
     --kind) _yangcheck_words "data config" "$word" ;;
     --module) _yangcheck_words "$(_yangcheck_module_names)" "$word" ;;
     --support) _yangcheck_words "$(_yangcheck_module_names | sed 's/$/:/')" "$word" ;;
@@ -48,12 +50,12 @@ _yangcheck_value() {
   return 0
 }
 
-# Offers the options of a command that the command line does not have yet, and `--path`, which may be repeated.
+# Offers the options of a command that the command line does not have yet, and those that may be repeated: `--path` and `--data`.
 _yangcheck_options() {
   local command=$1 word=$2 option left=(--path)
   local options=(--max-nodes --support --import-only --help)
   [ "$command" = tree ] && options+=(--module)
-  [ "$command" = validate ] && options+=(--data --kind)
+  [ "$command" = validate ] && options+=(--each --kind) && left+=(--data)
   for option in "${options[@]}"; do
     [[ " ${COMP_WORDS[*]:2} " == *" $option "* && $option != "$word" ]] || left+=("$option")
   done
