@@ -1,5 +1,3 @@
-pub mod NoteLemmas
-pub mod DocumentLemmas
 pub mod OneOutput
 pub mod FileLemmas
 pub mod PatternLemmas

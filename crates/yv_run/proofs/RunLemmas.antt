@@ -12,9 +12,11 @@ use Rattle.yv_data_faults.specs.Flaw.{Flaw}
 use Rattle.yv_base_streams.specs.Files.{File}
 use Rattle.yv_base_streams.specs.Stream.{TakesAtMost}
 use Rattle.yv_run.specs.Compiles.{FilesCompile, RefusedAt, HasSchema}
-use Rattle.yv_run.specs.Document.{DocumentText, document_text}
+use Rattle.yv_documents.specs.Document.{DocumentText, document_text}
+use Rattle.yv_documents.specs.DocumentLines.{faults_in}
+use Rattle.yv_documents.specs.Notes.{NotesReading}
 use Rattle.yv_run.specs.Output.{Gives, IsStopped, Page, ReadsData, count_printed, diagram_printed, refusal_printed}
-use Rattle.yv_run.specs.PersonNotes.{NotesData, NotesDiagram, NotesReading, faults_in}
+use Rattle.yv_run.specs.PersonNotes.{NotesData, NotesDiagram}
 use Rattle.yv_run.specs.declared.status.Status.{Status}
 use Rattle.yv_run.specs.InnerRun.{HasNote, RunsData, RunsSchema}
 use Rattle.yv_run.specs.Notes.{RunsWithNote, TellsRefusal}

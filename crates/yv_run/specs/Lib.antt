@@ -1,5 +1,3 @@
-pub mod Lines
-pub mod Document
 pub mod Status
 pub mod Compiles
 pub mod Output

@@ -12,9 +12,9 @@ use Rattle.yv_tree.specs.Diagram.{diagram_of}
 use Rattle.yv_job.specs.Jobs.{CommandAsked, Compiles, Draws, Checks, Task}
 use Rattle.yv_data_faults.specs.Flaw.{Flaw}
 use Rattle.yv_validate.specs.Faults.{faults}
-use Rattle.yv_run.specs.Lines.{ended_line, faults_text}
+use Rattle.yv_documents.specs.Lines.{ended_line, faults_text}
 use Rattle.yv_run.specs.Compiles.{Compilation, RefusedAt, HasSchema, FilesCompile, GiveSchema}
-use Rattle.yv_run.specs.Document.{DocumentText, TooLarge, NotJson, Reads, document_text}
+use Rattle.yv_documents.specs.Document.{DocumentText, TooLarge, NotJson, Reads, document_text}
 use Rattle.yv_base_streams.specs.Files.{File}
 use Rattle.yv_run.specs.declared.print.Body.{Body}
 use Rattle.yv_run.specs.declared.print.Body.TheVariants.{Text, Diagram, Faults}

@@ -1,17 +1,15 @@
 //! What helps a person to fix what was found of a document, or to name a module that has a diagram.
 //! It is made after the outcome is written, so that it delays nothing.
 ghost use Rattle.std.specs.Prelude.{◌≡◌, IfOk, option_map, string_bytes};
-ghost use Rattle.yv_run.specs.{Document.{document_view, document_text}, Output.{diagram_printed, printed_of}, PersonNotes.{NotesDiagram, NotesFaults, NotesReading, faults_of}};
+ghost use Rattle.yv_documents.specs.{Document.{document_view, document_text}, Notes.{NotesReading}};
+ghost use Rattle.yv_run.specs.{Output.{diagram_printed, printed_of}, PersonNotes.{NotesDiagram, faults_of}};
 
-use crate::document::Document;
 use crate::modules::modules_note;
 use crate::print::{Body, CheckResult, Output};
 use crate::status::Verdict;
-use serde_json::Value;
 use std::alloc::{AllocError, Global};
+use yv_documents::document_note;
 use yv_job::Job;
-use yv_note_faults::sentences;
-use yv_note_refusals::{why_not_json, why_too_large};
 use yv_schema::Schema;
 use yv_validate::Fault;
 
@@ -29,11 +27,8 @@ impl CheckResult {
             → IfOk result (λ note. NotesReading (document_view self.now.document)
             (faults_of self.now.output.body) bytes.now (option_map string_bytes note)) }
     {
-        match &self.document {
-            Document::TooLarge => Ok(Some(why_too_large(alloc, bytes)?)),
-            Document::NotJson => why_not_json(alloc, bytes),
-            Document::Json(json) => fault_note(alloc, job, schema, json, self.output.body.faults()),
-        }
+        let faults = self.output.body.faults();
+        document_note(alloc, job, schema, &self.document, faults, bytes)
     }
 }
 
@@ -47,22 +42,6 @@ impl Body<'_> {
             Body::Faults(faults) => faults.as_slice(),
         }
     }
-}
-
-// Sentences on faults, if there are some.
-fn fault_note(
-    alloc: Global,
-    job: &Job,
-    schema: &Schema,
-    json: &Value,
-    faults: &[Fault],
-) -> Result<Option<String>, AllocError>
-    ensures { IfOk result (λ note. NotesFaults faults.now (option_map string_bytes note)) }
-{
-    if faults.is_empty() {
-        return Ok(None);
-    }
-    Ok(Some(sentences(alloc, schema, json, job, faults)?))
 }
 
 /// Why there is no diagram of the module of this name, and of which modules there is one; none, if

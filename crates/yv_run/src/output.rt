@@ -1,13 +1,13 @@
 //! What a run writes.
-ghost use Rattle.std.specs.{Prelude.{◌≡◌, ◌<◌, ◌↔◌, ℕ, true, false, take}, Io.KnownBytes.{Appends, Keeps}};
-ghost use Rattle.yv_base_streams.specs.Stream.{stream_inner, stream_interrupts, has_failed, IsFresh, FailsOnceAtMost};
+ghost use Rattle.std.specs.{Prelude.{◌≡◌, ◌↔◌, ℕ, true, false, take}, Io.KnownBytes.{Appends}};
+ghost use Rattle.yv_base_streams.specs.Stream.{stream_inner, has_failed, IsFresh, FailsOnceAtMost};
 ghost use Rattle.yv_run.specs.{Output.{IsStopped, body_text, printed_of}, Runs.{Writes}};
 
-use crate::lines::write_faults;
 use crate::print::{Body, Output};
 use crate::status::Status;
 use std::io::Write;
 use yv_base_streams::{Counted, write_whole};
+use yv_documents::{flush_all, write_faults};
 
 /// Writes what was found, has the writer pass it on, and answers how the run ends.
 pub(crate) fn write_output<W: Write>(output: &Output<'_>, writer: &mut Counted<W>) -> Status
@@ -61,34 +61,4 @@ fn put_body<W: Write>(writer: &mut Counted<W>, body: &Body<'_>) -> bool
         Body::Diagram(diagram) => diagram.write(writer),
         Body::Faults(faults) => write_faults(writer, faults),
     }
-}
-
-// Has a writer pass on what it took, and answers whether it did. As many interruptions are borne as
-// of its writes.
-fn flush_all<W: Write>(writer: &mut Counted<W>) -> bool
-    requires { has_failed writer.old ≡ false }
-    ensures keeps { Keeps (W.contents (stream_inner writer.old))
-        (W.contents (stream_inner writer.new)) }
-    ensures fault { result ≡ false ↔ (has_failed writer.new ≡ true) }
-    ensures once { FailsOnceAtMost writer.new }
-{
-    while !flush_once(writer) {
-        if writer.has_failed() {
-            return false;
-        }
-    }
-    true
-}
-
-// One flush, and whether it was done.
-fn flush_once<W: Write>(writer: &mut Counted<W>) -> bool
-    requires { has_failed writer.old ≡ false }
-    ensures keeps { Keeps (W.contents (stream_inner writer.old))
-        (W.contents (stream_inner writer.new)) }
-    ensures ends { result ≡ true → has_failed writer.new ≡ false }
-    ensures moves { result ≡ false → has_failed writer.new ≡ false → stream_interrupts writer.old
-        < stream_interrupts writer.new }
-    ensures once { FailsOnceAtMost writer.new }
-{
-    writer.flush().is_ok()
 }

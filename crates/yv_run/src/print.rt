@@ -2,12 +2,13 @@
 ghost use Rattle.std.specs.Prelude.{◌≡◌, [], map, slice_get, IfOk, None};
 ghost use Rattle.yv_nodes.specs.Rows.{whole};
 ghost use Rattle.yv_base_streams.specs.Files.{file_of};
-ghost use Rattle.yv_run.specs.{Document.{MeetsLimits, document_view, document_text}, Output.{name_of_file, refusal_printed, faults_printed, data_printed, reading_printed, count_printed, diagram_printed, drawn_printed, printed_of}, PersonNotes.{faults_in, faults_of}};
+ghost use Rattle.yv_documents.specs.{Document.{MeetsLimits, document_view, document_text}, DocumentLines.{faults_in}};
+ghost use Rattle.yv_run.specs.{Output.{name_of_file, refusal_printed, faults_printed, data_printed, reading_printed, count_printed, diagram_printed, drawn_printed, printed_of}, PersonNotes.{faults_of}};
 
-use crate::document::{Document, read_document};
 use crate::status::Verdict;
 use std::alloc::{AllocError, Global};
 use yv_base_streams::Input;
+use yv_documents::{Document, read_document};
 use yv_schema::Schema;
 use yv_text_statement::{Kind, Refusal};
 use yv_tree::TreeDiagram;

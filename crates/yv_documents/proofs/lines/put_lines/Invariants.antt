@@ -1,0 +1,10 @@
+use Rattle.std.proofs.Common.{take}
+use Rattle.yv_base_streams.specs.Stream.{has_failed, stream_failures, stream_inner}
+use Rattle.yv_documents.specs.Lines.{fault_lines}
+use Rattle.yv_base_streams.specs.Pages.{Adds, output_of}
+use Rattle.yv_documents.proofs.lines.put_lines.Given as goal
+
+abbrev pub invariant-loop-fault : goal.invariant-loop-fault
+invariant-loop-fault g l =
+    Adds (fault_lines (take l.fault-index l.faults)) (output_of (g.W.Write.contents (stream_inner l.initial.writer)) (has_failed l.initial.writer) (stream_failures l.initial.writer) l.initial.page)
+    (output_of (g.W.Write.contents (stream_inner l.writer)) (has_failed l.writer) (stream_failures l.writer) l.page)

@@ -1,0 +1,6 @@
+pub mod Lines
+pub mod Document
+pub mod DocumentLines
+pub mod Notes
+pub mod Answering
+pub mod InnerReply
