@@ -2,5 +2,5 @@ pub mod Lines
 pub mod Document
 pub mod DocumentLines
 pub mod Notes
-pub mod Answering
+pub mod AnswerLines
 pub mod InnerReply

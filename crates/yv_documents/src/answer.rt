@@ -24,7 +24,7 @@ pub struct DocumentAnswer<'a, N> {
 }
 
 impl<'a, N> DocumentAnswer<'a, N> {
-    ghost use Rattle.yv_documents.specs.Answering.{answer_level, answer_lines};
+    ghost use Rattle.yv_documents.specs.AnswerLines.{answer_level, answer_lines};
 
     /// The answer to documents of this schema, as the job asks. The tables of the schema that serve
     /// all documents are made here.
@@ -55,7 +55,7 @@ impl<'a, N> DocumentAnswer<'a, N> {
 }
 
 impl<N: NoteSink> Answer for DocumentAnswer<'_, N> {
-    ghost use Rattle.yv_documents.specs.Answering.{answer_level, answer_lines};
+    ghost use Rattle.yv_documents.specs.AnswerLines.{answer_level, answer_lines};
 
     ghost lines = { answer_lines };
 

@@ -4,7 +4,7 @@
 mod answer;
 mod document;
 mod findings;
-mod labelled;
+mod note_labels;
 mod lines;
 mod notes;
 mod output;

@@ -5,7 +5,7 @@ ghost use Rattle.yv_documents.specs.{Document.{document_view, document_text}, No
 
 use crate::document::Document;
 use crate::findings::Findings;
-use crate::labelled::label_note;
+use crate::note_labels::label_note;
 use serde_json::Value;
 use std::alloc::{AllocError, Global};
 use yv_job::Job;
@@ -14,7 +14,7 @@ use yv_note_json::{why_not_json, why_too_large};
 use yv_schema_tables::Schema;
 use yv_validate::Fault;
 
-/// Where notes for a person go.
+/// A sink of notes: where those for a person go.
 pub trait NoteSink {
     /// Whether a note would be seen. This is asked before a note is made, so that none is made that
     /// nobody sees.
@@ -88,7 +88,7 @@ impl<N: NoteSink> Notes<'_, N> {
         let (document, faults) = (&findings.document, findings.faults.as_slice());
         let note = document_note(alloc, self.job, self.schema, document, faults, bytes);
         if let Ok(Some(note)) = note
-            && let Ok(text) = label_note(alloc, name, line, note.as_str())
+            && let Some(text) = label_note(alloc, name, line, note.as_str())
         {
             self.sink.show(text.as_str());
         }

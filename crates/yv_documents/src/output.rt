@@ -5,8 +5,8 @@ ghost use Rattle.yv_base_streams.specs.Stream.{stream_inner, stream_interrupts, 
 use std::io::Write;
 use yv_base_streams::Counted;
 
-/// Has a writer pass on what it took, and answers whether it did. As many interruptions are borne as
-/// of its writes.
+/// Has a writer pass on what it took, and answers whether it did. As many interruptions are borne
+/// as of its writes.
 pub fn flush_all<W: Write>(writer: &mut Counted<W>) -> bool
     // The writer has not failed.
     requires { has_failed writer.old ≡ false }

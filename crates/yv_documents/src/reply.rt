@@ -1,5 +1,5 @@
 //! What is said of a document, as lines that have its label in front.
-ghost use Rattle.std.specs.{Prelude.{◌≡◌, ◌↔◌, ◌++◌, ℕ, true, false, None, IfSome, codes, decimal, flat_map, map, take}, Io.KnownBytes.{Appends}};
+ghost use Rattle.std.specs.{Prelude.{◌≡◌, ◌↔◌, ◌++◌, ℕ, true, false, None, IfSome, codes, decimal, flat_map, take}, Io.KnownBytes.{Appends}};
 ghost use Rattle.yv_data_faults.specs.Line.{line_text};
 ghost use Rattle.yv_base_streams.specs.{Stream.{has_failed, stream_inner, FailsOnceAtMost}, Pages.{Adds, paged_output}};
 ghost use Rattle.yv_batch.specs.{Label.{label_line, label_of}, Level.{level_number}};
@@ -135,7 +135,8 @@ fn put_fault_lines<W: Write>(
     line: Option<u64>,
     faults: &[Fault],
 )
-    ensures { Adds (flat_map (label_line (label_of name.now line)) (map line_text faults.now))
+    ensures { Adds
+        (flat_map (λ f. label_line (label_of name.now line) (line_text f)) faults.now)
         (paged_output W.contents writer.old page.old)
         (paged_output W.contents writer.new page.new) }
 {

@@ -2,3 +2,4 @@ pub mod OneOutput
 pub mod FileLemmas
 pub mod PatternLemmas
 pub mod RunLemmas
+pub mod BatchLemmas

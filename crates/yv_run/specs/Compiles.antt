@@ -46,6 +46,10 @@ pub data FilesCompile (choice : ModuleChoice) (limit : ℕ) (files : List File) 
 abbrev pub GiveSchema : ModuleChoice → ℕ → List File → Type 0
 GiveSchema choice limit files = (schema : Rows) × FilesCompile choice limit files (HasSchema schema)
 
+-- the files are refused
+abbrev pub AreRefused : ModuleChoice → ℕ → List File → Type 0
+AreRefused choice limit files = (r : Refusal) × FilesCompile choice limit files (RefusedAt r)
+
 -- the files can be read, nothing of them is refused before their types, and one of these has a
 -- pattern
 pub record HavePattern (choice : ModuleChoice) (limit : ℕ) (files : List File) : Type 0 where

@@ -5,3 +5,4 @@ pub mod PersonNotes
 pub mod InnerRun
 pub mod Notes
 pub mod Runs
+pub mod Batches

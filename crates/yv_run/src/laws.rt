@@ -1,8 +1,11 @@
 //! Laws about the definitions only. These functions do nothing: the contract of each is the law.
-ghost use Rattle.std.specs.Prelude.{◌≡◌, ℕ, List};
+ghost use Rattle.std.specs.Prelude.{◌≡◌, ℕ, List, flat_map};
+ghost use Rattle.yv_text_statement.specs.declared.document_kind.Kind.{Kind};
+ghost use Rattle.yv_nodes.specs.Rows.{Rows};
 ghost use Rattle.yv_job.specs.Jobs.{Task};
 ghost use Rattle.yv_base_streams.specs.Files.{File};
-ghost use Rattle.yv_run.specs.Output.{Page, IsOutput};
+ghost use Rattle.yv_documents.specs.{DocumentLines.{data_lines}, Lines.{ended_line}};
+ghost use Rattle.yv_run.specs.Output.{Page, IsOutput, data_printed};
 
 use yv_schema::laws::files_have_one_schema;
 use yv_source::laws::{a_bad_file_is_refused_once, a_text_is_spelled_or_refused_once};
@@ -19,3 +22,10 @@ pub fn a_run_has_one_output()
     files_have_one_schema();
     order_tells_refusals_apart();
 }
+
+/// What a run over one document writes are the lines that a run over many writes of it, each with
+/// its line feed: only the labels are new.
+pub fn labels_alone_are_new()
+    ensures { (k : Kind) (s : Rows) (given : List ℕ)
+        → flat_map ended_line (data_lines k s given) ≡ (data_printed k s given).text }
+{}

@@ -3,6 +3,7 @@
 #![tactic(auto)]
 
 mod answers;
+mod batch_run;
 mod compilation;
 pub mod laws;
 mod modules;
@@ -13,10 +14,11 @@ mod print;
 mod status;
 mod whole_run;
 
+pub use batch_run::run_all;
 pub use notes::diagram_note;
 pub use print::{Body, CheckResult, Output, of_count, of_data, of_diagram, of_refusal};
 pub use status::{Status, Verdict};
 pub use whole_run::{Holdings, RunEnd, run, run_with_note};
 pub use yv_base_streams::{Counted, Input, InputFault, read_input};
-pub use yv_documents::{Document, read_document, write_faults};
+pub use yv_documents::{Document, NoteSink, read_document, write_faults};
 pub use yv_job::{Action, Command, FolderSearch, Job, JobFault, Request, read_request};

@@ -1,6 +1,8 @@
 //! How a run ended.
 ghost use Rattle.std.specs.Prelude.{◌≡◌, option_map};
-ghost use Rattle.yv_run.specs.Status.{status_of, exit_of, complaint_of};
+ghost use Rattle.yv_run.specs.Status.{status_of, batch_status, level_status, exit_of, complaint_of};
+
+use yv_batch::{BatchEnd, Level};
 
 /// The status of a run: how it ended.
 #[derive(Clone, Copy, PartialEq, Eq, Debug)]
@@ -40,6 +42,29 @@ impl Verdict {
 }
 
 impl Status {
+    /// How a run over many documents ends that were answered like this.
+    pub(crate) fn of_batch(end: BatchEnd) -> Status
+        ensures { result ≡ batch_status end }
+    {
+        match end {
+            BatchEnd::All(tally) => Status::of_level(tally.level),
+            BatchEnd::WriteFault => Status::WriteFault,
+            BatchEnd::Endless => Status::ReadFault,
+        }
+    }
+
+    // How it ends if the worst of them is like this.
+    fn of_level(level: Level) -> Status
+        ensures { result ≡ level_status level }
+    {
+        match level {
+            Level::Valid => Status::Clean,
+            Level::Faulty => Status::Refused,
+            Level::BadInput => Status::BadInput,
+            Level::Unread => Status::ReadFault,
+        }
+    }
+
     /// The status that the process exits with.
     pub fn exit(self) -> u8
         ensures { result ≡ exit_of self }

@@ -88,7 +88,7 @@ pub struct RunEnd {
 
 impl RunEnd {
     // A run that was stopped.
-    fn stop_with(status: Status) -> RunEnd
+    pub(crate) fn stop_with(status: Status) -> RunEnd
         ensures status { result.status ≡ status }
         ensures note { result.note ≡ Ok None }
     {
@@ -232,8 +232,8 @@ pub fn run_with_note<R: Read, W: Write>(
     }
 }
 
-// What helps a person to fix a pattern that isn't built.
-fn pattern_note(alloc: Global, inputs: &[Input]) -> Result<Option<String>, AllocError>
+/// What helps a person to fix a pattern that isn't built.
+pub(crate) fn pattern_note(alloc: Global, inputs: &[Input]) -> Result<Option<String>, AllocError>
     ensures { (choice : ModuleChoice) (limit : ℕ)
         → HavePattern choice limit (map file_of inputs.now)
         → IfOk result

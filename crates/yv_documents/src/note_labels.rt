@@ -1,5 +1,5 @@
 //! The note on one of many documents: each of its lines has the document's label in front.
-use std::alloc::{AllocError, Global};
+use std::alloc::Global;
 use std::io;
 use std::io::Write;
 use yv_base_streams::{Counted, Page};
@@ -22,13 +22,14 @@ impl Write for Memory {
     }
 }
 
-/// The lines of a note, each with the label of a document of this name and line.
+/// The lines of a note, each with the label of a document of this name and line, if there is memory
+/// for them.
 pub(crate) fn label_note(
     alloc: Global,
     name: &[u8],
     line: Option<u64>,
     note: &str,
-) -> Result<String, AllocError> {
+) -> Option<String> {
     let mut memory = Counted::new(Memory {
         bytes: Vec::new(alloc),
     });
@@ -38,10 +39,7 @@ pub(crate) fn label_note(
     }
     page.turn(&mut memory);
     if memory.has_failed() {
-        return Err(AllocError);
+        return None;
     }
-    match String::from_utf8(memory.into_inner().bytes) {
-        Ok(text) => Ok(text),
-        Err(_) => Err(AllocError),
-    }
+    String::from_utf8(memory.into_inner().bytes).ok()
 }
