@@ -52,34 +52,10 @@ pub(crate) fn write_reply<W: Write>(
     ensures fault { result ≡ None ↔ (has_failed writer.new ≡ true) }
     ensures once { FailsOnceAtMost writer.new }
 {
-    if deliver_lines(writer, name, line, reply) {
+    if write_lines(writer, name, line, reply) && flush_all(writer) {
         Some(reply.level())
     } else {
         None
-    }
-}
-
-// Writes the lines, and answers whether all were taken and passed on.
-fn deliver_lines<W: Write>(
-    writer: &mut Counted<W>,
-    name: &[u8],
-    line: Option<u64>,
-    reply: &Reply<'_>,
-) -> bool
-    requires { has_failed writer.old ≡ false }
-    ensures ends { result ≡ true
-        → Appends (W.contents (stream_inner writer.old)) (W.contents (stream_inner writer.new))
-        (flat_map (label_line (label_of name.now line)) (reply_lines reply.now)) }
-    ensures part { (n : ℕ)
-        × Appends (W.contents (stream_inner writer.old)) (W.contents (stream_inner writer.new))
-        (take n (flat_map (label_line (label_of name.now line)) (reply_lines reply.now))) }
-    ensures fault { result ≡ false ↔ (has_failed writer.new ≡ true) }
-    ensures once { FailsOnceAtMost writer.new }
-{
-    if write_lines(writer, name, line, reply) {
-        flush_all(writer)
-    } else {
-        false
     }
 }
 
