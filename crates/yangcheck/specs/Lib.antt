@@ -1,1 +1,2 @@
 pub mod InnerPlans
+pub mod InnerBatch

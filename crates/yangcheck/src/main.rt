@@ -1,6 +1,8 @@
 //! Compiles YANG modules, draws their trees and validates JSON documents against them.
 #![tactic(auto)]
 
+mod documents;
+mod notes;
 mod plan;
 mod program;
 mod search;

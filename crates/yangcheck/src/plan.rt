@@ -1,14 +1,16 @@
 //! The plan that a request comes to when its files are read.
 ghost use Rattle.std.specs.Prelude.{◌≡◌, length, map, string_bytes, IfOk};
 ghost use Rattle.yv_base_streams.specs.Files.{file_of};
-ghost use Rattle.yv_job.specs.Requests.{IsLimited};
+ghost use Rattle.yv_job.specs.{Jobs.{HasLimit}, Requests.{IsLimited}};
 ghost use Rattle.yv_search.specs.PlainJob.{IsImportOnly};
-ghost use Rattle.yangcheck.specs.InnerPlans.{IsFor};
+ghost use Rattle.yangcheck.specs.{InnerBatch.{kind_of}, InnerPlans.{IsFor}};
 ghost use Rattle.yv_text_statement.specs.Selection.{selected_of};
 
 use std::alloc::{AllocError, Global};
+use std::collections::VecDeque;
 use yv_base_streams::Input;
-use yv_job::{Action, FolderSearch, Job, Request};
+use yv_batch::SourceKind;
+use yv_job::{Action, Command, Each, FolderSearch, Job, Request};
 use yv_search::{files_text, import_only};
 use yv_text_statement::Selection;
 
@@ -69,11 +71,45 @@ fn search_result(
     Ok((selection, Some(search)))
 }
 
+/// Sources of documents: what each holds, and their names in order.
+#[derive(Drop)]
+pub(crate) struct Batch {
+    pub(crate) kind: SourceKind,
+    pub(crate) sources: VecDeque<String>,
+}
+
+impl Batch {
+    // The sources of these names, by the word that says what each holds.
+    fn new(each: Option<Each>, sources: Vec<String>) -> Batch
+        ensures kind { result.kind ≡ kind_of each }
+        ensures sources { result.sources.items ≡ sources.items }
+    {
+        Batch {
+            kind: kind_of(each),
+            sources: VecDeque::from(sources),
+        }
+    }
+}
+
+// What a source holds: one document, where nothing was said.
+fn kind_of(each: Option<Each>) -> SourceKind
+    ensures { result ≡ kind_of each }
+{
+    match each {
+        None | Some(Each::File) => SourceKind::Document,
+        Some(Each::Line) => SourceKind::Lines,
+        Some(Each::Name) => SourceKind::Names(b'\n'),
+        Some(Each::Name0) => SourceKind::Names(0),
+    }
+}
+
 /// The plan for a request whose files were read.
 #[derive(Drop)]
 pub(crate) enum Plan {
     /// To run this job over the files.
     Run(Job),
+    /// To compile the files of this job, and to check the documents of these sources.
+    RunAll(Job, Batch),
     /// To print this text, which shows the files.
     Print(String),
 }
@@ -86,27 +122,41 @@ pub(crate) fn plan_of(alloc: Global, request: Request, files: &[Input]) -> Resul
 {
     let Request {
         action,
-        folders,
-        files: named_files,
         limit,
         selection,
         kind,
+        each,
+        folders,
+        files: named_files,
     } = request;
     let named = named_files.len();
-    let command = match action {
-        Action::Run(command) => command,
+    let (command, batch) = match action {
+        Action::Run(command) => (command, None),
+        Action::ValidateAll(sources) => (Command::Compile, Some(Batch::new(each, sources))),
         Action::Files => {
             let text = files_text(alloc, files, named, selection.import_only.as_slice())?;
             return Ok(Plan::Print(text));
         }
     };
     let (selection, search) = search_result(alloc, folders, named, selection, files)?;
-    Ok(Plan::Run(Job {
+    let job = Job {
         command,
         files: names_of(alloc, files)?,
         limit,
         selection,
         kind,
         search,
-    }))
+    };
+    Ok(plan_for(job, batch))
+}
+
+// The plan to run a job, over the documents of these sources where there are some.
+fn plan_for(job: Job, batch: Option<Batch>) -> Plan
+    requires { HasLimit job }
+    ensures { IsFor (length job.files.items) result }
+{
+    match batch {
+        Some(batch) => Plan::RunAll(job, batch),
+        None => Plan::Run(job),
+    }
 }

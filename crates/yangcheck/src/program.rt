@@ -3,20 +3,24 @@ ghost use Rattle.std.specs.Prelude.{◌≡◌, length};
 ghost use Rattle.yv_run.specs.Status.{exit_of};
 ghost use Rattle.yv_job.specs.{Jobs.{HasFiles, HasLimit}, Requests.{IsLimited}};
 
-use crate::plan::{Plan, plan_of};
+use crate::documents::SystemStore;
+use crate::notes::{ErrorNotes, NotedDocuments, note_count};
+use crate::plan::{Batch, Plan, plan_of};
 use crate::search::find_files;
 use crate::stop::{Stop, read_failure};
 use std::alloc::{AllocError, Global};
+use std::cell::Cell;
 use std::fs::File;
 use std::io::{ErrorKind, Read};
 use std::mem::ManuallyDrop;
 use std::rt::{Env, Files};
 use std::{env, io};
 use yv_base_streams::{Counted, Input};
+use yv_batch::Sources;
 use yv_folders::ErrorReader;
 use yv_job::{Command, Job, JobFault, Request, read_request};
 use yv_note_text::push_shown;
-use yv_run::{RunEnd, Status, run_with_note};
+use yv_run::{RunEnd, Status, run_all, run_with_note};
 
 /// Does what the process's arguments ask for, and answers its exit status.
 pub fn program<R: Env + Files + io::Input + Print + Eprint + AllocGlobal + Clone + Drop>(
@@ -82,7 +86,14 @@ fn shown_lines(alloc: Global, text: &str) -> Result<String, AllocError> {
 fn print_stop<R: Eprint>(rt: &R, status: Status) -> u8
     ensures { result ≡ exit_of status }
 {
-    if let Some(text) = status.complaint() {
+    print_complaint(rt, status, status.complaint())
+}
+
+// Prints a complaint, and answers the exit status of a run that ended like this.
+fn print_complaint<R: Eprint>(rt: &R, status: Status, complaint: Option<&'static str>) -> u8
+    ensures { result ≡ exit_of status }
+{
+    if let Some(text) = complaint {
         let _ = rt.eprintln(text);
     }
     status.exit()
@@ -111,17 +122,36 @@ fn do_request<R: Files + io::Input + Print + Eprint + AllocGlobal + Clone + Drop
         Err(Stop::Usage(text)) => return print_refusal(rt, text.as_str()),
         Err(Stop::Ended(ended)) => return print_reason(rt, &ended),
     };
-    match plan_of(rt.alloc(), request, files.as_slice()) {
-        Ok(Plan::Run(job)) => {
-            let ended = run_files(rt, &job, files.as_slice());
-            let exit = print_reason(rt, &ended);
-            // The process ends now, so what the run holds need not be dropped piece by piece.
-            let _ended = ManuallyDrop::new(ended);
-            exit
-        }
+    let files = files.as_slice();
+    match plan_of(rt.alloc(), request, files) {
+        Ok(Plan::Run(job)) => end_run(rt, run_files(rt, &job, files)),
+        Ok(Plan::RunAll(job, batch)) => end_batch(rt, run_batch(rt, &job, batch, files)),
         Ok(Plan::Print(text)) => print_text(rt, text.as_str()),
         Err(_) => print_stop(rt, Status::NoMemory),
     }
+}
+
+// Says why a run ended, and answers the exit status.
+fn end_run<R: Eprint>(rt: &R, ended: RunEnd) -> u8
+    ensures { result ≡ exit_of ended.status }
+{
+    let exit = print_reason(rt, &ended);
+    // The process ends now, so what the run holds need not be dropped piece by piece.
+    let _ended = ManuallyDrop::new(ended);
+    exit
+}
+
+// The same of a run over many documents. Each of them that can't be read has a note of its own, so
+// the run has no complaint about that.
+fn end_batch<R: Eprint>(rt: &R, ended: RunEnd) -> u8
+    ensures { result ≡ exit_of ended.status }
+{
+    if ended.status != Status::ReadFault {
+        return end_run(rt, ended);
+    }
+    let exit = print_complaint(rt, ended.status, None);
+    let _ended = ManuallyDrop::new(ended);
+    exit
 }
 
 // A run that is stopped by a file that was opened, and whose reading failed.
@@ -174,4 +204,36 @@ fn run_over<R: Print + AllocGlobal, D: Read + Drop>(
     } else {
         ended
     }
+}
+
+// Compiles the files of the job, and checks the documents of the sources, each of which is opened
+// when its turn comes.
+fn run_batch<R: Files + io::Input + Print + Eprint + AllocGlobal>(
+    rt: &R,
+    job: &Job,
+    batch: Batch,
+    inputs: &[Input],
+) -> RunEnd
+    requires files { HasFiles job.now }
+    requires limit { HasLimit job.now }
+    requires each { length inputs.now ≡ length job.now.files.items }
+{
+    let Batch { kind, sources } = batch;
+    let (failure, left) = (Cell::new(None), note_count());
+    let (opener, files) = (
+        SystemStore::new(rt, &failure),
+        SystemStore::new(rt, &failure),
+    );
+    let sources = Sources::new(kind, sources, opener, files);
+    let mut documents = NotedDocuments::new(sources, ErrorNotes::new(rt, &left), &failure);
+    let mut notes = ErrorNotes::new(rt, &left);
+    let mut writer = Counted::new(io::writer(rt));
+    run_all(
+        rt.alloc(),
+        job,
+        inputs,
+        &mut documents,
+        &mut notes,
+        &mut writer,
+    )
 }

@@ -48,19 +48,24 @@ impl Stop {
 /// A run that is stopped by a file that can't be opened or read, with the file's name and the
 /// system's reason.
 pub(crate) fn read_failure<D: Display + Drop>(alloc: Global, name: &str, reason: D) -> RunEnd {
-    let note = unread_note(alloc, name, reason).map(Some);
+    let note = unread_note(alloc, name.as_bytes(), None, reason).map(Some);
     RunEnd::stop_with_note(Status::ReadFault, note)
 }
 
-// The name of a file as a terminal may show it, and why it can't be read.
-fn unread_note<D: Display + Drop>(
+/// The name of a file as a terminal may show it, with the number of its line where it is one line
+/// of the file that can't be read, and why it can't be read.
+pub(crate) fn unread_note<D: Display + Drop>(
     alloc: Global,
-    name: &str,
+    name: &[u8],
+    line: Option<u64>,
     reason: D,
 ) -> Result<String, AllocError> {
     let mut note = String::new(alloc);
-    push_shown(&mut note, name.as_bytes())?;
-    let reason = format!(in alloc; ": {reason}\n")?;
+    push_shown(&mut note, name)?;
+    let reason = match line {
+        Some(line) => format!(in alloc; ":{line}: {reason}\n")?,
+        None => format!(in alloc; ": {reason}\n")?,
+    };
     note.push_str(reason.as_str())?;
     Ok(note)
 }
