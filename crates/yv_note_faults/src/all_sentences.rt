@@ -4,7 +4,7 @@ ghost use Rattle.yv_note_faults.specs.{Line.{IsSentence, cleared_line}, Sentence
 ghost use Rattle.yv_note_text.specs.Clear.{is_clear};
 
 use crate::advice::advice;
-use crate::clear::{first, push_line};
+use crate::clear::push_line;
 use crate::front::front;
 use itoa::Buffer;
 use serde_json::Value;
@@ -37,16 +37,20 @@ pub fn sentences(
     ensures short { IfOk result (λ text. length (string_bytes text) < 30000) }
 {
     let mut text = String::new(alloc);
-    push_sentences(
-        alloc,
-        &mut text,
-        schema,
-        document,
-        job,
-        first(faults, MOST_EXPLAINED),
-    )?;
+    push_sentences(alloc, &mut text, schema, document, job, first(faults))?;
     push_more(alloc, &mut text, faults.len())?;
     Ok(text)
+}
+
+// The faults that are explained.
+fn first(faults: &[Fault]) -> &[Fault]
+    ensures { result.now ≡ take 20 faults.now }
+{
+    if faults.len() <= MOST_EXPLAINED {
+        faults
+    } else {
+        &faults[..MOST_EXPLAINED]
+    }
 }
 
 // Adds a sentence on each fault.

@@ -20,14 +20,14 @@ fn push_bytes(text: &mut String, bytes: &[u8]) -> Result<(), AllocError>
     Ok(())
 }
 
-/// The first items of a list, at most so many.
-pub(crate) fn first<T>(items: &[T], most: usize) -> &[T]
-    ensures { result.now ≡ take most items.now }
+// The first bytes of a text.
+fn front(bytes: &[u8]) -> &[u8]
+    ensures { result.now ≡ take 1400 bytes.now }
 {
-    if items.len() <= most {
-        items
+    if bytes.len() <= MOST_BYTES {
+        bytes
     } else {
-        &items[..most]
+        &bytes[..MOST_BYTES]
     }
 }
 
@@ -35,7 +35,7 @@ pub(crate) fn first<T>(items: &[T], most: usize) -> &[T]
 pub(crate) fn push_line(text: &mut String, line: &str) -> Result<(), AllocError>
     ensures { OnOk result (string_bytes text.new ≡ string_bytes text.old ++ cleared_line line.now) }
 {
-    push_bytes(text, first(line.as_bytes(), MOST_BYTES))?;
+    push_bytes(text, front(line.as_bytes()))?;
     text.push_str("\n")?;
     Ok(())
 }
