@@ -4,8 +4,8 @@
 mod answer;
 mod document;
 mod findings;
-mod note_labels;
 mod lines;
+mod note_labels;
 mod notes;
 mod output;
 mod reply;

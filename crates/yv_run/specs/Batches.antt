@@ -66,7 +66,7 @@ pub data RunsAll (task : Task) (files : List File) (run : RunEnd) (is_over : Boo
   refused : (r : Refusal) → FilesCompile task.choice task.limit files (RefusedAt r)
       → Writes (refusal_printed files r) run.status old new
       → IfOk run.note
-          (λ note. IsSomeAnd (option_map string_bytes note) (TellsRefusal files r))
+      (λ note. IsSomeAnd (option_map string_bytes note) (TellsRefusal files r))
       → RunsAll task files run is_over unread rest old new
   answered : (s : Rows) → FilesCompile task.choice task.limit files (HasSchema s)
       → AnswersAll task.kind s run.status is_over unread rest old new → run.note ≡ Ok None
