@@ -1,0 +1,4 @@
+pub mod ByteLemmas
+pub mod ColumnLemmas
+pub mod PieceLemmas
+pub mod PointerLemmas

@@ -1,0 +1,11 @@
+use Rattle.std.proofs.Common.{take}
+use Rattle.json.specs.Print.{escape as json_escape}
+use Rattle.yv_base_streams.specs.Stream.{has_failed, stream_failures, stream_inner}
+use Rattle.yv_base_streams.specs.Pages.{Adds, output_of}
+use Rattle.yv_data_faults.specs.Line.{escape}
+use Rattle.yv_json_lines.proofs.path.put_escaped.Given as goal
+
+abbrev pub invariant-loop-byte : goal.invariant-loop-byte
+invariant-loop-byte g l =
+    Adds (json_escape (escape (take l.byte-index l.name))) (output_of (g.W.Write.contents (stream_inner l.initial.writer)) (has_failed l.initial.writer) (stream_failures l.initial.writer) l.initial.page)
+    (output_of (g.W.Write.contents (stream_inner l.writer)) (has_failed l.writer) (stream_failures l.writer) l.page)

@@ -1,0 +1,35 @@
+-- Only private clauses cite this: pieces of lines, each a text with the comma before it.
+use Rattle.std.specs.Prelude.{ℕ, ◌==◌, List, [], ◌++◌, codes, decimal, if◌then◌else◌}
+use Rattle.std.specs.declared.option.Option.{Option}
+use Rattle.std.specs.declared.option.Option.TheVariants.{None, Some}
+use Rattle.json.specs.Print.{quoted}
+use Rattle.yv_data_faults.specs.Flaw.{Flaw}
+use Rattle.yv_data_faults.specs.Line.{kind_name, path_text}
+use Rattle.yv_json_lines.specs.Pointer.{pointer_text}
+use Rattle.yv_json_lines.specs.declared.document.DocumentVerdict.{DocumentVerdict}
+use Rattle.yv_json_lines.specs.declared.document.DocumentVerdict.TheVariants as verdict
+
+abbrev pub line_piece : Option ℕ → List ℕ
+line_piece None = []
+line_piece (Some n) = codes ",\"line\":" ++ decimal n
+
+abbrev pub position_piece : (line column offset : ℕ) → List ℕ
+position_piece line column offset =
+    codes ",\"line\":" ++ (decimal line ++ (codes ",\"column\":" ++ (decimal column
+    ++ (codes ",\"offset\":" ++ decimal offset))))
+
+abbrev pub faults_piece : DocumentVerdict → List ℕ
+faults_piece (verdict.Validated count) = codes ",\"faults\":" ++ decimal count
+faults_piece verdict.TooLarge = []
+faults_piece verdict.NotJson = []
+faults_piece verdict.CannotRead = []
+faults_piece verdict.OutOfMemory = []
+
+abbrev pub flaw_piece : Flaw → List ℕ
+flaw_piece f =
+    codes ",\"kind\":" ++ (quoted (kind_name f.kind) ++ (codes ",\"path\":"
+    ++ (quoted (path_text f.path)
+    ++ (codes ",\"pointer\":" ++ quoted (pointer_text f.kind f.path)))))
+
+abbrev pub unique_piece : ℕ → List ℕ
+unique_piece n = if n == 0 then [] else codes ",\"unique\":" ++ decimal n

@@ -1,0 +1,4 @@
+pub mod Column
+pub mod Pointer
+pub mod Values
+pub mod InnerPieces

@@ -1,0 +1,20 @@
+//! Results as lines of JSON, one object on each, written through a page of fixed size.
+#![tactic(auto)]
+
+mod column;
+mod document;
+mod fault;
+mod path;
+mod pointer;
+mod refusal;
+mod strings;
+mod totals;
+
+pub use column::column_of;
+pub use document::{DocumentVerdict, put_document_line};
+pub use fault::put_fault_line;
+pub use path::put_path;
+pub use pointer::put_pointer;
+pub use refusal::{Position, put_refusal_line};
+pub use strings::put_quoted;
+pub use totals::{put_count_line, put_run_line};
