@@ -1,4 +1,5 @@
 pub mod ByteLemmas
 pub mod ColumnLemmas
+pub mod OneLineLemmas
 pub mod PieceLemmas
 pub mod PointerLemmas

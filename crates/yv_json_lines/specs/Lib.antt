@@ -1,4 +1,5 @@
 pub mod Column
 pub mod Pointer
 pub mod Values
+pub mod OneLine
 pub mod InnerPieces

@@ -4,6 +4,7 @@
 mod column;
 mod document;
 mod fault;
+pub mod laws;
 mod path;
 mod pointer;
 mod refusal;
