@@ -5,7 +5,7 @@ use Rattle.yv_data_leafrefs.specs.Place.{Place}
 use Rattle.yv_data_faults.specs.declared.fault.FaultKind.{FaultKind}
 use Rattle.yv_data_faults.specs.declared.fault.FaultKind.TheVariants.{Unknown, Shape, Value, MissingKey, Duplicate, Unique, Mandatory, Min, Max, Choice, Reference, State}
 
--- a byte of a member's name: `~0` for `~`, and `~1` for `/` (section 3)
+-- a byte of a member's name: `~0` for `~`, and `~1` for `/`
 abbrev pub pointer_byte : ℕ → List ℕ
 pointer_byte b = if b == 126 then codes "~0" else if b == 47 then codes "~1" else b ∷ []
 
@@ -13,7 +13,7 @@ pointer_byte b = if b == 126 then codes "~0" else if b == 47 then codes "~1" els
 abbrev pub pointer_name : List ℕ → List ℕ
 pointer_name name = flat_map pointer_byte name
 
--- the place of an entry or an item in its array, from 0 (section 4); its number is from 1
+-- the place of an entry or an item in its array, from 0; its number is from 1
 abbrev pub index_text : Option ℕ → List ℕ
 index_text None = []
 index_text (Some n) = codes "/" ++ decimal (n - 1)
