@@ -3,7 +3,7 @@ ghost use Rattle.std.specs.Prelude.{◌≡◌, length};
 ghost use Rattle.yv_run.specs.Status.{exit_of};
 ghost use Rattle.yv_job.specs.{Jobs.{HasFiles, HasLimit}, Requests.{IsLimited}};
 
-use crate::documents::SystemStore;
+use crate::documents::{SourceReader, SystemStore};
 use crate::notes::{ErrorNotes, NotedDocuments, note_count};
 use crate::plan::{Batch, Plan, plan_of};
 use crate::search::find_files;
@@ -11,16 +11,16 @@ use crate::stop::{Stop, read_failure};
 use std::alloc::{AllocError, Global};
 use std::cell::Cell;
 use std::fs::File;
-use std::io::{ErrorKind, Read};
+use std::io::{Error, ErrorKind, Read};
 use std::mem::ManuallyDrop;
 use std::rt::{Env, Files};
 use std::{env, io};
 use yv_base_streams::{Counted, Input};
-use yv_batch::Sources;
+use yv_batch::{Documents, Sources};
 use yv_folders::ErrorReader;
 use yv_job::{Command, Job, JobFault, Request, read_request};
 use yv_note_text::push_shown;
-use yv_run::{RunEnd, Status, run_all, run_with_note};
+use yv_run::{NoteSink, RunEnd, Status, run_all, run_with_note};
 
 /// Does what the process's arguments ask for, and answers its exit status.
 pub fn program<R: Env + Files + io::Input + Print + Eprint + AllocGlobal + Clone + Drop>(
@@ -125,7 +125,7 @@ fn do_request<R: Files + io::Input + Print + Eprint + AllocGlobal + Clone + Drop
     let files = files.as_slice();
     match plan_of(rt.alloc(), request, files) {
         Ok(Plan::Run(job)) => end_run(rt, run_files(rt, &job, files)),
-        Ok(Plan::RunAll(job, batch)) => end_batch(rt, run_batch(rt, &job, batch, files)),
+        Ok(Plan::RunAll(job, batch)) => run_batch(rt, &job, batch, files),
         Ok(Plan::Print(text)) => print_text(rt, text.as_str()),
         Err(_) => print_stop(rt, Status::NoMemory),
     }
@@ -206,34 +206,55 @@ fn run_over<R: Print + AllocGlobal, D: Read + Drop>(
     }
 }
 
+// The documents of the sources, with notes on those that can't be read. Errors are noted here, and
+// so many notes are left.
+fn documents_of<'a, R: Files + io::Input + Eprint>(
+    rt: &'a R,
+    batch: Batch,
+    failure: &'a Cell<Option<Error>>,
+    left: &'a Cell<u32>,
+) -> NotedDocuments<
+    'a,
+    Sources<SourceReader<'a, R::Reader, R::File>, SystemStore<'a, R>, SystemStore<'a, R>>,
+    ErrorNotes<'a, R>,
+> {
+    let Batch { kind, sources } = batch;
+    let (opener, files) = (SystemStore::new(rt, failure), SystemStore::new(rt, failure));
+    let sources = Sources::new(kind, sources, opener, files);
+    NotedDocuments::new(sources, ErrorNotes::new(rt, left), failure)
+}
+
 // Compiles the files of the job, and checks the documents of the sources, each of which is opened
-// when its turn comes.
+// when its turn comes. Answers the exit status.
 fn run_batch<R: Files + io::Input + Print + Eprint + AllocGlobal>(
     rt: &R,
     job: &Job,
     batch: Batch,
     inputs: &[Input],
-) -> RunEnd
+) -> u8
     requires files { HasFiles job.now }
     requires limit { HasLimit job.now }
     requires each { length inputs.now ≡ length job.now.files.items }
 {
-    let Batch { kind, sources } = batch;
     let (failure, left) = (Cell::new(None), note_count());
-    let (opener, files) = (
-        SystemStore::new(rt, &failure),
-        SystemStore::new(rt, &failure),
-    );
-    let sources = Sources::new(kind, sources, opener, files);
-    let mut documents = NotedDocuments::new(sources, ErrorNotes::new(rt, &left), &failure);
+    let mut documents = documents_of(rt, batch, &failure, &left);
     let mut notes = ErrorNotes::new(rt, &left);
+    answer_documents(rt, job, inputs, &mut documents, &mut notes)
+}
+
+// Compiles the files of the job, and answers all documents. Answers the exit status.
+fn answer_documents<R: Print + Eprint + AllocGlobal, D: Documents, N: NoteSink>(
+    rt: &R,
+    job: &Job,
+    inputs: &[Input],
+    documents: &mut D,
+    notes: &mut N,
+) -> u8
+    requires files { HasFiles job.now }
+    requires limit { HasLimit job.now }
+    requires each { length inputs.now ≡ length job.now.files.items }
+{
     let mut writer = Counted::new(io::writer(rt));
-    run_all(
-        rt.alloc(),
-        job,
-        inputs,
-        &mut documents,
-        &mut notes,
-        &mut writer,
-    )
+    let ended = run_all(rt.alloc(), job, inputs, documents, notes, &mut writer);
+    end_batch(rt, ended)
 }
