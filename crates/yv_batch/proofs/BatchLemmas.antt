@@ -10,7 +10,7 @@ use Rattle.std.proofs.lemmas.List.{append-nil}
 use Rattle.std.proofs.lemmas.List.Sums.{count_by-le-length, sum_by-append}
 use Rattle.yv_batch.specs.AskedDocument.{AskedDocument, asked_of}
 use Rattle.yv_batch.specs.Answers.{Answers, all, last}
-use Rattle.yv_batch.specs.Batch.{IsTally, batch_level, document_text, documents_text, total_line, total_text, valid_count}
+use Rattle.yv_batch.specs.Batch.{IsTally, batch_level, documents_text, total_text, valid_count}
 use Rattle.yv_batch.specs.Supply.{AreAll, IsLost, IsSplit, LosesOne, Split, Takes, is_end}
 use Rattle.yv_batch.specs.InnerBatch.{IsAnswer, IsAnswered, IsSeen, BeginsAnswer, without_room}
 use Rattle.yv_batch.specs.Level.{level_number}
@@ -111,30 +111,30 @@ valid_within level asked t h = omega (arith, h.count, h.valid, count_by-le-lengt
 -- ---- the loop
 
 -- the start
-pub none_yet : (lines : AskedDocument → List (List ℕ)) (level : AskedDocument → ℕ) (has_failed : Bool) (t : Tally) (unread : Option (List AskedDocument)) (old : Option (List ℕ)) → has_failed ≡ false → t.count ≡ 0 → t.valid ≡ 0 → level_number t.level ≡ 0
-    → IsAnswered lines level has_failed t unread unread old old
-none_yet lines level has_failed t unread old works count valid worst =
+pub none_yet : (text : AskedDocument → List ℕ) (level : AskedDocument → ℕ) (has_failed : Bool) (t : Tally) (unread : Option (List AskedDocument)) (old : Option (List ℕ)) → has_failed ≡ false → t.count ≡ 0 → t.valid ≡ 0 → level_number t.level ≡ 0
+    → IsAnswered text level has_failed t unread unread old old
+none_yet text level has_failed t unread old works count valid worst =
     record { asked = []; works = works; split = split_none unread; written = Appends-nil old; counts = record { count = count; valid = valid; worst = worst } }
 
 -- one more was answered
-pub answered_next : (lines : AskedDocument → List (List ℕ)) (level : AskedDocument → ℕ) (had has : Bool) (t next : Tally) (unread mid rest : Option (List AskedDocument)) (start old new : Option (List ℕ)) (a : AskedDocument) (l : Level)
-    → IsAnswered lines level had t unread mid start old → Takes mid rest (Some a) → IsAnswer lines level a old new l → has ≡ false → next.count ≡ t.count + 1 → next.valid ≡ t.valid + valid_one (level_number l)
-    → level_number next.level ≡ max (level_number t.level) (level_number l) → IsAnswered lines level has next unread rest start new
-answered_next lines level had has t next unread mid rest start old new a l h takes answer works count valid worst = record {
+pub answered_next : (text : AskedDocument → List ℕ) (level : AskedDocument → ℕ) (had has : Bool) (t next : Tally) (unread mid rest : Option (List AskedDocument)) (start old new : Option (List ℕ)) (a : AskedDocument) (l : Level)
+    → IsAnswered text level had t unread mid start old → Takes mid rest (Some a) → IsAnswer text level a old new l → has ≡ false → next.count ≡ t.count + 1 → next.valid ≡ t.valid + valid_one (level_number l)
+    → level_number next.level ≡ max (level_number t.level) (level_number l) → IsAnswered text level has next unread rest start new
+answered_next text level had has t next unread mid rest start old new a l h takes answer works count valid worst = record {
   asked = h.asked ++ answer.seen ∷ [];
   works = works;
   split = split_seen unread mid rest h.asked a answer.seen h.split takes answer.is;
-  written = written_next (document_text lines) start old new h.asked answer.seen h.written answer.written;
+  written = written_next text start old new h.asked answer.seen h.written answer.written;
   counts = tally_next level h.asked answer.seen (level_number l) t next h.counts answer.good count valid worst;
 }
 
 -- by another answer that says the same
-pub answer_as : (lines other : AskedDocument → List (List ℕ)) (level grade : AskedDocument → ℕ) (a : AskedDocument) (old new : Option (List ℕ)) (l : Level) → other ≡ lines → grade ≡ level → IsAnswer other grade a old new l → IsAnswer lines level a old new l
-answer_as lines other level grade a old new l e f h =
-    subst (λ (v : AskedDocument → ℕ). IsAnswer lines v a old new l) f (subst (λ (t : AskedDocument → List (List ℕ)). IsAnswer t grade a old new l) e h)
+pub answer_as : (text other : AskedDocument → List ℕ) (level grade : AskedDocument → ℕ) (a : AskedDocument) (old new : Option (List ℕ)) (l : Level) → other ≡ text → grade ≡ level → IsAnswer other grade a old new l → IsAnswer text level a old new l
+answer_as text other level grade a old new l e f h =
+    subst (λ (v : AskedDocument → ℕ). IsAnswer text v a old new l) f (subst (λ (t : AskedDocument → List ℕ). IsAnswer t grade a old new l) e h)
 
-pub begins_as : (lines other : AskedDocument → List (List ℕ)) (a : AskedDocument) (old new : Option (List ℕ)) → other ≡ lines → BeginsAnswer other a old new → BeginsAnswer lines a old new
-begins_as lines other a old new e h = subst (λ (t : AskedDocument → List (List ℕ)). BeginsAnswer t a old new) e h
+pub begins_as : (text other : AskedDocument → List ℕ) (a : AskedDocument) (old new : Option (List ℕ)) → other ≡ text → BeginsAnswer other a old new → BeginsAnswer text a old new
+begins_as text other a old new e h = subst (λ (t : AskedDocument → List ℕ). BeginsAnswer t a old new) e h
 
 -- ---- what was fetched
 
@@ -156,19 +156,23 @@ over_of is_over o e h = h ∙ ap is_end e
 pub takes_named : (mid rest : Option (List AskedDocument)) (name other : List ℕ) (o : Option Fetched) (d : Fetched) → o ≡ Some d → other ≡ name → Takes mid rest (option_map (asked_of name) o) → Takes mid rest (Some (asked_of other d))
 takes_named mid rest name other o d e same t = subst (λ (n : List ℕ). Takes mid rest (Some (asked_of n d))) (sym same) (takes_one mid rest name o d e t)
 
--- ---- the last line
+-- ---- what follows them
 
-same_total : (level : AskedDocument → ℕ) (asked : List AskedDocument) (t : Tally) → IsTally level asked t → total_line t.valid t.count ≡ total_text level asked
-same_total level asked t h = ap (λ (n : ℕ). total_line n t.count) h.valid ∙ ap (λ (n : ℕ). total_line (valid_count level asked) n) h.count
+same_total : (total : (valid count : ℕ) → List ℕ) (level : AskedDocument → ℕ) (asked : List AskedDocument) (t : Tally) → IsTally level asked t → total t.valid t.count ≡ total_text total level asked
+same_total total level asked t h = ap (λ (n : ℕ). total n t.count) h.valid ∙ ap (λ (n : ℕ). total (valid_count level asked) n) h.count
+
+-- what is written at the end, by an answer that writes the same there
+total_as : (total other : (valid count : ℕ) → List ℕ) (level : AskedDocument → ℕ) (asked : List AskedDocument) (t : Tally) → other ≡ total → IsTally level asked t → other t.valid t.count ≡ total_text total level asked
+total_as total other level asked t same h = ap (λ (f : (valid count : ℕ) → List ℕ). f t.valid t.count) same ∙ same_total total level asked t h
 
 -- all were answered, and it was written
-pub with_total : (lines : AskedDocument → List (List ℕ)) (level : AskedDocument → ℕ) (unread rest : Option (List AskedDocument)) (old mid new : Option (List ℕ)) (asked : List AskedDocument) (t : Tally) → AreAll unread asked → Appends old mid (documents_text lines asked)
-    → IsTally level asked t → Appends mid new (total_line t.valid t.count) → Answers lines level (ended.All t) unread rest old new
-with_total lines level unread rest old mid new asked t are written counts total =
-    all asked t are (Appends-trans old mid new (documents_text lines asked) (total_text level asked) written (subst (λ (l : List ℕ). Appends mid new l) (same_total level asked t counts) total)) counts refl
+pub with_total : (text : AskedDocument → List ℕ) (total other : (valid count : ℕ) → List ℕ) (level : AskedDocument → ℕ) (unread rest : Option (List AskedDocument)) (old mid new : Option (List ℕ)) (asked : List AskedDocument) (t : Tally) → other ≡ total → AreAll unread asked
+    → Appends old mid (documents_text text asked) → IsTally level asked t → Appends mid new (other t.valid t.count) → Answers text total level (ended.All t) unread rest old new
+with_total text total other level unread rest old mid new asked t same are written counts more =
+    all asked t are (Appends-trans old mid new (documents_text text asked) (total_text total level asked) written (subst (λ (l : List ℕ). Appends mid new l) (total_as total other level asked t same counts) more)) counts refl
 
 -- all were answered, and its first bytes were written
-pub with_front : (lines : AskedDocument → List (List ℕ)) (level : AskedDocument → ℕ) (unread rest : Option (List AskedDocument)) (old mid new : Option (List ℕ)) (asked : List AskedDocument) (t : Tally) (n : ℕ) → AreAll unread asked → Appends old mid (documents_text lines asked)
-    → IsTally level asked t → Appends mid new (take n (total_line t.valid t.count)) → Answers lines level ended.WriteFault unread rest old new
-with_front lines level unread rest old mid new asked t n are written counts total =
-    last asked n are (Appends-trans old mid new (documents_text lines asked) (take n (total_text level asked)) written (subst (λ (l : List ℕ). Appends mid new (take n l)) (same_total level asked t counts) total)) refl
+pub with_front : (text : AskedDocument → List ℕ) (total other : (valid count : ℕ) → List ℕ) (level : AskedDocument → ℕ) (unread rest : Option (List AskedDocument)) (old mid new : Option (List ℕ)) (asked : List AskedDocument) (t : Tally) (n : ℕ) → other ≡ total → AreAll unread asked
+    → Appends old mid (documents_text text asked) → IsTally level asked t → Appends mid new (take n (other t.valid t.count)) → Answers text total level ended.WriteFault unread rest old new
+with_front text total other level unread rest old mid new asked t n same are written counts more =
+    last asked n are (Appends-trans old mid new (documents_text text asked) (take n (total_text total level asked)) written (subst (λ (l : List ℕ). Appends mid new (take n l)) (total_as total other level asked t same counts) more)) refl

@@ -2,35 +2,31 @@
 use Rattle.std.specs.Prelude.{◌≡◌, ℕ, ◌==◌, max, List, [], ◌∷◌, ◌++◌, length, codes, decimal, flat_map}
 use Rattle.std.specs.List.{count_by}
 use Rattle.yv_batch.specs.AskedDocument.{AskedDocument}
-use Rattle.yv_batch.specs.Label.{label_line, label_text}
 use Rattle.yv_batch.specs.Level.{level_number}
 use Rattle.yv_batch.specs.declared.batch.Tally.{Tally}
 
--- the lines of a document, each with its label
-abbrev pub document_text : (lines : AskedDocument → List (List ℕ)) → AskedDocument → List ℕ
-document_text lines a = flat_map (label_line (label_text a)) (lines a)
-
--- those of documents, one after the other
-abbrev pub documents_text : (lines : AskedDocument → List (List ℕ)) → List AskedDocument → List ℕ
-documents_text lines asked = flat_map (document_text lines) asked
+-- what is written of documents, one after the other
+abbrev pub documents_text : (text : AskedDocument → List ℕ) → List AskedDocument → List ℕ
+documents_text text asked = flat_map text asked
 
 -- how many documents are valid
 abbrev pub valid_count : (level : AskedDocument → ℕ) → List AskedDocument → ℕ
 valid_count level asked = count_by (λ a. level a == 0) asked
 
--- the last line, which says how many of the documents are valid
+-- the last line of an answer in text, which says how many of the documents are valid
 abbrev pub total_line : (valid count : ℕ) → List ℕ
 total_line valid count =
     codes "valid: " ++ (decimal valid ++ (codes " of " ++ (decimal count ++ 10 ∷ [])))
 
--- the last line after these documents
-abbrev pub total_text : (level : AskedDocument → ℕ) → List AskedDocument → List ℕ
-total_text level asked = total_line (valid_count level asked) (length asked)
-
--- all that is written of documents
-abbrev pub batch_text : (lines : AskedDocument → List (List ℕ)) → (level : AskedDocument → ℕ)
+-- what is written after these documents
+abbrev pub total_text : (total : (valid count : ℕ) → List ℕ) → (level : AskedDocument → ℕ)
     → List AskedDocument → List ℕ
-batch_text lines level asked = documents_text lines asked ++ total_text level asked
+total_text total level asked = total (valid_count level asked) (length asked)
+
+-- all that is written of documents and after them
+abbrev pub batch_text : (text : AskedDocument → List ℕ) → (total : (valid count : ℕ) → List ℕ)
+    → (level : AskedDocument → ℕ) → List AskedDocument → List ℕ
+batch_text text total level asked = documents_text text asked ++ total_text total level asked
 
 -- the greatest of their levels, 0 for none
 abbrev pub batch_level : (level : AskedDocument → ℕ) → List AskedDocument → ℕ

@@ -1,5 +1,5 @@
 -- The label of a document: its name, and the number of its line.
-use Rattle.std.specs.Prelude.{ℕ, ◌≤◌, ◌<◌, ◌^◌, List, [], ◌∷◌, ◌++◌, codes, decimal, IfSome}
+use Rattle.std.specs.Prelude.{ℕ, ◌≤◌, ◌<◌, ◌^◌, List, [], ◌∷◌, ◌++◌, codes, decimal, flat_map, IfSome}
 use Rattle.std.specs.List.{All}
 use Rattle.std.specs.declared.option.Option.{Option}
 use Rattle.std.specs.declared.option.Option.TheVariants.{None, Some}
@@ -22,6 +22,10 @@ label_text a = label_of a.name a.line
 -- a line of a document of this label
 abbrev pub label_line : (label : List ℕ) → (line : List ℕ) → List ℕ
 label_line label line = label ++ (codes ": " ++ (line ++ 10 ∷ []))
+
+-- lines of a document, each with its label
+abbrev pub labelled_text : (lines : AskedDocument → List (List ℕ)) → AskedDocument → List ℕ
+labelled_text lines a = flat_map (label_line (label_text a)) (lines a)
 
 -- a visible ASCII character
 abbrev pub IsVisible : ℕ → Type 0

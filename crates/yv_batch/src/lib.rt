@@ -11,7 +11,7 @@ mod names;
 mod pieces;
 mod sources;
 
-pub use batch::{Answer, BatchEnd, Tally, answer_all};
+pub use batch::{Answer, BatchEnd, Tally, answer_all, put_total_line};
 pub use documents::{Content, Documents, Fetched};
 pub use label::{put_escaped, put_label, put_label_line};
 pub use level::Level;

@@ -1,6 +1,9 @@
 pub mod Lines
 pub mod Document
+pub mod Steps
 pub mod DocumentLines
+pub mod DocumentResults
+pub mod AskedText
 pub mod Notes
-pub mod AnswerLines
+pub mod AnswerText
 pub mod InnerReply

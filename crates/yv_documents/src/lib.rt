@@ -1,16 +1,21 @@
-//! Documents: what their bytes are, and the lines that are written of them.
+//! Documents: what their bytes are, and what is written of them.
 #![tactic(auto)]
 
 mod answer;
+mod costs;
 mod document;
 mod findings;
+mod json_reply;
 mod lines;
+mod measured_validator;
 mod note_labels;
 mod notes;
 mod output;
 mod reply;
+mod text_reply;
 
 pub use answer::DocumentAnswer;
+pub use costs::{cost_of, steps_text};
 pub use document::{Document, read_document};
 pub use lines::write_faults;
 pub use notes::{NoteSink, document_note};

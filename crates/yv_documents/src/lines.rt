@@ -34,13 +34,13 @@ pub fn write_faults<W: Write>(writer: &mut Counted<W>, faults: &[Fault]) -> bool
 {
     let mut page = Page::new();
     put_lines(&mut page, writer, faults);
-    put_count(&mut page, writer, faults.len());
+    put_count(&mut page, writer, faults.len() as u64);
     page.turn(writer);
     !writer.has_failed()
 }
 
 /// The line of how many faults there are.
-pub(crate) fn put_count<W: Write>(page: &mut Page, writer: &mut Counted<W>, count: usize)
+pub(crate) fn put_count<W: Write>(page: &mut Page, writer: &mut Counted<W>, count: u64)
     ensures { Adds (ended_line (codes "faults: " ++ decimal count))
         (paged_output W.contents writer.old page.old)
         (paged_output W.contents writer.new page.new) }

@@ -8,10 +8,11 @@ use Rattle.yv_batch.proofs.batch.answer_all.Goals as goal
 
 pub loop-tally-init : goal.loop-tally-init
 loop-tally-init g c = record {
-  answered = none_yet (g.A.Answer.lines c.args.answer.now) (g.A.Answer.level c.args.answer.now) (has_failed c.args.writer.now) c.new-tally.result (g.D.Documents.left c.args.documents.now) (g.W.Write.contents (stream_inner c.args.writer.now)) c.requires
+  answered = none_yet (g.A.Answer.text c.args.answer.now) (g.A.Answer.level c.args.answer.now) (has_failed c.args.writer.now) c.new-tally.result (g.D.Documents.left c.args.documents.now) (g.W.Write.contents (stream_inner c.args.writer.now)) c.requires
       c.new-tally.ensures.count c.new-tally.ensures.valid c.new-tally.ensures.level;
   few = omega (arith, c.new-tally.ensures.count);
-  same_lines = refl;
+  same_text = refl;
+  same_total = refl;
   same_levels = refl;
 }
 
@@ -26,9 +27,9 @@ returns-then-write_total-clause-answers g c =
     let h = c.loop-tally.invariant.answered in
     let all = split_end (g.D.Documents.left c.args.documents.now) (g.D.Documents.left c.loop-tally.documents) (g.D.Documents.left c.next.new.self) h.asked h.split
     (takes_none (g.D.Documents.left c.loop-tally.documents) (g.D.Documents.left c.next.new.self) (g.D.Documents.last_name c.next.new.self) c.next.result (none_of c.next.result (λ d e. c.in_default.not-Some d e)) c.next.ensures.fetches) in
-    with_total (g.A.Answer.lines c.args.answer.now) (g.A.Answer.level c.args.answer.now) (g.D.Documents.left c.args.documents.now) (g.D.Documents.left c.next.new.self)
+    with_total (g.A.Answer.text c.args.answer.now) (g.A.Answer.total c.args.answer.now) (g.A.Answer.total c.loop-tally.answer) (g.A.Answer.level c.args.answer.now) (g.D.Documents.left c.args.documents.now) (g.D.Documents.left c.next.new.self)
     (g.W.Write.contents (stream_inner c.args.writer.now)) (g.W.Write.contents (stream_inner c.loop-tally.writer)) (g.W.Write.contents (stream_inner c.write_total.new.writer))
-    h.asked c.loop-tally.tally all h.written h.counts (c.write_total.ensures.ends c.if-write_total.true)
+    h.asked c.loop-tally.tally c.loop-tally.invariant.same_total all h.written h.counts (c.write_total.ensures.ends c.if-write_total.true)
 
 pub returns-then-write_total-clause-over : goal.returns-then-write_total-clause-over
 returns-then-write_total-clause-over g c = λ t e. over_of (g.D.Documents.is_over c.next.new.self) c.next.result (none_of c.next.result (λ d f. c.in_default.not-Some d f)) c.next.ensures.over
@@ -39,19 +40,19 @@ returns-else-write_total-clause-answers g c =
     let all = split_end (g.D.Documents.left c.args.documents.now) (g.D.Documents.left c.loop-tally.documents) (g.D.Documents.left c.next.new.self) h.asked h.split
     (takes_none (g.D.Documents.left c.loop-tally.documents) (g.D.Documents.left c.next.new.self) (g.D.Documents.last_name c.next.new.self) c.next.result (none_of c.next.result (λ d e. c.in_default.not-Some d e)) c.next.ensures.fetches) in
     let part = c.write_total.ensures.part in
-    with_front (g.A.Answer.lines c.args.answer.now) (g.A.Answer.level c.args.answer.now) (g.D.Documents.left c.args.documents.now) (g.D.Documents.left c.next.new.self)
+    with_front (g.A.Answer.text c.args.answer.now) (g.A.Answer.total c.args.answer.now) (g.A.Answer.total c.loop-tally.answer) (g.A.Answer.level c.args.answer.now) (g.D.Documents.left c.args.documents.now) (g.D.Documents.left c.next.new.self)
     (g.W.Write.contents (stream_inner c.args.writer.now)) (g.W.Write.contents (stream_inner c.loop-tally.writer)) (g.W.Write.contents (stream_inner c.write_total.new.writer))
-    h.asked c.loop-tally.tally part.0 all h.written h.counts part.1
+    h.asked c.loop-tally.tally part.0 c.loop-tally.invariant.same_total all h.written h.counts part.1
 
 pub returns-in-None-clause-answers : goal.returns-in-None-clause-answers
 returns-in-None-clause-answers g c =
     let h = c.loop-tally.invariant.answered in
-    let lines = g.A.Answer.lines c.args.answer.now in
+    let text = g.A.Answer.text c.args.answer.now in
     let one = asked_of c.name.result.now c.in-Some.document in
     let start = g.W.Write.contents (stream_inner c.args.writer.now) in
     let old = g.W.Write.contents (stream_inner c.loop-tally.writer) in
     let new = g.W.Write.contents (stream_inner c.answer_one.new.writer) in
-    let part = begins_as lines (g.A.Answer.lines c.loop-tally.answer) one old new c.loop-tally.invariant.same_lines c.answer_one.ensures.part in
+    let part = begins_as text (g.A.Answer.text c.loop-tally.answer) one old new c.loop-tally.invariant.same_text c.answer_one.ensures.part in
     front h.asked part.seen part.count
     (split_seen (g.D.Documents.left c.args.documents.now) (g.D.Documents.left c.loop-tally.documents) (g.D.Documents.left c.next.new.self) h.asked one part.seen h.split
     (takes_named (g.D.Documents.left c.loop-tally.documents) (g.D.Documents.left c.next.new.self) (g.D.Documents.last_name c.next.new.self) c.name.result.now c.next.result c.in-Some.document c.in-Some.is c.name.ensures c.next.ensures.fetches) part.is)
@@ -61,20 +62,21 @@ returns-in-None-clause-answers g c =
 pub loop-tally-preserved : goal.loop-tally-preserved
 loop-tally-preserved g c =
     let h = c.loop-tally.invariant.answered in
-    let lines = g.A.Answer.lines c.args.answer.now in
+    let text = g.A.Answer.text c.args.answer.now in
     let level = g.A.Answer.level c.args.answer.now in
     let one = asked_of c.name.result.now c.in-Some.document in
     let start = g.W.Write.contents (stream_inner c.args.writer.now) in
     let old = g.W.Write.contents (stream_inner c.loop-tally.writer) in
     let new = g.W.Write.contents (stream_inner c.answer_one.new.writer) in
     record {
-      answered = answered_next lines level (has_failed c.loop-tally.writer) (has_failed c.answer_one.new.writer) c.loop-tally.tally c.add.new.self
+      answered = answered_next text level (has_failed c.loop-tally.writer) (has_failed c.answer_one.new.writer) c.loop-tally.tally c.add.new.self
           (g.D.Documents.left c.args.documents.now) (g.D.Documents.left c.loop-tally.documents) (g.D.Documents.left c.next.new.self) start old new one c.in-Some-answer_one.level h
           (takes_named (g.D.Documents.left c.loop-tally.documents) (g.D.Documents.left c.next.new.self) (g.D.Documents.last_name c.next.new.self) c.name.result.now c.next.result c.in-Some.document c.in-Some.is c.name.ensures c.next.ensures.fetches)
-          (answer_as lines (g.A.Answer.lines c.loop-tally.answer) level (g.A.Answer.level c.loop-tally.answer) one old new c.in-Some-answer_one.level c.loop-tally.invariant.same_lines c.loop-tally.invariant.same_levels c.in-Some-answer_one.ensures.ends)
+          (answer_as text (g.A.Answer.text c.loop-tally.answer) level (g.A.Answer.level c.loop-tally.answer) one old new c.in-Some-answer_one.level c.loop-tally.invariant.same_text c.loop-tally.invariant.same_levels c.in-Some-answer_one.ensures.ends)
           (search rules) c.add.ensures.count c.add.ensures.valid c.add.ensures.level;
       few = omega (arith, c.add.ensures.count);
-      same_lines = c.answer_one.ensures.same_lines ∙ c.loop-tally.invariant.same_lines;
+      same_text = c.answer_one.ensures.same_text ∙ c.loop-tally.invariant.same_text;
+      same_total = c.answer_one.ensures.same_total ∙ c.loop-tally.invariant.same_total;
       same_levels = c.answer_one.ensures.same_levels ∙ c.loop-tally.invariant.same_levels;
     }
 
