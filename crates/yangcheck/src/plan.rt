@@ -126,6 +126,7 @@ pub(crate) fn plan_of(alloc: Global, request: Request, files: &[Input]) -> Resul
         selection,
         kind,
         each,
+        output,
         folders,
         files: named_files,
     } = request;
@@ -145,6 +146,7 @@ pub(crate) fn plan_of(alloc: Global, request: Request, files: &[Input]) -> Resul
         limit,
         selection,
         kind,
+        output,
         search,
     };
     Ok(plan_for(job, batch))
