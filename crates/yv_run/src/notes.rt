@@ -4,8 +4,8 @@ ghost use Rattle.std.specs.Prelude.{◌≡◌, IfOk, option_map, string_bytes};
 ghost use Rattle.yv_documents.specs.{Document.{document_view, document_text}, Notes.{NotesReading}};
 ghost use Rattle.yv_run.specs.{Output.{diagram_printed, printed_of}, PersonNotes.{NotesDiagram, faults_of}};
 
-use crate::modules::modules_note;
 use crate::checks::CheckResult;
+use crate::modules::modules_note;
 use crate::print::{Body, Output};
 use crate::status::Verdict;
 use std::alloc::{AllocError, Global};

@@ -152,11 +152,7 @@ fn measures_if(schema: &Schema, is_asked: bool) -> Option<Measures>
 }
 
 // So many nodes, and measures where there are some, as lines of text.
-fn count_lines(
-    alloc: Global,
-    nodes: u64,
-    measures: Option<Measures>,
-) -> Result<String, AllocError>
+fn count_lines(alloc: Global, nodes: u64, measures: Option<Measures>) -> Result<String, AllocError>
     ensures { IfOk result (λ text. string_bytes text ≡ count_text form.Text nodes measures) }
 {
     match measures {

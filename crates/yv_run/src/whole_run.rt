@@ -114,8 +114,8 @@ impl RunEnd {
 /// schema has, or the tree diagram of one of its modules, or, where the job is to check a document,
 /// what is wrong with what the reader gives, or that it is valid. A refusal and the number of nodes
 /// have the form that the job asks for; all else is text: `run_all` writes what is wrong with
-/// documents as JSON. After `WriteFault` the writer holds the front of what was to be written; after `NoMemory`, `PatternBuild` and `ReadFault` nothing was
-/// written.
+/// documents as JSON. After `WriteFault` the writer holds the front of what was to be written;
+/// after `NoMemory`, `PatternBuild` and `ReadFault` nothing was written.
 pub fn run<R: Read, W: Write>(
     alloc: Global,
     job: &Job,
