@@ -8,7 +8,7 @@ ghost use Rattle.yv_json_lines.specs.{InnerPieces.{flaw_piece, line_piece, uniqu
 use crate::document::put_document;
 use crate::path::put_path;
 use crate::pointer::put_pointer;
-use crate::strings::{put_number, put_quoted};
+use crate::strings::{put_member, put_quoted};
 use std::io::Write;
 use yv_base_streams::{Counted, Page};
 use yv_data_faults::Fault;
@@ -70,7 +70,6 @@ fn put_unique<W: Write>(page: &mut Page, writer: &mut Counted<W>, number: u32)
         (paged_output W.contents writer.new page.new) }
 {
     if number != 0 {
-        page.put(writer, b",\"unique\":");
-        put_number(page, writer, number as u64);
+        put_member(page, writer, b",\"unique\":", number as u64);
     }
 }

@@ -1,13 +1,15 @@
 //! Laws about the definitions only. These functions do nothing: the contract of each is the law.
 ghost use Rattle.std.specs.Prelude.{ℕ, List, Option};
+ghost use Rattle.yv_schema_tables.specs.declared.measures.Measures.{Measures};
 ghost use Rattle.yv_data_faults.specs.Flaw.{Flaw};
-ghost use Rattle.yv_json_lines.specs.{OneLine.{Fits, IsOneLine, LineFits, VerdictFits}, Values.{count_value, document_value, fault_value, json_line, refusal_value, run_value}, declared.document.DocumentVerdict.{DocumentVerdict}};
+ghost use Rattle.yv_json_lines.specs.{OneLine.{Fits, IsOneLine, LineFits, MeasuresFit, VerdictFits}, Values.{count_value, document_value, fault_value, json_line, refusal_value, run_value}, declared.document.DocumentVerdict.{DocumentVerdict}};
 
 /// No line has a line feed or a carriage return but the line feed at its end, so that the lines of
 /// an output are its results.
 pub fn json_lines_are_lines()
     // The line of compiled modules is one line.
-    ensures count { (nodes : ℕ) → Fits nodes → IsOneLine (json_line (count_value nodes)) }
+    ensures count { (nodes : ℕ) (measures : Option Measures) → Fits nodes → MeasuresFit measures
+        → IsOneLine (json_line (count_value nodes measures)) }
     // So is that of refused modules.
     ensures refusal { (file : List ℕ) (line column offset : ℕ) (code : List ℕ) → Fits line
         → Fits column → Fits offset

@@ -78,6 +78,20 @@ fn digit(value: u8) -> u8
     }
 }
 
+// Puts a member that has a number, with this text before the number.
+pub(crate) fn put_member<W: Write>(
+    page: &mut Page,
+    writer: &mut Counted<W>,
+    head: &[u8],
+    number: u64,
+)
+    ensures { Adds (head.now ++ decimal number) (paged_output W.contents writer.old page.old)
+        (paged_output W.contents writer.new page.new) }
+{
+    page.put(writer, head);
+    put_number(page, writer, number);
+}
+
 // Puts a number.
 pub(crate) fn put_number<W: Write>(page: &mut Page, writer: &mut Counted<W>, number: u64)
     ensures { Adds (decimal number) (paged_output W.contents writer.old page.old)
