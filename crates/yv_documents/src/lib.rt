@@ -2,6 +2,7 @@
 #![tactic(auto)]
 
 mod answer;
+mod checked;
 mod costs;
 mod document;
 mod findings;
@@ -15,6 +16,7 @@ mod reply;
 mod text_reply;
 
 pub use answer::DocumentAnswer;
+pub use checked::write_checked;
 pub use costs::{cost_of, steps_text};
 pub use document::{Document, read_document};
 pub use lines::write_faults;

@@ -16,6 +16,7 @@ use Rattle.yv_batch.specs.declared.batch.BatchEnd.TheVariants as batch
 use Rattle.yv_batch.specs.declared.batch.Tally.{Tally}
 use Rattle.yv_batch.specs.declared.level.Level.{Level}
 use Rattle.yv_batch.specs.declared.level.Level.TheVariants as level
+use Rattle.yv_documents.specs.Checked.{with_end}
 use Rattle.yv_documents.specs.Document.{DocumentText, TooLarge, NotJson, Reads, document_text}
 use Rattle.yv_json_lines.specs.declared.document.ValidationCost.{ValidationCost}
 use Rattle.yv_job.specs.declared.job.OutputOptions.{OutputOptions}
@@ -25,7 +26,7 @@ use Rattle.yv_documents.specs.Lines.{ended_line}
 use Rattle.yv_documents.specs.Steps.{cost_if, steps_line}
 use Rattle.yv_run.specs.Batches.{AnswersAll, IsAll, IsFound, RunsAll, StopsBefore, answered, refused}
 use Rattle.yv_run.specs.Compiles.{AreRefused}
-use Rattle.yv_run.specs.Output.{IsStopped, cost_end, data_printed, faults_printed, reading_printed, with_end}
+use Rattle.yv_run.specs.Output.{IsStopped, cost_end, data_printed, faults_printed, reading_printed}
 use Rattle.yv_run.specs.Status.{batch_status, level_status}
 use Rattle.yv_run.specs.declared.status.Status.{Status}
 use Rattle.yv_run.specs.declared.status.Status.TheVariants as ended

@@ -21,7 +21,8 @@ use Rattle.yv_validate.specs.Faults.{faults}
 use Rattle.yv_json_lines.specs.Column.{column}
 use Rattle.yv_json_lines.specs.Values.{count_value, json_line, refusal_value}
 use Rattle.yv_json_lines.specs.declared.document.ValidationCost.{ValidationCost}
-use Rattle.yv_documents.specs.Lines.{ended_line, faults_text}
+use Rattle.yv_documents.specs.Checked.{checked_text, with_end}
+use Rattle.yv_documents.specs.Lines.{ended_line}
 use Rattle.yv_documents.specs.Steps.{cost_if, steps_line}
 use Rattle.yv_run.specs.Compiles.{Compilation, RefusedAt, HasSchema, FilesCompile, GiveSchema}
 use Rattle.yv_documents.specs.Document.{DocumentText, TooLarge, NotJson, Reads, document_text}
@@ -69,20 +70,10 @@ abbrev pub refusal_text : OutputForm → List File → Refusal → List ℕ
 refusal_text form.Text files r = refusal_line files r
 refusal_text form.Json files r = json_line (refusal_object files r)
 
--- a text, and what comes after it, where there is something
-abbrev pub with_end : List ℕ → Option (List ℕ) → List ℕ
-with_end text None = text
-with_end text (Some end) = text ++ end
-
 -- the line of what a validation cost, where that is said
 abbrev pub cost_end : Option ValidationCost → Option (List ℕ)
 cost_end None = None
 cost_end (Some cost) = Some (ended_line (steps_line cost))
-
--- `valid`, or the faults' lines and how many they are
-abbrev pub checked_text : List Flaw → List ℕ
-checked_text [] = ended_line (codes "valid")
-checked_text (f ∷ fs) = faults_text (f ∷ fs)
 
 -- a document without faults is valid
 abbrev pub faults_verdict : List Flaw → Verdict

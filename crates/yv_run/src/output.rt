@@ -1,16 +1,15 @@
 //! What a run writes.
-ghost use Rattle.std.specs.{Prelude.{◌≡◌, ◌↔◌, ℕ, true, false, option_map, take}, Io.KnownBytes.{Appends}};
+ghost use Rattle.std.specs.{Prelude.{◌≡◌, ◌↔◌, ℕ, true, false, take}, Io.KnownBytes.{Appends}};
 ghost use Rattle.yv_base_streams.specs.{Stream.{stream_inner, has_failed, IsFresh, FailsOnceAtMost}, Pages.{Adds, paged_output}};
 ghost use Rattle.yv_json_lines.specs.Values.{json_line};
-ghost use Rattle.yv_run.specs.{Output.{IsStopped, body_text, checked_text, object_of, printed_of, with_end}, Runs.{Writes}};
+ghost use Rattle.yv_run.specs.{Output.{IsStopped, body_text, object_of, printed_of}, Runs.{Writes}};
 
 use crate::print::{Body, Output, ResultObject};
 use crate::status::Status;
 use std::io::Write;
 use yv_base_streams::{Counted, Page, write_whole};
-use yv_documents::{flush_all, write_faults};
+use yv_documents::{flush_all, write_checked};
 use yv_json_lines::{put_count_line, put_refusal_line};
-use yv_validate::Fault;
 
 /// Writes what was found, has the writer pass it on, and answers how the run ends.
 pub(crate) fn write_output<W: Write>(output: &Output<'_>, writer: &mut Counted<W>) -> Status
@@ -58,30 +57,11 @@ fn put_body<W: Write>(writer: &mut Counted<W>, body: &Body<'_>) -> bool
     match body {
         Body::Text(text) => write_whole(writer, text.as_bytes()),
         Body::Diagram(diagram) => diagram.write(writer),
-        Body::Faults(faults, None) => write_checked(writer, faults.as_slice()),
+        Body::Faults(faults, None) => write_checked(writer, faults.as_slice(), None),
         Body::Faults(faults, Some(end)) => {
-            write_checked(writer, faults.as_slice()) && write_whole(writer, end.as_bytes())
+            write_checked(writer, faults.as_slice(), Some(end.as_str()))
         }
         Body::Object(object) => write_object(writer, object),
-    }
-}
-
-// Writes that a document is valid, or the lines of its faults, and answers whether all was taken.
-fn write_checked<W: Write>(writer: &mut Counted<W>, faults: &[Fault]) -> bool
-    requires { has_failed writer.old ≡ false }
-    ensures ends { result ≡ true
-        → Appends (W.contents (stream_inner writer.old)) (W.contents (stream_inner writer.new))
-        (checked_text faults.now) }
-    ensures part { (n : ℕ)
-        × Appends (W.contents (stream_inner writer.old)) (W.contents (stream_inner writer.new))
-        (take n (checked_text faults.now)) }
-    ensures fault { result ≡ false ↔ (has_failed writer.new ≡ true) }
-    ensures once { FailsOnceAtMost writer.new }
-{
-    if faults.is_empty() {
-        write_whole(writer, b"valid\n")
-    } else {
-        write_faults(writer, faults)
     }
 }
 
