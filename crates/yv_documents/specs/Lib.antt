@@ -1,5 +1,5 @@
 pub mod Lines
-pub mod Checked
+pub mod VerdictText
 pub mod Document
 pub mod Steps
 pub mod DocumentLines

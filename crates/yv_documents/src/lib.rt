@@ -2,7 +2,6 @@
 #![tactic(auto)]
 
 mod answer;
-mod checked;
 mod costs;
 mod document;
 mod findings;
@@ -14,11 +13,12 @@ mod notes;
 mod output;
 mod reply;
 mod text_reply;
+mod verdict_text;
 
 pub use answer::DocumentAnswer;
-pub use checked::write_checked;
 pub use costs::{cost_of, steps_text};
 pub use document::{Document, read_document};
 pub use lines::write_faults;
 pub use notes::{NoteSink, document_note};
 pub use output::flush_all;
+pub use verdict_text::write_checked;

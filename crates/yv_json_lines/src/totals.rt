@@ -8,8 +8,8 @@ use std::io::Write;
 use yv_base_streams::{Counted, Page};
 use yv_schema_tables::Measures;
 
-/// Puts the line of modules that compiled to so many nodes, and what the schema measures, if that is
-/// to be said.
+/// Puts the line of modules that compiled to so many nodes, and what the schema measures, if that
+/// is asked for.
 pub fn put_count_line<W: Write>(
     page: &mut Page,
     writer: &mut Counted<W>,

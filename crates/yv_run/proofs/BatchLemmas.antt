@@ -16,7 +16,7 @@ use Rattle.yv_batch.specs.declared.batch.BatchEnd.TheVariants as batch
 use Rattle.yv_batch.specs.declared.batch.Tally.{Tally}
 use Rattle.yv_batch.specs.declared.level.Level.{Level}
 use Rattle.yv_batch.specs.declared.level.Level.TheVariants as level
-use Rattle.yv_documents.specs.Checked.{with_end}
+use Rattle.yv_documents.specs.VerdictText.{with_end}
 use Rattle.yv_documents.specs.Document.{DocumentText, TooLarge, NotJson, Reads, document_text}
 use Rattle.yv_json_lines.specs.declared.document.ValidationCost.{ValidationCost}
 use Rattle.yv_job.specs.declared.job.OutputOptions.{OutputOptions}

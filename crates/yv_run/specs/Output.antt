@@ -21,7 +21,7 @@ use Rattle.yv_validate.specs.Faults.{faults}
 use Rattle.yv_json_lines.specs.Column.{column}
 use Rattle.yv_json_lines.specs.Values.{count_value, json_line, refusal_value}
 use Rattle.yv_json_lines.specs.declared.document.ValidationCost.{ValidationCost}
-use Rattle.yv_documents.specs.Checked.{checked_text, with_end}
+use Rattle.yv_documents.specs.VerdictText.{checked_text, with_end}
 use Rattle.yv_documents.specs.Lines.{ended_line}
 use Rattle.yv_documents.specs.Steps.{cost_if, steps_line}
 use Rattle.yv_run.specs.Compiles.{Compilation, RefusedAt, HasSchema, FilesCompile, GiveSchema}

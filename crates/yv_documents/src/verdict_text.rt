@@ -1,7 +1,7 @@
 //! What is said of a document that was validated, as text without labels.
 ghost use Rattle.std.specs.{Prelude.{◌≡◌, ◌↔◌, ◌++◌, ℕ, true, false, option_map, take}, Io.KnownBytes.{Appends}};
 ghost use Rattle.yv_base_streams.specs.{Stream.{has_failed, stream_inner, FailsOnceAtMost}, Pages.{Adds, paged_output}};
-ghost use Rattle.yv_documents.specs.Checked.{checked_text, with_end};
+ghost use Rattle.yv_documents.specs.VerdictText.{checked_text, with_end};
 
 use crate::lines::{put_count, put_lines};
 use std::io::Write;
