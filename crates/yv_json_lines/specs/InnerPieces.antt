@@ -1,5 +1,6 @@
--- Only private clauses cite this: pieces of lines, each a text with the comma before it.
-use Rattle.std.specs.Prelude.{ℕ, ◌==◌, List, [], ◌++◌, codes, decimal, if◌then◌else◌}
+-- Only private clauses cite this: hexadecimal digits, and pieces of lines, each a text with the
+-- comma before it.
+use Rattle.std.specs.Prelude.{ℕ, ◌+◌, ◌-◌, ◌==◌, nat_lt, List, [], ◌++◌, codes, decimal, if◌then◌else◌}
 use Rattle.std.specs.declared.option.Option.{Option}
 use Rattle.std.specs.declared.option.Option.TheVariants.{None, Some}
 use Rattle.json.specs.Print.{quoted}
@@ -48,3 +49,6 @@ flaw_piece f =
 
 abbrev pub unique_piece : ℕ → List ℕ
 unique_piece n = if n == 0 then [] else codes ",\"unique\":" ++ decimal n
+
+abbrev pub digit_from : (ten : ℕ) → ℕ → ℕ
+digit_from ten n = if nat_lt n 10 then 48 + n else ten + n - 10

@@ -4,3 +4,4 @@ pub mod Values
 pub mod OneLine
 pub mod ReadBack
 pub mod InnerPieces
+pub mod InnerSteps

@@ -5,7 +5,7 @@ ghost use Rattle.yv_data_faults.specs.Line.{escape};
 ghost use Rattle.yv_base_streams.specs.{Stream.{has_failed, stream_inner}, Pages.{Adds, paged_output}};
 ghost use Rattle.yv_json_lines.specs.{InnerPieces.{cost_piece, faults_piece, line_piece}, Values.{document_value, json_line, shown_name, verdict_name}};
 
-use crate::path::put_escaped;
+use crate::steps;
 use crate::strings::{put_member, put_quoted};
 use std::io::Write;
 use yv_base_streams::{Counted, Page};
@@ -110,7 +110,7 @@ fn put_quoted_label<W: Write>(page: &mut Page, writer: &mut Counted<W>, name: &[
         (paged_output W.contents writer.new page.new) }
 {
     page.put(writer, b"\"");
-    put_escaped(page, writer, name);
+    steps::put_name(page, writer, steps::Spelling::Path, name);
     page.put(writer, b"\"");
 }
 

@@ -27,22 +27,9 @@ pub fn put_fault_line<W: Write>(
         (paged_output W.contents writer.old page.old)
         (paged_output W.contents writer.new page.new) }
 {
-    if !writer.has_failed() {
-        put_whole_line(page, writer, name, line, fault);
+    if writer.has_failed() {
+        return;
     }
-}
-
-fn put_whole_line<W: Write>(
-    page: &mut Page,
-    writer: &mut Counted<W>,
-    name: &[u8],
-    line: Option<u64>,
-    fault: &Fault,
-)
-    ensures { Adds (json_line (fault_value name.now line fault.now))
-        (paged_output W.contents writer.old page.old)
-        (paged_output W.contents writer.new page.new) }
-{
     page.put(writer, b"{\"result\":\"fault\",\"document\":");
     put_document(page, writer, name, line);
     put_flaw(page, writer, fault);

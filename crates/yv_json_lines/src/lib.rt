@@ -8,6 +8,7 @@ pub mod laws;
 mod path;
 mod pointer;
 mod refusal;
+mod steps;
 mod strings;
 mod totals;
 
