@@ -8,6 +8,7 @@ use Rattle.yv_job.specs.CommandLine.{yangcheck_app}
 use Rattle.yv_job.specs.Asks.{IsAsked}
 use Rattle.yv_job.specs.Jobs.{Compiles, Draws, Checks}
 use Rattle.yv_job.specs.Requests.{ActionAsked, Lists, Does, ChecksAll}
+use Rattle.yv_job.specs.declared.job.OutputForm.{OutputForm}
 use Rattle.yv_job.specs.declared.request.Each.{Each}
 
 pub app_simple : is_simple yangcheck_app ≡ true
@@ -32,9 +33,9 @@ matches_here a words r e kinds matches =
     (subst (λ b. IfOk r (HasMatchesOf b words)) e matches)
 
 -- a command that lacks its name is none
-pub no_module : (name : Text) (rows : List Row) (each : Option Each) → name ≡ codes "tree" → None ≡ first_of (codes "module") rows → (a : ActionAsked) → IsAsked name rows each a → ⊥
-no_module name rows each e f Lists h = let g : codes "files" ≡ codes "tree" = sym h ∙ e in cc
-no_module name rows each e f (Does Compiles) h = let g : codes "compile" ≡ codes "tree" = sym h ∙ e in cc
-no_module name rows each e f (Does (Draws m)) h = let g : None ≡ Some m = f ∙ h.1 in cc
-no_module name rows each e f (Does (Checks d)) h = let g : codes "validate" ≡ codes "tree" = sym h.0 ∙ e in cc
-no_module name rows each e f (ChecksAll ds) h = let g : codes "validate" ≡ codes "tree" = sym h.0 ∙ e in cc
+pub no_module : (name : Text) (rows : List Row) (each : Option Each) (o : OutputForm) → name ≡ codes "tree" → None ≡ first_of (codes "module") rows → (a : ActionAsked) → IsAsked name rows each o a → ⊥
+no_module name rows each o e f Lists h = let g : codes "files" ≡ codes "tree" = sym h ∙ e in cc
+no_module name rows each o e f (Does Compiles) h = let g : codes "compile" ≡ codes "tree" = sym h ∙ e in cc
+no_module name rows each o e f (Does (Draws m)) h = let g : None ≡ Some m = f ∙ h.1 in cc
+no_module name rows each o e f (Does (Checks d)) h = let g : codes "validate" ≡ codes "tree" = sym h.0 ∙ e in cc
+no_module name rows each o e f (ChecksAll ds) h = let g : codes "validate" ≡ codes "tree" = sym h.0 ∙ e in cc

@@ -1,15 +1,18 @@
 -- No words ask for two requests: each part of a request is determined by what clap matched.
-use Rattle.std.proofs.Common.{◌≡◌, ◌≤◌, ◌<◌, inl, inr, ◌++◌, ℕ, List, [], ◌∷◌, length, map, codes, refl, sym, ap, ap₂, subst, ◌∙◌, arith, Option, Some, None, IsSome}
+use Rattle.std.proofs.Common.{◌≡◌, ◌≤◌, ◌<◌, inl, inr, ◌++◌, ℕ, List, [], ◌∷◌, length, map, Bool, true, false, codes, refl, sym, ap, ap₂, subst, ◌∙◌, arith, Option, Some, None, IsSome}
 use Rattle.std.specs.List.{AllByRecursion, slice_split, join_with_byte}
 use Rattle.std.proofs.lemmas.List.{append_cancel_left}
 use Rattle.std.proofs.lemmas.List.Elements.{recursion_from_All}
 use Rattle.std.proofs.lemmas.List.Splits.{slice_split_at}
 use Rattle.std.proofs.Math.Dec.{eqb}
 use Rattle.clap.specs.Words.{Text, Row, subcommand_of}
-use Rattle.yv_job.specs.Asks.{IsCommand, IsAsked, AreSources, data_of, each_word, IsEachFor, IsLimit, IsSupportFor, IsImportsFor, IsKindFor, IsChoice, IsFiles, Asks, AsksIn, WordsAsk}
+use Rattle.yv_job.specs.Asks.{IsCommand, IsAsked, AreSources, data_of, each_word, IsEachFor, IsFormFor, IsFlag, IsOutput, IsLimit, IsSupportFor, IsImportsFor, IsKindFor, IsChoice, IsFiles, Asks, AsksIn, WordsAsk}
 use Rattle.yv_job.specs.CommandLine.{yangcheck_app}
 use Rattle.yv_job.specs.Jobs.{CommandAsked, Compiles, Draws, Checks}
 use Rattle.yv_job.specs.Requests.{ActionAsked, Lists, Does, ChecksAll, RequestAsked}
+use Rattle.yv_job.specs.declared.job.OutputForm.{OutputForm}
+use Rattle.yv_job.specs.declared.job.OutputForm.TheVariants as form
+use Rattle.yv_job.specs.declared.job.OutputOptions.{OutputOptions}
 use Rattle.yv_job.specs.declared.request.Each.{Each}
 use Rattle.yv_job.specs.declared.request.Each.TheVariants as each
 use Rattle.yv_text_statement.specs.Selection.{ModuleChoice, Entry}
@@ -18,49 +21,50 @@ use Rattle.yv_text_statement.specs.declared.document_kind.Kind.TheVariants.{All,
 use Rattle.yv_job.specs.Names.{JoinsNames, IsNames, IsIdentifier, HasIdentifiers, entry_text}
 use Rattle.yv_job.proofs.NameLemmas.{free_name, split_names, split_entries}
 
-same_command : (name : Text) (rows : List Row) (e : Option Each) (a b : CommandAsked) → IsCommand name rows e a → IsCommand name rows e b → a ≡ b
-same_command name rows e Compiles Compiles h i = refl
-same_command name rows e Compiles (Draws m) h i = let f : codes "compile" ≡ codes "tree" = sym h ∙ i.0 in cc
-same_command name rows e Compiles (Checks d) h i = let f : codes "compile" ≡ codes "validate" = sym h ∙ i.0 in cc
-same_command name rows e (Draws m) Compiles h i = let f : codes "compile" ≡ codes "tree" = sym i ∙ h.0 in cc
-same_command name rows e (Draws m) (Draws n) h i = let f : Some m ≡ Some n = sym h.1 ∙ i.1 in cc
-same_command name rows e (Draws m) (Checks d) h i = let f : codes "tree" ≡ codes "validate" = sym h.0 ∙ i.0 in cc
-same_command name rows e (Checks d) Compiles h i = let f : codes "compile" ≡ codes "validate" = sym i ∙ h.0 in cc
-same_command name rows e (Checks d) (Draws m) h i = let f : codes "tree" ≡ codes "validate" = sym i.0 ∙ h.0 in cc
-same_command name rows e (Checks c) (Checks d) h i = let f : Some (c ∷ []) ≡ Some (d ∷ []) = sym h.1 ∙ i.1 in cc
+same_command : (name : Text) (rows : List Row) (e : Option Each) (o : OutputForm) (a b : CommandAsked) → IsCommand name rows e o a → IsCommand name rows e o b → a ≡ b
+same_command name rows e o Compiles Compiles h i = refl
+same_command name rows e o Compiles (Draws m) h i = let f : codes "compile" ≡ codes "tree" = sym h ∙ i.0 in cc
+same_command name rows e o Compiles (Checks d) h i = let f : codes "compile" ≡ codes "validate" = sym h ∙ i.0 in cc
+same_command name rows e o (Draws m) Compiles h i = let f : codes "compile" ≡ codes "tree" = sym i ∙ h.0 in cc
+same_command name rows e o (Draws m) (Draws n) h i = let f : Some m ≡ Some n = sym h.1 ∙ i.1 in cc
+same_command name rows e o (Draws m) (Checks d) h i = let f : codes "tree" ≡ codes "validate" = sym h.0 ∙ i.0 in cc
+same_command name rows e o (Checks d) Compiles h i = let f : codes "compile" ≡ codes "validate" = sym i ∙ h.0 in cc
+same_command name rows e o (Checks d) (Draws m) h i = let f : codes "tree" ≡ codes "validate" = sym i.0 ∙ h.0 in cc
+same_command name rows e o (Checks c) (Checks d) h i = let f : Some (c ∷ []) ≡ Some (d ∷ []) = sym h.1 ∙ i.1 in cc
 
 -- the command `files` is no other
-not_files : (name : Text) (rows : List Row) (e : Option Each) (c : CommandAsked) → name ≡ codes "files" → IsCommand name rows e c → ⊥
-not_files name rows e Compiles is h = let f : codes "compile" ≡ codes "files" = sym h ∙ is in cc
-not_files name rows e (Draws m) is h = let f : codes "tree" ≡ codes "files" = sym h.0 ∙ is in cc
-not_files name rows e (Checks d) is h = let f : codes "validate" ≡ codes "files" = sym h.0 ∙ is in cc
+not_files : (name : Text) (rows : List Row) (e : Option Each) (o : OutputForm) (c : CommandAsked) → name ≡ codes "files" → IsCommand name rows e o c → ⊥
+not_files name rows e o Compiles is h = let f : codes "compile" ≡ codes "files" = sym h ∙ is in cc
+not_files name rows e o (Draws m) is h = let f : codes "tree" ≡ codes "files" = sym h.0 ∙ is in cc
+not_files name rows e o (Checks d) is h = let f : codes "validate" ≡ codes "files" = sym h.0 ∙ is in cc
 
 -- one document of which nothing else was said is not several
-not_several : (rows : List Row) (e : Option Each) (d : Text) (sources : List Text) → data_of rows ≡ Some (d ∷ []) → e ≡ None → AreSources rows e sources → ⊥
-not_several rows e d sources is plain h =
+not_several : (rows : List Row) (e : Option Each) (o : OutputForm) (d : Text) (sources : List Text) → data_of rows ≡ Some (d ∷ []) → e ≡ None → o ≡ form.Text → AreSources rows e o sources → ⊥
+not_several rows e o d sources is plain text h =
     let one : Some (d ∷ []) ≡ Some sources = sym is ∙ h.given in
     let same : (d ∷ []) ≡ sources = cc (one) in
     elim h.many [
       | inl two ↦ let long : 2 ≤ length (d ∷ []) = subst (λ (l : List Text). 2 ≤ length l) (sym same) two in omega (arith, long)
-      | inr asked ↦ let none : IsSome {T = Each} None = subst (λ (o : Option Each). IsSome o) plain asked in cc
+      | inr (inl asked) ↦ let none : IsSome {T = Each} None = subst (λ (x : Option Each). IsSome x) plain asked in cc
+      | inr (inr json) ↦ let f : form.Text ≡ form.Json = sym text ∙ json in cc
     ]
 
 -- one document and several are not asked for by the same words
-not_one : (name : Text) (rows : List Row) (e : Option Each) (c : CommandAsked) (sources : List Text) → IsCommand name rows e c → name ≡ codes "validate" → AreSources rows e sources → ⊥
-not_one name rows e Compiles sources h is i = let f : codes "compile" ≡ codes "validate" = sym h ∙ is in cc
-not_one name rows e (Draws m) sources h is i = let f : codes "tree" ≡ codes "validate" = sym h.0 ∙ is in cc
-not_one name rows e (Checks d) sources h is i = not_several rows e d sources h.1 h.2 i
+not_one : (name : Text) (rows : List Row) (e : Option Each) (o : OutputForm) (c : CommandAsked) (sources : List Text) → IsCommand name rows e o c → name ≡ codes "validate" → AreSources rows e o sources → ⊥
+not_one name rows e o Compiles sources h is i = let f : codes "compile" ≡ codes "validate" = sym h ∙ is in cc
+not_one name rows e o (Draws m) sources h is i = let f : codes "tree" ≡ codes "validate" = sym h.0 ∙ is in cc
+not_one name rows e o (Checks d) sources h is i = not_several rows e o d sources h.1 h.2 h.3 i
 
-same_asked : (name : Text) (rows : List Row) (e : Option Each) (a b : ActionAsked) → IsAsked name rows e a → IsAsked name rows e b → a ≡ b
-same_asked name rows e Lists Lists h i = refl
-same_asked name rows e Lists (Does c) h i = absurd (not_files name rows e c h i)
-same_asked name rows e Lists (ChecksAll ds) h i = let f : codes "files" ≡ codes "validate" = sym h ∙ i.0 in cc
-same_asked name rows e (Does c) Lists h i = absurd (not_files name rows e c i h)
-same_asked name rows e (Does c) (Does d) h i = ap (λ x. Does x) (same_command name rows e c d h i)
-same_asked name rows e (Does c) (ChecksAll ds) h i = absurd (not_one name rows e c ds h i.0 i.1)
-same_asked name rows e (ChecksAll ds) Lists h i = let f : codes "files" ≡ codes "validate" = sym i ∙ h.0 in cc
-same_asked name rows e (ChecksAll ds) (Does c) h i = absurd (not_one name rows e c ds i h.0 h.1)
-same_asked name rows e (ChecksAll cs) (ChecksAll ds) h i = let f : Some cs ≡ Some ds = sym h.1.given ∙ i.1.given in cc
+same_asked : (name : Text) (rows : List Row) (e : Option Each) (o : OutputForm) (a b : ActionAsked) → IsAsked name rows e o a → IsAsked name rows e o b → a ≡ b
+same_asked name rows e o Lists Lists h i = refl
+same_asked name rows e o Lists (Does c) h i = absurd (not_files name rows e o c h i)
+same_asked name rows e o Lists (ChecksAll ds) h i = let f : codes "files" ≡ codes "validate" = sym h ∙ i.0 in cc
+same_asked name rows e o (Does c) Lists h i = absurd (not_files name rows e o c i h)
+same_asked name rows e o (Does c) (Does d) h i = ap (λ x. Does x) (same_command name rows e o c d h i)
+same_asked name rows e o (Does c) (ChecksAll ds) h i = absurd (not_one name rows e o c ds h i.0 i.1)
+same_asked name rows e o (ChecksAll ds) Lists h i = let f : codes "files" ≡ codes "validate" = sym i ∙ h.0 in cc
+same_asked name rows e o (ChecksAll ds) (Does c) h i = absurd (not_one name rows e o c ds i h.0 h.1)
+same_asked name rows e o (ChecksAll cs) (ChecksAll ds) h i = let f : Some cs ≡ Some ds = sym h.1.given ∙ i.1.given in cc
 
 abbrev first_byte : Text → ℕ
 first_byte [] = 0
@@ -90,6 +94,23 @@ same_each None d e h i = h ∙ sym i
 same_each (Some t) None e h i = absurd h
 same_each (Some t) (Some d) None h i = absurd i
 same_each (Some t) (Some d) (Some e) h i = ap (λ (x : Each). Some x) (same_word t d e h i)
+
+same_form : (t : Option Text) (f g : OutputForm) → IsFormFor t f → IsFormFor t g → f ≡ g
+same_form None f g h i = h ∙ sym i
+same_form (Some t) form.Text form.Text h i = refl
+same_form (Some t) form.Text form.Json h i = let e : 116 ≡ 106 = ap first_byte (sym h ∙ i) in absurd (omega (arith, e))
+same_form (Some t) form.Json form.Text h i = let e : 106 ≡ 116 = ap first_byte (sym h ∙ i) in absurd (omega (arith, e))
+same_form (Some t) form.Json form.Json h i = refl
+
+same_flag : (t : Option Text) (a b : Bool) → IsFlag t a → IsFlag t b → a ≡ b
+same_flag t true true h i = refl
+same_flag t true false h i = absurd (i h)
+same_flag t false true h i = absurd (h i)
+same_flag t false false h i = refl
+
+same_output : (rows : List Row) (o p : OutputOptions) → IsOutput rows o → IsOutput rows p → o ≡ p
+same_output rows o p h i =
+    ap₂ (λ (f : OutputForm) (m : Bool). record { form = f; measures = m }) (same_form _ o.form p.form h.form i.form) (same_flag _ o.measures p.measures h.measures i.measures)
 
 same_files : (rows : List Row) (fs gs : List Text) → IsFiles rows fs → IsFiles rows gs → fs ≡ gs
 same_files rows fs gs h i = let e : Some fs ≡ Some gs = sym h.given ∙ i.given in cc
@@ -167,16 +188,19 @@ same_choice rows c d h i =
 same_request : (name : Text) (rows : List Row) (v w : RequestAsked) → Asks name rows v → Asks name rows w → v ≡ w
 same_request name rows v w h i =
     let each = same_each _ v.each w.each h.each i.each in
-    let action = same_asked name rows w.each v.action w.action (subst (λ (e : Option Each). IsAsked name rows e v.action) each h.asked) i.asked in
+    let output = same_output rows v.output w.output h.output i.output in
+    let moved = subst (λ (e : Option Each). IsAsked name rows e v.output.form v.action) each h.asked in
+    let formed = subst (λ (o : OutputOptions). IsAsked name rows w.each o.form v.action) output moved in
+    let action = same_asked name rows w.each w.output.form v.action w.action formed i.asked in
     let folders = sym h.folders ∙ i.folders in
     let files = same_files rows v.files w.files h.files i.files in
     let limit = same_limit _ v.limit w.limit h.limit i.limit in
     let choice = same_choice rows v.choice w.choice h.choice i.choice in
     let kind = same_kind _ v.kind w.kind h.kind i.kind in
-    ap₂ (λ (a : ActionAsked) (fs : List (List ℕ)). record { action = a; limit = v.limit; choice = v.choice; kind = v.kind; each = v.each; folders = v.folders; files = fs }) action files
-    ∙ ap₂ (λ (n : ℕ) (c : ModuleChoice). record { action = w.action; limit = n; choice = c; kind = v.kind; each = v.each; folders = v.folders; files = w.files }) limit choice
-    ∙ ap₂ (λ (ds : List (List ℕ)) (k : Kind). record { action = w.action; limit = w.limit; choice = w.choice; kind = k; each = v.each; folders = ds; files = w.files }) folders kind
-    ∙ ap (λ (e : Option Each). record { action = w.action; limit = w.limit; choice = w.choice; kind = w.kind; each = e; folders = w.folders; files = w.files }) each
+    ap₂ (λ (a : ActionAsked) (fs : List (List ℕ)). record { action = a; limit = v.limit; choice = v.choice; kind = v.kind; each = v.each; output = v.output; folders = v.folders; files = fs }) action files
+    ∙ ap₂ (λ (n : ℕ) (c : ModuleChoice). record { action = w.action; limit = n; choice = c; kind = v.kind; each = v.each; output = v.output; folders = v.folders; files = w.files }) limit choice
+    ∙ ap₂ (λ (ds : List (List ℕ)) (k : Kind). record { action = w.action; limit = w.limit; choice = w.choice; kind = k; each = v.each; output = v.output; folders = ds; files = w.files }) folders kind
+    ∙ ap₂ (λ (e : Option Each) (o : OutputOptions). record { action = w.action; limit = w.limit; choice = w.choice; kind = w.kind; each = e; output = o; folders = w.folders; files = w.files }) each output
 
 same_in : (found : Option (Text × List Row)) (v w : RequestAsked) → AsksIn found v → AsksIn found w → v ≡ w
 same_in None v w h i = absurd h

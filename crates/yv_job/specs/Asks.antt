@@ -1,10 +1,13 @@
 -- What the words of a command line ask for. The first word is the program's name.
-use Rattle.std.specs.Prelude.{◌≡◌, ◌≤◌, ◌⊎◌, ◌∷◌, ℕ, List, [], Option, Some, None, IsSome, codes, length}
+use Rattle.std.specs.Prelude.{◌≡◌, ◌≤◌, ◌⊎◌, ◌∷◌, ℕ, List, [], Bool, true, false, Option, Some, None, IsSome, codes, length}
 use Rattle.std.specs.Option.{unwrap_or}
 use Rattle.std.specs.Str.Parse.{IsNumeral, digits_value}
 use Rattle.clap.specs.Words.{Text, Row, all_of, first_of, fault_of, subcommand_of}
 use Rattle.yv_job.specs.Jobs.{CommandAsked, Compiles, Draws, Checks}
 use Rattle.yv_job.specs.Requests.{ActionAsked, Lists, Does, ChecksAll, RequestAsked}
+use Rattle.yv_job.specs.declared.job.OutputForm.{OutputForm}
+use Rattle.yv_job.specs.declared.job.OutputForm.TheVariants as form
+use Rattle.yv_job.specs.declared.job.OutputOptions.{OutputOptions}
 use Rattle.yv_job.specs.declared.request.Each.{Each}
 use Rattle.yv_job.specs.declared.request.Each.TheVariants as each
 use Rattle.yv_text_statement.specs.Selection.{ModuleChoice, Entry}
@@ -18,27 +21,27 @@ abbrev pub data_of : List Row → Option (List Text)
 data_of rows = all_of (codes "data") rows
 
 -- the command of this name, with the values of its arguments, compiles, draws, or checks one
--- document, which is a whole file
-abbrev pub IsCommand : Text → List Row → Option Each → CommandAsked → Type 0
-IsCommand name rows each Compiles = name ≡ codes "compile"
-IsCommand name rows each (Draws m) =
+-- document, which is a whole file, in text
+abbrev pub IsCommand : Text → List Row → Option Each → OutputForm → CommandAsked → Type 0
+IsCommand name rows each f Compiles = name ≡ codes "compile"
+IsCommand name rows each f (Draws m) =
     (name ≡ codes "tree") × (first_of (codes "module") rows ≡ Some m)
-IsCommand name rows each (Checks f) =
-    (name ≡ codes "validate") × (data_of rows ≡ Some (f ∷ [])) × (each ≡ None)
+IsCommand name rows each f (Checks d) =
+    (name ≡ codes "validate") × (data_of rows ≡ Some (d ∷ [])) × (each ≡ None) × (f ≡ form.Text)
 
--- the sources are those that were given, one or more, and they are several or it was said what each
--- of them holds
-pub record AreSources (rows : List Row) (each : Option Each) (sources : List Text) : Type 0 where
+-- the sources are those that were given, one or more, and they are several, or it was said what each
+-- of them holds, or JSON was asked for
+pub record AreSources (rows : List Row) (each : Option Each) (f : OutputForm) (sources : List Text) : Type 0 where
   pub given : data_of rows ≡ Some sources
   pub some : 1 ≤ length sources
-  pub many : (2 ≤ length sources) ⊎ IsSome each
+  pub many : (2 ≤ length sources) ⊎ (IsSome each ⊎ (f ≡ form.Json))
 
 -- it does that, or checks all documents of sources, or shows which files there are
-abbrev pub IsAsked : Text → List Row → Option Each → ActionAsked → Type 0
-IsAsked name rows each Lists = name ≡ codes "files"
-IsAsked name rows each (Does c) = IsCommand name rows each c
-IsAsked name rows each (ChecksAll sources) =
-    (name ≡ codes "validate") × AreSources rows each sources
+abbrev pub IsAsked : Text → List Row → Option Each → OutputForm → ActionAsked → Type 0
+IsAsked name rows each f Lists = name ≡ codes "files"
+IsAsked name rows each f (Does c) = IsCommand name rows each f c
+IsAsked name rows each f (ChecksAll sources) =
+    (name ≡ codes "validate") × AreSources rows each f sources
 
 -- the folders that were named, none where none were
 abbrev pub IsFolders : List Row → List Text → Type 0
@@ -86,6 +89,26 @@ IsEachFor None e = e ≡ None
 IsEachFor (Some t) None = ⊥
 IsEachFor (Some t) (Some e) = t ≡ each_word e
 
+-- what a command line calls a form
+abbrev pub form_word : OutputForm → Text
+form_word form.Text = codes "text"
+form_word form.Json = codes "json"
+
+-- the text is a form's word, and the form is text where none was named
+abbrev pub IsFormFor : Option Text → OutputForm → Type 0
+IsFormFor None f = f ≡ form.Text
+IsFormFor (Some t) f = t ≡ form_word f
+
+-- a flag was given: then clap's value for it is `true`
+abbrev pub IsFlag : Option Text → Bool → Type 0
+IsFlag value true = value ≡ Some (codes "true")
+IsFlag value false = value ≡ Some (codes "true") → ⊥
+
+-- the form is that of `--format`, and measures are wanted where `--measures` was given
+pub record IsOutput (rows : List Row) (o : OutputOptions) : Type 0 where
+  pub form : IsFormFor (first_of (codes "format") rows) o.form
+  pub measures : IsFlag (first_of (codes "measures") rows) o.measures
+
 -- the choice is that of `--support` and `--import-only`
 pub record IsChoice (rows : List Row) (c : ModuleChoice) : Type 0 where
   pub support : IsSupportFor (first_of (codes "support") rows) c.support
@@ -99,11 +122,12 @@ pub record IsFiles (rows : List Row) (files : List Text) : Type 0 where
 
 -- the command of this name, with the values of its arguments, asks for this
 pub record Asks (name : Text) (rows : List Row) (w : RequestAsked) : Type 0 where
-  pub asked : IsAsked name rows w.each w.action
+  pub asked : IsAsked name rows w.each w.output.form w.action
   pub limit : IsLimit (first_of (codes "max-nodes") rows) w.limit
   pub choice : IsChoice rows w.choice
   pub kind : IsKindFor (first_of (codes "kind") rows) w.kind
   pub each : IsEachFor (first_of (codes "each") rows) w.each
+  pub output : IsOutput rows w.output
   pub folders : IsFolders rows w.folders
   pub files : IsFiles rows w.files
 

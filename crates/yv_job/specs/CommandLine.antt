@@ -2,7 +2,7 @@
 use Rattle.std.specs.Prelude.{Some, true, codes}
 use Rattle.clap.specs.Lexer.{usize_max}
 use Rattle.clap.specs.Words.{App, Rule, Text, new_app, new_rule, with_rule, with_subcommand}
-use Rattle.clap.specs.declared.builder.action.ArgAction.TheVariants.{Set, Append}
+use Rattle.clap.specs.declared.builder.action.ArgAction.TheVariants.{Set, Append, SetTrue}
 
 -- `--id VALUE`, at most once
 abbrev pub option_rule : Text → Rule
@@ -20,6 +20,10 @@ repeated_rule id = record (option_rule id) { action = Some Append }
 abbrev pub required_repeated_rule : Text → Rule
 required_repeated_rule id = record (repeated_rule id) { required = true }
 
+-- `--id`, at most once
+abbrev pub flag_rule : Text → Rule
+flag_rule id = record (new_rule id) { long = Some id; action = Some SetTrue }
+
 -- FILE...
 abbrev pub files_rule : Rule
 files_rule = record (new_rule (codes "file")) {
@@ -27,6 +31,12 @@ files_rule = record (new_rule (codes "file")) {
   range = Some (record { start_inclusive = 1; end_inclusive = usize_max });
   required = true;
 }
+
+-- with what says how results are written: `--format F` and `--measures`
+abbrev pub with_output : App → App
+with_output a =
+    let formed = with_rule a (option_rule (codes "format")) in
+    with_rule formed (flag_rule (codes "measures"))
 
 -- with what all commands take: `--max-nodes N`, `--support S`, `--import-only L`, `--path DIR` and
 -- FILE...
@@ -38,20 +48,21 @@ with_shared a =
     let searched = with_rule chosen (repeated_rule (codes "path")) in
     with_rule searched files_rule
 
--- `compile`
+-- `compile`, with `--format F` and `--measures`
 abbrev pub compile_app : App
-compile_app = with_shared (new_app (codes "compile"))
+compile_app = with_shared (with_output (new_app (codes "compile")))
 
 -- `tree --module M`
 abbrev pub tree_app : App
 tree_app = with_shared (with_rule (new_app (codes "tree")) (required_rule (codes "module")))
 
--- `validate --data F..`, with `--each W` and `--kind K`
+-- `validate --data F..`, with `--each W`, `--kind K`, `--format F` and `--measures`
 abbrev pub validate_app : App
 validate_app =
     let checking = with_rule (new_app (codes "validate")) (required_repeated_rule (codes "data")) in
     let splitting = with_rule checking (option_rule (codes "each")) in
-    with_shared (with_rule splitting (option_rule (codes "kind")))
+    let asking = with_rule splitting (option_rule (codes "kind")) in
+    with_shared (with_output asking)
 
 -- `files`
 abbrev pub files_app : App

@@ -5,11 +5,12 @@ use Rattle.std.specs.Fmt.{decimal}
 use Rattle.clap.specs.Words.{Text, Row, fault_of, all_of, first_of, IsAmong}
 use Rattle.clap.specs.declared.error.kind.ErrorKind.{ErrorKind}
 use Rattle.clap.specs.declared.error.kind.ErrorKind.TheVariants as kind
-use Rattle.yv_job.specs.Asks.{WordsAsk, IsAsked, IsFiles, IsLimit, IsSupportFor, IsImportsFor, IsKindFor, IsEachFor}
+use Rattle.yv_job.specs.Asks.{WordsAsk, IsAsked, IsFiles, IsLimit, IsSupportFor, IsImportsFor, IsKindFor, IsEachFor, IsFormFor}
 use Rattle.yv_job.specs.CommandLine.{yangcheck_app}
 use Rattle.yv_job.specs.Requests.{ActionAsked, RequestAsked}
 use Rattle.yv_text_statement.specs.Selection.{Entry}
 use Rattle.yv_text_statement.specs.declared.document_kind.Kind.{Kind}
+use Rattle.yv_job.specs.declared.job.OutputForm.{OutputForm}
 use Rattle.yv_job.specs.declared.request.Each.{Each}
 use Rattle.yv_job.specs.declared.request.JobFault.{JobFault}
 use Rattle.yv_job.specs.declared.request.JobFault.TheVariants.{Usage, Help, NoMemory}
@@ -71,10 +72,14 @@ pub data IsReason (name : Text) (rows : List Row) (line : Text) : Type 0 where
       → line ≡ value_line (codes "each") (codes "file, line, name or name0")
       (first_of (codes "each") rows)
       → IsReason name rows line
+  of_form : ((f : OutputForm) → IsFormFor (first_of (codes "format") rows) f → ⊥)
+      → line ≡ value_line (codes "format") (codes "text or json") (first_of (codes "format") rows)
+      → IsReason name rows line
   of_files : ((fs : List Text) → IsFiles rows fs → ⊥)
       → line ≡ files_line (all_of (codes "file") rows) → IsReason name rows line
-  of_command : ((e : Option Each) (a : ActionAsked)
-      → IsEachFor (first_of (codes "each") rows) e → IsAsked name rows e a → ⊥)
+  of_command : ((e : Option Each) (f : OutputForm) (a : ActionAsked)
+      → IsEachFor (first_of (codes "each") rows) e
+      → IsFormFor (first_of (codes "format") rows) f → IsAsked name rows e f a → ⊥)
       → line ≡ command_line → IsReason name rows line
 
 -- the text is the first line, and the reason why the command that was found asks for no request

@@ -2,6 +2,7 @@
 use Rattle.std.specs.Prelude.{◌≤◌, length, ℕ, List, map, string_bytes}
 use Rattle.yv_job.specs.declared.job.Job.{Job}
 use Rattle.yv_job.specs.declared.job.Command.{Command}
+use Rattle.yv_job.specs.declared.job.OutputOptions.{OutputOptions}
 use Rattle.yv_job.specs.declared.job.Command.TheVariants.{Compile, Tree, Validate}
 use Rattle.yv_text_statement.specs.Selection.{ModuleChoice, selected_of}
 use Rattle.yv_text_statement.specs.declared.document_kind.Kind.{Kind}
@@ -19,6 +20,7 @@ pub record Task : Type 0 where
   pub limit : ℕ
   pub choice : ModuleChoice
   pub kind : Kind
+  pub output : OutputOptions
 
 -- what a command asks for
 abbrev pub asked_of : Command → CommandAsked
@@ -34,6 +36,7 @@ task_of j = record {
   limit = j.limit;
   choice = selected_of j.selection;
   kind = j.kind;
+  output = j.output;
 }
 
 -- a job has 1 to 256 files

@@ -4,6 +4,7 @@ use Rattle.std.specs.Prelude.{◌≤◌, length, ℕ, List, [], map, string_byte
 use Rattle.yv_job.specs.declared.request.Request.{Request}
 use Rattle.yv_job.specs.declared.request.Action.{Action}
 use Rattle.yv_job.specs.declared.request.Action.TheVariants.{Run, ValidateAll, Files}
+use Rattle.yv_job.specs.declared.job.OutputOptions.{OutputOptions}
 use Rattle.yv_job.specs.declared.request.Each.{Each}
 use Rattle.yv_job.specs.Jobs.{CommandAsked, Task, asked_of}
 use Rattle.yv_text_statement.specs.Selection.{ModuleChoice, selected_of}
@@ -23,6 +24,7 @@ pub record RequestAsked : Type 0 where
   pub choice : ModuleChoice
   pub kind : Kind
   pub each : Option Each
+  pub output : OutputOptions
   pub folders : List (List ℕ)
   pub files : List (List ℕ)
 
@@ -40,6 +42,7 @@ request_of r = record {
   choice = selected_of r.selection;
   kind = r.kind;
   each = r.each;
+  output = r.output;
   folders = map string_bytes r.folders.items;
   files = map string_bytes r.files.items;
 }
@@ -52,6 +55,7 @@ plain_request t = record {
   choice = t.choice;
   kind = t.kind;
   each = None;
+  output = t.output;
   folders = [];
   files = t.files;
 }

@@ -42,11 +42,16 @@ Compiles YANG 1.1 modules (RFC 7950) and prints `nodes: N`, the number of nodes
 in their schema. Each `uses` is expanded, and nodes that an if-feature removes are
 not counted. If the modules are invalid, one line, FILE:LINE: NAME, reports the
 first error. Every module or submodule that a module imports or includes must be
-among the files, or in a folder that --path names. No document is read.",
+among the files, or in a folder that --path names. No document is read.
+
+With --measures, lines `m: M`, `u: U` and `w: W` follow: a validation of a document
+with N members and items takes at most (N + 1) * (M + U + W + 1) steps. With
+--format json the result is a JSON object on one line.",
     closing: "\
 Examples:
   yangcheck compile example.yang types.yang
   yangcheck compile --path models --max-nodes 5000 example.yang
+  yangcheck compile --format json --measures --path models example.yang
 
 Exit status:
   0  compiled
@@ -96,13 +101,18 @@ has labels, with one it has none; --each file asks for labels. A label is the na
 a document, and with --each line also the number of its line. Each line begins with
 one, and the last line is `valid: V of N`. The exit status is the greatest of the
 documents'. A document that cannot be read does not keep the others from being
-validated.",
+validated.
+
+With --measures, a line `steps: S of B` follows `valid` or `faults: N`: the steps
+that were taken, and the most that a document of this size may take. With
+--format json each line is a JSON object.",
     closing: "\
 Examples:
   yangcheck validate --data config.json example.yang types.yang
   yangcheck validate --data config.json --path models example.yang
   yangcheck validate --data a.json --data b.json --path models example.yang
   yangcheck validate --each line --data log.ndjson --path models example.yang
+  yangcheck validate --format json --data config.json --path models example.yang
 
 Exit status:
   0  valid
@@ -143,6 +153,12 @@ What F holds: file (a document), line (documents on lines), name (file names on 
 
 pub const KIND: &str = "\
 What the document holds: data (configuration and state) or config (configuration alone) [default: data]";
+
+pub const FORMAT: &str = "\
+The form of standard output: text or json (a JSON object on each line) [default: text]";
+
+pub const MEASURES: &str = "\
+Print what bounds the work of a validation: m, u and w of the schema, or the steps of each document";
 
 pub const FILE: &str = "The files of the YANG modules and submodules (at most 256)";
 

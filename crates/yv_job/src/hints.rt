@@ -3,7 +3,7 @@ use std::alloc::{AllocError, Global};
 
 const FOLDER_WORDS: &[&str] = &["-p", "--searchpath", "--search-path", "-D", "--search-dir"];
 
-const TREE_WORDS: &[&str] = &["-f", "--format", "-ftree", "--tree"];
+const TREE_WORDS: &[&str] = &["-f", "-ftree", "--tree"];
 
 const CHECK_WORDS: &[&str] = &[
     "lint",

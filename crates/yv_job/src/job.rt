@@ -14,6 +14,33 @@ pub enum Command {
     Validate(String),
 }
 
+/// The form of standard output, by the word of `--format`.
+#[derive(Clone, Copy, PartialEq, Eq, Debug)]
+pub enum OutputForm {
+    /// Lines of text, as people read them.
+    Text,
+    /// A JSON object on each line, as programs read them.
+    Json,
+}
+
+/// The options of standard output.
+#[derive(Clone, Copy, PartialEq, Eq, Debug)]
+pub struct OutputOptions {
+    /// Its form.
+    pub form: OutputForm,
+    /// Whether it says what bounds the steps of a validation: the measures of the schema, or the
+    /// steps of each document.
+    pub measures: bool,
+}
+
+impl OutputOptions {
+    /// Text without measures: what there is without an option.
+    pub const USUAL: OutputOptions = OutputOptions {
+        form: OutputForm::Text,
+        measures: false,
+    };
+}
+
 /// A job: a command over files that were named, or found in folders.
 #[derive(Debug, Drop)]
 pub struct Job {
@@ -25,6 +52,9 @@ pub struct Job {
     pub selection: Selection,
     /// What a document is checked as. It is all data for a job that checks none.
     pub kind: Kind,
+    /// What standard output is like. Diagrams are always text, and so is what a run over one document
+    /// writes of it.
+    pub output: OutputOptions,
     /// How the files were found, where folders were searched. Only notes for a person depend on it.
     pub search: Option<FolderSearch>,
 }

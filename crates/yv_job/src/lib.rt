@@ -15,7 +15,7 @@ mod syntax;
 mod words;
 
 pub use folder_search::FolderSearch;
-pub use job::{Command, Job};
+pub use job::{Command, Job, OutputForm, OutputOptions};
 pub use laws::words_ask_once;
 pub use request::{Action, Each, JobFault, Request};
 pub use words::read_request;

@@ -2,14 +2,15 @@
 ghost use Rattle.std.specs.Prelude.{◌≡◌, ◌≤◌, ℕ, List, length, IfSome, IfOk, IfErr, MatchOption, [], codes, map, option_map, string_bytes};
 ghost use Rattle.std.specs.Option.{unwrap_or};
 ghost use Rattle.clap.specs.Words.{subcommand_rows_of, found_of, rows_of, all_of, first_of};
-ghost use Rattle.yv_job.specs.{Asks.{AsksIn, Asks, IsChoice, IsAsked, IsFiles}, Requests.{ActionAsked, request_of, action_of, NamesFiles, IsLimited}, Faults.{IsReason, TellsReason}, Matches.{AsksForNothing}};
+ghost use Rattle.yv_job.specs.{Asks.{AsksIn, Asks, IsChoice, IsAsked, IsFiles, IsFlag, IsOutput}, Requests.{ActionAsked, request_of, action_of, NamesFiles, IsLimited}, Faults.{IsReason, TellsReason}, Matches.{AsksForNothing}};
 ghost use Rattle.yv_text_statement.specs.Selection.{ModuleChoice, selected_of};
+ghost use Rattle.yv_job.specs.declared.job.OutputOptions.{OutputOptions as TheOutput};
 
-use crate::job::Command;
+use crate::job::{Command, OutputForm, OutputOptions};
 use crate::names::copy_texts;
-use crate::options::{each_value, imports_value, kind_value, limit_of, support_value};
+use crate::options::{each_value, form_value, imports_value, kind_value, limit_of, support_value};
 use crate::reasons::{
-    COMMAND, EACH, IMPORTS, KINDS, NODES, SUPPORT, files_line, usage, value_line,
+    COMMAND, EACH, FORMS, IMPORTS, KINDS, NODES, SUPPORT, files_line, usage, value_line,
 };
 use crate::request::{Action, Each, Request};
 use clap::ArgMatches;
@@ -38,15 +39,16 @@ fn check_of(
     alloc: Global,
     below: &ArgMatches<'_>,
     each: Option<Each>,
+    form: OutputForm,
 ) -> Result<Option<Action>, AllocError>
     ensures { let rows = rows_of (found_of below.now) in
         IfOk result
-        (λ o. MatchOption o ((a : ActionAsked) → IsAsked (codes "validate") rows each a → ⊥)
-        (λ a. IsAsked (codes "validate") rows each (action_of a))) }
+        (λ o. MatchOption o ((a : ActionAsked) → IsAsked (codes "validate") rows each form a → ⊥)
+        (λ a. IsAsked (codes "validate") rows each form (action_of a))) }
 {
     match all(below, "data") {
         None | Some([]) => Ok(None),
-        Some([file]) if each.is_none() => {
+        Some([file]) if each.is_none() && form == OutputForm::Text => {
             let name = String::from_str(alloc, file)?;
             Ok(Some(Action::Run(Command::Validate(name))))
         }
@@ -60,10 +62,12 @@ fn action_of(
     name: &str,
     below: &ArgMatches<'_>,
     each: Option<Each>,
+    form: OutputForm,
 ) -> Result<Option<Action>, AllocError>
     ensures { let rows = rows_of (found_of below.now) in
-        IfOk result (λ o. MatchOption o ((a : ActionAsked) → IsAsked name.now rows each a → ⊥)
-        (λ a. IsAsked name.now rows each (action_of a))) }
+        IfOk result
+        (λ o. MatchOption o ((a : ActionAsked) → IsAsked name.now rows each form a → ⊥)
+        (λ a. IsAsked name.now rows each form (action_of a))) }
 {
     if name == "compile" {
         return Ok(Some(Action::Run(Command::Compile)));
@@ -81,9 +85,40 @@ fn action_of(
         };
     }
     if name == "validate" {
-        return check_of(alloc, below, each);
+        return check_of(alloc, below, each, form);
     }
     Ok(None)
+}
+
+// Whether a flag was given.
+fn has_flag(matches: &ArgMatches<'_>, id: &str) -> bool
+    ensures { IsFlag (first_of id.now (rows_of (found_of matches.now))) result }
+{
+    match first(matches, id) {
+        Some(text) => text == "true",
+        None => false,
+    }
+}
+
+// What standard output is to be like, or the line about the option that is wrong.
+fn output_of(
+    alloc: Global,
+    below: &ArgMatches<'_>,
+) -> Result<Result<OutputOptions, String>, AllocError>
+    ensures output { let rows = rows_of (found_of below.now) in
+        IfOk result (λ r. IfOk r (λ o. IsOutput rows o)) }
+    ensures nothing { let rows = rows_of (found_of below.now) in
+        IfOk result (λ r. IfErr r (λ _. (o : TheOutput) → IsOutput rows o → ⊥)) }
+    ensures reason { let rows = rows_of (found_of below.now) in
+        IfOk result
+        (λ r. IfErr r (λ line. (name : List ℕ) → IsReason name rows (string_bytes line))) }
+{
+    let word = first(below, "format");
+    let Some(form) = form_value(word) else {
+        return Ok(Err(value_line(alloc, "format", FORMS, word)?));
+    };
+    let measures = has_flag(below, "measures");
+    Ok(Ok(OutputOptions { form, measures }))
 }
 
 // The folders that are to be searched.
@@ -170,7 +205,11 @@ fn request_of_command(
     let Some(each) = each_value(word) else {
         return Ok(Err(value_line(alloc, "each", EACH, word)?));
     };
-    let Some(action) = action_of(alloc, name, below, each)? else {
+    let output = match output_of(alloc, below)? {
+        Ok(output) => output,
+        Err(line) => return Ok(Err(line)),
+    };
+    let Some(action) = action_of(alloc, name, below, each, output.form)? else {
         return Ok(Err(String::from_str(alloc, COMMAND)?));
     };
     let Some(files) = files_of(alloc, below)? else {
@@ -183,6 +222,7 @@ fn request_of_command(
         selection,
         kind,
         each,
+        output,
         folders,
         files,
     }))

@@ -1,8 +1,9 @@
 //! The values of the options that all commands share.
 ghost use Rattle.std.specs.Prelude.{◌≡◌, ◌≤◌, ◌==◌, ℕ, List, Option, slice_index, IfSome, IfOk, MatchOption, map, option_map, string_bytes};
-ghost use Rattle.yv_job.specs.{Asks.{IsDecimal, IsLimit, IsSupportFor, IsImportsFor, IsKindFor, IsEachFor}, declared.request.Each.{Each as TheEach}};
+ghost use Rattle.yv_job.specs.{Asks.{IsDecimal, IsLimit, IsSupportFor, IsImportsFor, IsKindFor, IsEachFor, IsFormFor}, declared.{job.OutputForm.{OutputForm as TheForm}, request.Each.{Each as TheEach}}};
 ghost use Rattle.yv_text_statement.specs.{Selection.{Entry, entry_of}, declared.document_kind.Kind.{Kind as TheKind}};
 
+use crate::job::OutputForm;
 use crate::names::{names_of, support_of};
 use crate::request::Each;
 use std::alloc::{AllocError, Global};
@@ -112,6 +113,23 @@ pub fn each_value(value: Option<&str>) -> Option<Option<Each>>
     }
     if text == "name0" {
         return Some(Some(Each::Name0));
+    }
+    None
+}
+
+/// What the value of `--format` asks for: text where there is none.
+pub fn form_value(value: Option<&str>) -> Option<OutputForm>
+    ensures { let text = option_map (λ t. t.now) value.entry in
+        MatchOption result ((f : TheForm) → IsFormFor text f → ⊥) (IsFormFor text) }
+{
+    let Some(text) = value else {
+        return Some(OutputForm::Text);
+    };
+    if text == "text" {
+        return Some(OutputForm::Text);
+    }
+    if text == "json" {
+        return Some(OutputForm::Json);
     }
     None
 }

@@ -13,6 +13,9 @@ pub const KINDS: &str = "data or config";
 /// What `--each` takes.
 pub const EACH: &str = "file, line, name or name0";
 
+/// What `--format` takes.
+pub const FORMS: &str = "text or json";
+
 /// What `--support` takes.
 pub const SUPPORT: &str = "MODULE:FEATURE,FEATURE/MODULE:";
 

@@ -2,7 +2,7 @@
 ghost use Rattle.std.specs.Prelude.{◌≡◌, IfSome, MatchOption};
 ghost use Rattle.yv_job.specs.{Jobs.{Task, task_of}, Requests.{plain_request, request_of}, declared.request.JobFault.TheVariants.{NoMemory}};
 
-use crate::job::{Command, Job};
+use crate::job::{Command, Job, OutputOptions};
 use std::alloc::AllocError;
 use thiserror::Error;
 use yv_text_statement::{Kind, Selection};
@@ -42,6 +42,8 @@ pub struct Request {
     pub kind: Kind,
     /// What each source of documents holds, where that was said.
     pub each: Option<Each>,
+    /// What standard output is like.
+    pub output: OutputOptions,
     /// The folders in which the files of imported modules are looked for, in this order.
     pub folders: Vec<String>,
     /// The files that were named.
@@ -59,6 +61,7 @@ impl Request {
         let Request {
             files,
             folders,
+            output,
             each,
             kind,
             selection,
@@ -77,6 +80,7 @@ impl Request {
             limit,
             selection,
             kind,
+            output,
             search: None,
         })
     }

@@ -1,7 +1,7 @@
 //! The command line's syntax, for clap.
 ghost use Rattle.std.specs.Prelude.{◌≡◌, IfOk, false, codes};
 ghost use Rattle.clap.specs.{Words.{app_of, rule_of, new_app, with_rule, with_subcommand}, declared.builder.command.Command.TheViews.{out-Command as fields_of}};
-ghost use Rattle.yv_job.specs.CommandLine.{option_rule, required_rule, repeated_rule, required_repeated_rule, files_rule, with_shared, tree_app, validate_app, top_app, yangcheck_app};
+ghost use Rattle.yv_job.specs.CommandLine.{option_rule, required_rule, repeated_rule, required_repeated_rule, flag_rule, files_rule, with_output, with_shared, compile_app, tree_app, validate_app, top_app, yangcheck_app};
 
 use crate::help::{self, CommandHelp};
 use clap::{Arg, ArgAction, Command};
@@ -48,6 +48,17 @@ fn required_repeated_option<'a>(
     repeated_option(alloc, id, value, help).required(true)
 }
 
+// `--id`, at most once.
+fn flag<'a>(alloc: Global, id: &'a str, help: &'a str) -> Arg<'a>
+    ensures rule { rule_of result ≡ flag_rule id.entry.now }
+    ensures local { result.global ≡ false }
+{
+    Arg::new(alloc, id)
+        .long(id)
+        .help(help)
+        .action(ArgAction::SetTrue)
+}
+
 fn files<'a>(alloc: Global) -> Arg<'a>
     ensures rule { rule_of result ≡ files_rule }
     ensures local { result.global ≡ false }
@@ -92,6 +103,18 @@ fn with_command<'a>(command: Command<'a>, below: Command<'a>) -> Result<Command<
     command.subcommand(below)
 }
 
+// The command with what says how results are written.
+fn with_output_options<'a>(alloc: Global, command: Command<'a>) -> Result<Command<'a>, AllocError>
+    requires { (fields_of command).has_globals ≡ false }
+    ensures app { IfOk result (λ c. app_of c ≡ with_output (app_of command.entry)) }
+    ensures local { IfOk result (λ c. (fields_of c).has_globals ≡ false) }
+{
+    let form = option(alloc, "format", "F", help::FORMAT);
+    let measures = flag(alloc, "measures", help::MEASURES);
+    let formed = with_arg(command, form)?;
+    with_arg(formed, measures)
+}
+
 // The command with what all commands take.
 fn with_shared_options<'a>(alloc: Global, command: Command<'a>) -> Result<Command<'a>, AllocError>
     requires { (fields_of command).has_globals ≡ false }
@@ -121,6 +144,15 @@ fn plain_command<'a>(
     with_shared_options(alloc, command(alloc, name, help))
 }
 
+fn compile<'a>(alloc: Global) -> Result<Command<'a>, AllocError>
+    ensures app { IfOk result (λ c. app_of c ≡ compile_app) }
+    ensures local { IfOk result (λ c. (fields_of c).has_globals ≡ false) }
+{
+    let command = command(alloc, "compile", &help::COMPILE);
+    let writing = with_output_options(alloc, command)?;
+    with_shared_options(alloc, writing)
+}
+
 fn tree<'a>(alloc: Global) -> Result<Command<'a>, AllocError>
     ensures app { IfOk result (λ c. app_of c ≡ tree_app) }
     ensures local { IfOk result (λ c. (fields_of c).has_globals ≡ false) }
@@ -142,7 +174,8 @@ fn validate<'a>(alloc: Global) -> Result<Command<'a>, AllocError>
     let checking = with_arg(command, data)?;
     let splitting = with_arg(checking, each)?;
     let asking = with_arg(splitting, kind)?;
-    with_shared_options(alloc, asking)
+    let writing = with_output_options(alloc, asking)?;
+    with_shared_options(alloc, writing)
 }
 
 // The program with none of its commands.
@@ -159,7 +192,7 @@ fn top<'a>(alloc: Global) -> Command<'a>
 pub fn command_line<'a>(alloc: Global) -> Result<Command<'a>, AllocError>
     ensures { IfOk result (λ c. app_of c ≡ yangcheck_app) }
 {
-    let one = with_command(top(alloc), plain_command(alloc, "compile", &help::COMPILE)?)?;
+    let one = with_command(top(alloc), compile(alloc)?)?;
     let two = with_command(one, tree(alloc)?)?;
     let three = with_command(two, validate(alloc)?)?;
     with_command(three, plain_command(alloc, "files", &help::FILES)?)

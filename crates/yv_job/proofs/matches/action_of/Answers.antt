@@ -8,4 +8,4 @@ returns-in_ok-name-in-Some c =
     (search rules, sym c.in-Some.ensures ∙ ap (λ t. Some t) (sym c.in_ok-name-in-Some.ensures.ok))
 
 pub returns-in-None : goal.returns-in-None
-returns-in-None c = no_module c.args.name.now (rows_of (found_of c.args.below.now)) c.args.each (search rules) c.in-None.ensures
+returns-in-None c = no_module c.args.name.now (rows_of (found_of c.args.below.now)) c.args.each c.args.form (search rules) c.in-None.ensures
