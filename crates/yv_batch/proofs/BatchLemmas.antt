@@ -14,7 +14,6 @@ use Rattle.yv_batch.specs.Batch.{IsTally, batch_level, documents_text, total_tex
 use Rattle.yv_batch.specs.Supply.{AreAll, IsLost, IsSplit, LosesOne, Split, Takes, is_end}
 use Rattle.yv_batch.specs.InnerBatch.{IsAnswer, IsAnswered, IsSeen, BeginsAnswer, without_room}
 use Rattle.yv_batch.specs.Level.{level_number}
-use Rattle.yv_batch.specs.declared.batch.BatchEnd.{BatchEnd}
 use Rattle.yv_batch.specs.declared.batch.BatchEnd.TheVariants as ended
 use Rattle.yv_batch.specs.declared.batch.Tally.{Tally}
 use Rattle.yv_batch.specs.declared.documents.Fetched.{Fetched}

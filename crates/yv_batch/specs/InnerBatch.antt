@@ -1,13 +1,11 @@
 -- Only private clauses cite this: how far the answers have come.
-use Rattle.std.specs.Prelude.{◌≡◌, ◌⊎◌, ◌^◌, ◌-◌, ℕ, List, [], ◌∷◌, ◌++◌, Bool, false, length, take}
+use Rattle.std.specs.Prelude.{◌≡◌, ◌⊎◌, ℕ, List, Bool, false, take}
 use Rattle.std.specs.declared.option.Option.{Option}
 use Rattle.std.specs.Io.KnownBytes.{Appends}
 use Rattle.yv_batch.specs.AskedDocument.{AskedDocument, NoRoom}
 use Rattle.yv_batch.specs.Batch.{IsTally, documents_text}
 use Rattle.yv_batch.specs.Level.{level_number}
-use Rattle.yv_batch.specs.Supply.{AreAll, Split}
-use Rattle.yv_batch.specs.declared.batch.BatchEnd.{BatchEnd}
-use Rattle.yv_batch.specs.declared.batch.BatchEnd.TheVariants as ended
+use Rattle.yv_batch.specs.Supply.{Split}
 use Rattle.yv_batch.specs.declared.batch.Tally.{Tally}
 use Rattle.yv_batch.specs.declared.level.Level.{Level}
 

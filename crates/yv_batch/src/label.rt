@@ -75,9 +75,6 @@ fn digit(value: u8) -> u8
     requires { value < 16 }
     ensures { result ≡ hexadecimal value }
 {
-    if value < 10 {
-        b'0' + value
-    } else {
-        b'A' + value - 10
-    }
+    let from = if value < 10 { b'0' } else { b'A' - 10 };
+    from + value
 }

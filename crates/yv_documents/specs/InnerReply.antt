@@ -12,6 +12,7 @@ use Rattle.yv_json_lines.specs.declared.document.DocumentVerdict.TheVariants as 
 use Rattle.yv_json_lines.specs.declared.document.ValidationCost.{ValidationCost}
 use Rattle.yv_documents.specs.DocumentLines.{cost_lines}
 use Rattle.yv_documents.specs.DocumentResults.{results_text}
+use Rattle.yv_documents.specs.Steps.{steps_line}
 use Rattle.yv_documents.specs.declared.reply.Reply.{Reply}
 
 -- that there are no faults, or how many they are
@@ -39,6 +40,11 @@ abbrev pub cost_said : (measures : Bool) → ValidationCost → Option Validatio
 cost_said false cost = None
 cost_said true cost = Some cost
 
+-- the line of a cost of a document of this label, where it is said
+abbrev pub cost_text : (label : List ℕ) → Option ValidationCost → List ℕ
+cost_text label None = []
+cost_text label (Some cost) = label_line label (steps_line cost)
+
 -- the lines of faults and of a verdict
 abbrev pub reply_lines : List Flaw → DocumentVerdict → List (List ℕ)
 reply_lines flaws v = map line_text flaws ++ verdict_line v ∷ cost_lines (cost_in v)
@@ -54,9 +60,13 @@ reply_text form.Json name line flaws v = results_text name line flaws v
 abbrev pub text_of : OutputForm → (name : List ℕ) → (line : Option ℕ) → Reply → List ℕ
 text_of f name line r = reply_text f name line r.faults.now r.verdict
 
--- how good the document is
+-- how good a document of so many faults is
+abbrev pub number_level : ℕ → ℕ
+number_level n = if n == 0 then 0 else 1
+
+-- how good a document of this verdict is
 abbrev pub verdict_level : DocumentVerdict → ℕ
-verdict_level (verdict.Validated faults cost) = if faults == 0 then 0 else 1
+verdict_level (verdict.Validated faults cost) = number_level faults
 verdict_level verdict.TooLarge = 2
 verdict_level verdict.NotJson = 2
 verdict_level verdict.CannotRead = 3

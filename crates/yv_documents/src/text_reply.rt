@@ -3,7 +3,7 @@ ghost use Rattle.std.specs.Prelude.{◌≡◌, ◌++◌, ◌==◌, codes, decima
 ghost use Rattle.yv_data_faults.specs.Line.{line_text};
 ghost use Rattle.yv_base_streams.specs.{Stream.{has_failed, stream_inner}, Pages.{Adds, paged_output}};
 ghost use Rattle.yv_batch.specs.Label.{label_line, label_of};
-ghost use Rattle.yv_documents.specs.{DocumentLines.{cost_lines}, Lines.{ended_line}, InnerReply.{cost_in, number_line, reply_lines, verdict_line}};
+ghost use Rattle.yv_documents.specs.{Lines.{ended_line}, InnerReply.{cost_in, cost_text, number_line, reply_lines, verdict_line}};
 
 use crate::costs::put_steps;
 use crate::lines::{put_count, put_line};
@@ -29,7 +29,7 @@ pub(crate) fn put_text_reply<W: Write>(
         (paged_output W.contents writer.new page.new) }
 {
     put_label_faults(page, writer, name, line, reply.faults);
-    put_verdict(page, writer, name, line, reply.verdict);
+    put_label_verdict(page, writer, name, line, reply.verdict);
     put_cost(page, writer, name, line, cost_in(reply.verdict));
 }
 
@@ -69,8 +69,8 @@ fn put_label_fault<W: Write>(
     put_line(page, writer, fault);
 }
 
-// Puts the line of a verdict.
-fn put_verdict<W: Write>(
+// Puts the line of a verdict, with the label.
+fn put_label_verdict<W: Write>(
     page: &mut Page,
     writer: &mut Counted<W>,
     name: &[u8],
@@ -83,6 +83,15 @@ fn put_verdict<W: Write>(
 {
     put_label(page, writer, name, line);
     page.put(writer, b": ");
+    put_verdict(page, writer, verdict);
+}
+
+// Puts the line of a verdict.
+fn put_verdict<W: Write>(page: &mut Page, writer: &mut Counted<W>, verdict: DocumentVerdict)
+    ensures { Adds (ended_line (verdict_line verdict))
+        (paged_output W.contents writer.old page.old)
+        (paged_output W.contents writer.new page.new) }
+{
     match verdict {
         DocumentVerdict::Validated { faults, .. } => put_number(page, writer, faults),
         DocumentVerdict::TooLarge => page.put(writer, b"data: too large\n"),
@@ -112,7 +121,7 @@ fn put_cost<W: Write>(
     line: Option<u64>,
     cost: Option<ValidationCost>,
 )
-    ensures { Adds (flat_map (label_line (label_of name.now line)) (cost_lines cost))
+    ensures { Adds (cost_text (label_of name.now line) cost)
         (paged_output W.contents writer.old page.old)
         (paged_output W.contents writer.new page.new) }
 {

@@ -4,7 +4,7 @@ use Rattle.yv_base_streams.specs.Pages.{Adds, output_of}
 use Rattle.yv_data_faults.specs.Flaw.{Flaw}
 use Rattle.yv_data_faults.specs.Line.{line_text}
 use Rattle.yv_batch.specs.Label.{label_line, label_of}
-use Rattle.yv_documents.proofs.reply.put_fault_lines.Given as goal
+use Rattle.yv_documents.proofs.text_reply.put_label_faults.Given as goal
 
 abbrev pub invariant-loop-fault : goal.invariant-loop-fault
 invariant-loop-fault g l =

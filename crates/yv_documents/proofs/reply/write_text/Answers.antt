@@ -1,14 +1,13 @@
-use Rattle.std.proofs.Common.{◌≡◌, [], sym, ◌∙◌, false, flat_map}
+use Rattle.std.proofs.Common.{◌≡◌, [], sym, ◌∙◌, false}
 use Rattle.yv_base_streams.specs.Stream.{has_failed, stream_failures, stream_inner}
 use Rattle.yv_base_streams.proofs.PageWrites.{all_written, front_written, none_written, not_failed, not_failed_yet, once_written}
-use Rattle.yv_batch.specs.Label.{label_line, label_of}
-use Rattle.yv_documents.specs.InnerReply.{reply_lines}
-use Rattle.yv_documents.proofs.reply.write_lines.Goals as goal
+use Rattle.yv_documents.specs.InnerReply.{text_of}
+use Rattle.yv_documents.proofs.reply.write_text.Goals as goal
 
 pub returns-clause-ends : goal.returns-clause-ends
 returns-clause-ends g c = λ e. (
     let start = g.W.Write.contents (stream_inner c.args.writer.now) in
-    let text = flat_map (label_line (label_of c.args.name.now c.args.line)) (reply_lines c.args.reply.now) in
+    let text = text_of c.args.form c.args.name.now c.args.line c.args.reply.now in
     let works : has_failed c.turn.new.writer ≡ false = sym c.has_failed.ensures ∙ not_failed c.has_failed.result e in
     all_written start (g.W.Write.contents (stream_inner c.turn.new.writer)) text c.turn.new.self (has_failed c.turn.new.writer) (stream_failures c.turn.new.writer)
     (c.turn.ensures.pages start text (c.put_reply.ensures start []
@@ -17,7 +16,7 @@ returns-clause-ends g c = λ e. (
 pub returns-clause-part : goal.returns-clause-part
 returns-clause-part g c =
     let start = g.W.Write.contents (stream_inner c.args.writer.now) in
-    let text = flat_map (label_line (label_of c.args.name.now c.args.line)) (reply_lines c.args.reply.now) in
+    let text = text_of c.args.form c.args.name.now c.args.line c.args.reply.now in
     front_written start (g.W.Write.contents (stream_inner c.turn.new.writer)) text c.turn.new.self (has_failed c.turn.new.writer) (stream_failures c.turn.new.writer)
     (c.turn.ensures.pages start text (c.put_reply.ensures start []
     (none_written start (has_failed c.args.writer.now) (stream_failures c.args.writer.now) c.new-page.result c.new-page.ensures (not_failed_yet c.args.writer.now c.requires))))
@@ -25,7 +24,7 @@ returns-clause-part g c =
 pub returns-clause-once : goal.returns-clause-once
 returns-clause-once g c =
     let start = g.W.Write.contents (stream_inner c.args.writer.now) in
-    let text = flat_map (label_line (label_of c.args.name.now c.args.line)) (reply_lines c.args.reply.now) in
+    let text = text_of c.args.form c.args.name.now c.args.line c.args.reply.now in
     once_written start (g.W.Write.contents (stream_inner c.turn.new.writer)) text c.turn.new.self (has_failed c.turn.new.writer) (stream_failures c.turn.new.writer)
     (c.turn.ensures.pages start text (c.put_reply.ensures start []
     (none_written start (has_failed c.args.writer.now) (stream_failures c.args.writer.now) c.new-page.result c.new-page.ensures (not_failed_yet c.args.writer.now c.requires))))
