@@ -1,4 +1,4 @@
-"""Reads what the pages of docs/ and README.md show of the program: commands with their output, and samples.
+"""Reads what the pages of docs/, README.md and SECURITY.md show of the program: commands with their output, and samples.
 
 A `console` block of a page has commands after `$ `, each with what it prints: standard output, then standard error. They run at the top
 of the repository. `bin/yangcheck` and `yangcheck` are both the program under test; a command that runs another program isn't tried

@@ -37,6 +37,7 @@ _yangcheck_value() {
     --data) _yangcheck_files .json "$word" ;;
     --each) _yangcheck_words "file line name name0" "$word" ;;
     --kind) _yangcheck_words "data config" "$word" ;;
+    --format) _yangcheck_words "text json" "$word" ;;
     --module) _yangcheck_words "$(_yangcheck_module_names)" "$word" ;;
     --support) _yangcheck_words "$(_yangcheck_module_names | sed 's/$/:/')" "$word" ;;
     --import-only)
@@ -56,6 +57,7 @@ _yangcheck_options() {
   local options=(--max-nodes --support --import-only --help)
   [ "$command" = tree ] && options+=(--module)
   [ "$command" = validate ] && options+=(--each --kind) && left+=(--data)
+  [[ $command == compile || $command == validate ]] && options+=(--format --measures)
   for option in "${options[@]}"; do
     [[ " ${COMP_WORDS[*]:2} " == *" $option "* && $option != "$word" ]] || left+=("$option")
   done

@@ -24,18 +24,27 @@ pub(crate) fn note_count() -> Cell<u32> {
 pub(crate) struct ErrorNotes<'a, R> {
     rt: &'a R,
     left: &'a Cell<u32>,
+    has_labels: bool,
 }
 
 impl<'a, R> ErrorNotes<'a, R> {
-    /// The place of notes, of which so many are left.
-    pub(crate) fn new(rt: &'a R, left: &'a Cell<u32>) -> ErrorNotes<'a, R> {
-        ErrorNotes { rt, left }
+    /// The place of notes, of which so many are left. Their lines may have labels.
+    pub(crate) fn new(rt: &'a R, left: &'a Cell<u32>, has_labels: bool) -> ErrorNotes<'a, R> {
+        ErrorNotes {
+            rt,
+            left,
+            has_labels,
+        }
     }
 }
 
 impl<R: Eprint> NoteSink for ErrorNotes<'_, R> {
     fn wants_note(&self) -> bool {
         self.left.get() > 0
+    }
+
+    fn wants_labels(&self) -> bool {
+        self.has_labels
     }
 
     fn show(&mut self, note: &str) {

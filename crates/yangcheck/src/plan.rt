@@ -10,7 +10,7 @@ use std::alloc::{AllocError, Global};
 use std::collections::VecDeque;
 use yv_base_streams::Input;
 use yv_batch::SourceKind;
-use yv_job::{Action, Command, Each, FolderSearch, Job, Request};
+use yv_job::{Action, Command, Each, FolderSearch, Job, OutputForm, Request};
 use yv_search::{files_text, import_only};
 use yv_text_statement::Selection;
 
@@ -71,21 +71,25 @@ fn search_result(
     Ok((selection, Some(search)))
 }
 
-/// Sources of documents: what each holds, and their names in order.
+/// Sources of documents: what each holds, whether lines about a document name it, and the names of
+/// the sources in order.
 #[derive(Drop)]
 pub(crate) struct Batch {
     pub(crate) kind: SourceKind,
+    pub(crate) has_labels: bool,
     pub(crate) sources: VecDeque<String>,
 }
 
 impl Batch {
-    // The sources of these names, by the word that says what each holds.
-    fn new(each: Option<Each>, sources: Vec<String>) -> Batch
+    // The sources of these names, by the word that says what each holds. One document of which
+    // results are JSON is spoken of as one document of which they are text.
+    fn new(each: Option<Each>, form: OutputForm, sources: Vec<String>) -> Batch
         ensures kind { result.kind ≡ kind_of each }
         ensures sources { result.sources.items ≡ sources.items }
     {
         Batch {
             kind: kind_of(each),
+            has_labels: form == OutputForm::Text || each.is_some() || sources.len() > 1,
             sources: VecDeque::from(sources),
         }
     }
@@ -126,13 +130,17 @@ pub(crate) fn plan_of(alloc: Global, request: Request, files: &[Input]) -> Resul
         selection,
         kind,
         each,
+        output,
         folders,
         files: named_files,
     } = request;
     let named = named_files.len();
     let (command, batch) = match action {
         Action::Run(command) => (command, None),
-        Action::ValidateAll(sources) => (Command::Compile, Some(Batch::new(each, sources))),
+        Action::ValidateAll(sources) => {
+            let batch = Batch::new(each, output.form, sources);
+            (Command::Compile, Some(batch))
+        }
         Action::Files => {
             let text = files_text(alloc, files, named, selection.import_only.as_slice())?;
             return Ok(Plan::Print(text));
@@ -145,6 +153,7 @@ pub(crate) fn plan_of(alloc: Global, request: Request, files: &[Input]) -> Resul
         limit,
         selection,
         kind,
+        output,
         search,
     };
     Ok(plan_for(job, batch))

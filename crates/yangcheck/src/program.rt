@@ -218,10 +218,15 @@ fn documents_of<'a, R: Files + io::Input + Eprint>(
     Sources<SourceReader<'a, R::Reader, R::File>, SystemStore<'a, R>, SystemStore<'a, R>>,
     ErrorNotes<'a, R>,
 > {
-    let Batch { kind, sources } = batch;
+    let Batch {
+        kind,
+        has_labels,
+        sources,
+    } = batch;
     let (opener, files) = (SystemStore::new(rt, failure), SystemStore::new(rt, failure));
     let sources = Sources::new(kind, sources, opener, files);
-    NotedDocuments::new(sources, ErrorNotes::new(rt, left), failure)
+    let notes = ErrorNotes::new(rt, left, has_labels);
+    NotedDocuments::new(sources, notes, failure)
 }
 
 // Compiles the files of the job, and checks the documents of the sources, each of which is opened
@@ -237,8 +242,8 @@ fn run_batch<R: Files + io::Input + Print + Eprint + AllocGlobal>(
     requires each { length inputs.now ≡ length job.now.files.items }
 {
     let (failure, left) = (Cell::new(None), note_count());
+    let mut notes = ErrorNotes::new(rt, &left, batch.has_labels);
     let mut documents = documents_of(rt, batch, &failure, &left);
-    let mut notes = ErrorNotes::new(rt, &left);
     answer_documents(rt, job, inputs, &mut documents, &mut notes)
 }
 

@@ -13,8 +13,8 @@ use Rattle.yv_documents.specs.Document.{DocumentText, TooLarge, NotJson, Reads, 
 use Rattle.yv_documents.specs.DocumentLines.{faults_in}
 use Rattle.yv_documents.specs.Steps.{cost_if}
 
--- the verdict on a document of a kind, by what its bytes are; what its validation cost is said where
--- measures are asked for
+-- the verdict on a document of a kind, by what its bytes are; what its validation cost is said
+-- where measures are asked for
 abbrev pub reading_verdict : (measures : Bool) → Kind → Rows → DocumentText → DocumentVerdict
 reading_verdict measures k s TooLarge = verdict.TooLarge
 reading_verdict measures k s NotJson = verdict.NotJson

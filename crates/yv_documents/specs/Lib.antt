@@ -1,4 +1,5 @@
 pub mod Lines
+pub mod VerdictText
 pub mod Document
 pub mod Steps
 pub mod DocumentLines

@@ -13,6 +13,7 @@ mod notes;
 mod output;
 mod reply;
 mod text_reply;
+mod verdict_text;
 
 pub use answer::DocumentAnswer;
 pub use costs::{cost_of, steps_text};
@@ -20,3 +21,4 @@ pub use document::{Document, read_document};
 pub use lines::write_faults;
 pub use notes::{NoteSink, document_note};
 pub use output::flush_all;
+pub use verdict_text::write_checked;

@@ -52,7 +52,7 @@ pub(crate) fn put_count<W: Write>(page: &mut Page, writer: &mut Counted<W>, coun
 
 // Puts the lines of faults after what a page holds, each with a line feed, and writes each full
 // page.
-fn put_lines<W: Write>(page: &mut Page, writer: &mut Counted<W>, faults: &[Fault])
+pub(crate) fn put_lines<W: Write>(page: &mut Page, writer: &mut Counted<W>, faults: &[Fault])
     ensures { Adds (fault_lines faults.now) (paged_output W.contents writer.old page.old)
         (paged_output W.contents writer.new page.new) }
 {

@@ -20,6 +20,10 @@ pub trait NoteSink {
     /// nobody sees.
     fn wants_note(&self) -> bool;
 
+    /// Whether each line of a note begins with the label of its document, as it does where there
+    /// may be other documents.
+    fn wants_labels(&self) -> bool;
+
     /// Shows a note. Each of its lines ends with a line feed.
     fn show(&mut self, note: &str);
 }
@@ -88,9 +92,25 @@ impl<N: NoteSink> Notes<'_, N> {
         let (document, faults) = (&findings.document, findings.faults.as_slice());
         let note = document_note(alloc, self.job, self.schema, document, faults, bytes);
         if let Ok(Some(note)) = note
-            && let Some(text) = label_note(alloc, name, line, note.as_str())
+            && let Some(text) = self.text_of(alloc, name, line, note)
         {
             self.sink.show(text.as_str());
+        }
+    }
+
+    // The text of a note on that document, with its label in front of each line where that is
+    // wanted. None if there is no memory for it.
+    fn text_of(
+        &self,
+        alloc: Global,
+        name: &[u8],
+        line: Option<u64>,
+        note: String,
+    ) -> Option<String> {
+        if self.sink.wants_labels() {
+            label_note(alloc, name, line, note.as_str())
+        } else {
+            Some(note)
         }
     }
 }

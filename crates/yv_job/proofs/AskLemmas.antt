@@ -89,13 +89,13 @@ same_word t each.Name0 each.Line h i = let e : 110 ≡ 108 = ap first_byte (sym 
 same_word t each.Name0 each.Name h i = let e : 5 ≡ 4 = ap length (sym h ∙ i) in absurd (omega (arith, e))
 same_word t each.Name0 each.Name0 h i = refl
 
-same_each : (t : Option Text) (d e : Option Each) → IsEachFor t d → IsEachFor t e → d ≡ e
+pub same_each : (t : Option Text) (d e : Option Each) → IsEachFor t d → IsEachFor t e → d ≡ e
 same_each None d e h i = h ∙ sym i
 same_each (Some t) None e h i = absurd h
 same_each (Some t) (Some d) None h i = absurd i
 same_each (Some t) (Some d) (Some e) h i = ap (λ (x : Each). Some x) (same_word t d e h i)
 
-same_form : (t : Option Text) (f g : OutputForm) → IsFormFor t f → IsFormFor t g → f ≡ g
+pub same_form : (t : Option Text) (f g : OutputForm) → IsFormFor t f → IsFormFor t g → f ≡ g
 same_form None f g h i = h ∙ sym i
 same_form (Some t) form.Text form.Text h i = refl
 same_form (Some t) form.Text form.Json h i = let e : 116 ≡ 106 = ap first_byte (sym h ∙ i) in absurd (omega (arith, e))

@@ -3,9 +3,13 @@ use Rattle.std.proofs.Common.{◌≡◌, ◌⊎◌, ◌∙◌, inl, inr, ℕ, Li
 use Rattle.clap.specs.Words.{Text, Row, first_of, fault_of, IsAmong}
 use Rattle.clap.specs.declared.error.kind.ErrorKind.{ErrorKind}
 use Rattle.clap.specs.declared.error.kind.ErrorKind.TheVariants as kind
-use Rattle.yv_job.specs.Asks.{AreUnderstood, IsLimit, IsKindFor, IsSupportFor}
+use Rattle.yv_job.specs.Asks.{AreUnderstood, Asks, IsAsked, IsEachFor, IsFormFor, IsImportsFor, IsKindFor, IsLimit, IsSupportFor}
 use Rattle.yv_job.specs.CommandLine.{yangcheck_app}
-use Rattle.yv_job.specs.Faults.{IfUsage, AreRefused, IsReason, of_limit, of_kind, of_support, value_line}
+use Rattle.yv_job.specs.Faults.{IfUsage, AreRefused, IsReason, command_line, of_command, of_each, of_imports, of_kind, of_limit, of_support, value_line}
+use Rattle.yv_job.specs.Requests.{ActionAsked, RequestAsked}
+use Rattle.yv_job.specs.declared.job.OutputForm.{OutputForm}
+use Rattle.yv_job.specs.declared.request.Each.{Each}
+use Rattle.yv_job.proofs.AskLemmas.{same_each, same_form}
 use Rattle.yv_text_statement.specs.Selection.{Entry}
 use Rattle.yv_text_statement.specs.declared.document_kind.Kind.{Kind}
 use Rattle.yv_job.specs.Matches.{IsFaultFor}
@@ -37,3 +41,32 @@ pub support_line : (name : Text) (rows : List Row) (value : Option Text) (line :
     → line ≡ value_line (codes "support") (codes "MODULE:FEATURE,FEATURE/MODULE:") value → IsReason name rows line
 support_line name rows value line same unfit is =
     of_support (λ es h. unfit es (subst (λ v. IsSupportFor v es) (sym same) h)) (is ∙ ap (value_line (codes "support") (codes "MODULE:FEATURE,FEATURE/MODULE:")) same)
+
+pub imports_line : (name : Text) (rows : List Row) (value : Option Text) (line : Text) → value ≡ first_of (codes "import-only") rows → ((ns : List Text) → IsImportsFor value ns → ⊥)
+    → line ≡ value_line (codes "import-only") (codes "MODULE,MODULE") value → IsReason name rows line
+imports_line name rows value line same unfit is =
+    of_imports (λ ns h. unfit ns (subst (λ v. IsImportsFor v ns) (sym same) h)) (is ∙ ap (value_line (codes "import-only") (codes "MODULE,MODULE")) same)
+
+pub each_line : (name : Text) (rows : List Row) (value : Option Text) (line : Text) → value ≡ first_of (codes "each") rows → ((e : Option Each) → IsEachFor value e → ⊥)
+    → line ≡ value_line (codes "each") (codes "file, line, name or name0") value → IsReason name rows line
+each_line name rows value line same unfit is =
+    of_each (λ e h. unfit e (subst (λ v. IsEachFor v e) (sym same) h)) (is ∙ ap (value_line (codes "each") (codes "file, line, name or name0")) same)
+
+-- where nothing is asked for with what was read of two options, nothing is with what they may say
+pub no_action : (name : Text) (rows : List Row) (e : Option Each) (f : OutputForm) → IsEachFor (first_of (codes "each") rows) e → IsFormFor (first_of (codes "format") rows) f
+    → ((a : ActionAsked) → IsAsked name rows e f a → ⊥)
+    → (d : Option Each) (g : OutputForm) (a : ActionAsked) → IsEachFor (first_of (codes "each") rows) d → IsFormFor (first_of (codes "format") rows) g → IsAsked name rows d g a → ⊥
+no_action name rows e f is_each is_form none d g a each form asked =
+    let moved = subst (λ (x : Option Each). IsAsked name rows x g a) (same_each _ d e each is_each) asked in
+    none a (subst (λ (o : OutputForm). IsAsked name rows e o a) (same_form _ g f form is_form) moved)
+
+-- so the words ask for nothing
+pub no_request : (name : Text) (rows : List Row) (e : Option Each) (f : OutputForm) → IsEachFor (first_of (codes "each") rows) e → IsFormFor (first_of (codes "format") rows) f
+    → ((a : ActionAsked) → IsAsked name rows e f a → ⊥) → (w : RequestAsked) → Asks name rows w → ⊥
+no_request name rows e f is_each is_form none w asks =
+    no_action name rows e f is_each is_form none w.each w.output.form w.action asks.each asks.output.form asks.asked
+
+-- and the reason is that
+pub action_line : (name : Text) (rows : List Row) (e : Option Each) (f : OutputForm) (line : Text) → IsEachFor (first_of (codes "each") rows) e → IsFormFor (first_of (codes "format") rows) f
+    → ((a : ActionAsked) → IsAsked name rows e f a → ⊥) → line ≡ command_line → IsReason name rows line
+action_line name rows e f line is_each is_form none is = of_command (no_action name rows e f is_each is_form none) is

@@ -29,9 +29,10 @@ IsCommand name rows each f (Draws m) =
 IsCommand name rows each f (Checks d) =
     (name ≡ codes "validate") × (data_of rows ≡ Some (d ∷ [])) × (each ≡ None) × (f ≡ form.Text)
 
--- the sources are those that were given, one or more, and they are several, or it was said what each
--- of them holds, or JSON was asked for
-pub record AreSources (rows : List Row) (each : Option Each) (f : OutputForm) (sources : List Text) : Type 0 where
+-- the sources are those that were given, one or more, and they are several, or it was said what
+-- each of them holds, or JSON was asked for
+pub record AreSources (rows : List Row) (each : Option Each) (f : OutputForm)
+    (sources : List Text) : Type 0 where
   pub given : data_of rows ≡ Some sources
   pub some : 1 ≤ length sources
   pub many : (2 ≤ length sources) ⊎ (IsSome each ⊎ (f ≡ form.Json))

@@ -52,8 +52,8 @@ pub struct Job {
     pub selection: Selection,
     /// What a document is checked as. It is all data for a job that checks none.
     pub kind: Kind,
-    /// What standard output is like. Diagrams are always text, and so is what a run over one document
-    /// writes of it.
+    /// What standard output is like. Diagrams are always text, and so is what a run over one
+    /// document writes of it.
     pub output: OutputOptions,
     /// How the files were found, where folders were searched. Only notes for a person depend on it.
     pub search: Option<FolderSearch>,

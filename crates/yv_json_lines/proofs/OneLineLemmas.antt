@@ -10,13 +10,15 @@ use Rattle.std.proofs.lemmas.List.Elements.{All-append, All-cons, All-nil}
 use Rattle.json.specs.Print.{escape, escape_byte, escape_letter, quoted}
 use Rattle.serde_json.specs.Data.{Members, no_members}
 use Rattle.serde_json.specs.Written.{comma_if, members_text}
+use Rattle.yv_schema_tables.specs.declared.measures.Measures.{Measures}
 use Rattle.yv_data_faults.specs.Flaw.{Flaw}
 use Rattle.yv_data_faults.specs.Line.{kind_name, path_text}
-use Rattle.yv_json_lines.specs.OneLine.{Fits, IsInLine, IsOneLine, LineFits, VerdictFits}
+use Rattle.yv_json_lines.specs.OneLine.{CostFits, Fits, IsInLine, IsOneLine, LineFits, MeasuresFit, VerdictFits}
 use Rattle.yv_json_lines.specs.Pointer.{pointer_text}
-use Rattle.yv_json_lines.specs.Values.{count_value, document_value, fault_value, faults_member, json_line, line_member, number_member, refusal_value, result_value, run_value, shown_name, text_member, verdict_name}
+use Rattle.yv_json_lines.specs.Values.{cost_members, count_value, document_value, fault_value, faults_members, json_line, line_member, measures_members, number_member, refusal_value, result_value, run_value, shown_name, text_member, verdict_name}
 use Rattle.yv_json_lines.specs.declared.document.DocumentVerdict.{DocumentVerdict}
 use Rattle.yv_json_lines.specs.declared.document.DocumentVerdict.TheVariants as verdict
+use Rattle.yv_json_lines.specs.declared.document.ValidationCost.{ValidationCost}
 
 one : (b : ℕ) → IsInLine b → All IsInLine (b ∷ [])
 one b h = All-cons IsInLine b [] h (All-nil IsInLine)
@@ -90,8 +92,18 @@ with_line : (line : Option ℕ) (ms : Members) → LineFits line → AreInLine t
 with_line None ms fits h = h
 with_line (Some n) ms fits h = with_number true (codes "line") n ms fits h
 
-with_faults : (v : DocumentVerdict) → VerdictFits v → AreInLine true (faults_member v no_members)
-with_faults (verdict.Validated count) fits = with_number true (codes "faults") count no_members fits (at_end true)
+with_measures : (measures : Option Measures) → MeasuresFit measures → AreInLine true (measures_members measures)
+with_measures None fit = at_end true
+with_measures (Some s) fit =
+    with_number true (codes "m") s.m _ fit.0 (with_number true (codes "u") s.u _ fit.1 (with_number true (codes "w") s.w no_members fit.2 (at_end true)))
+
+with_cost : (cost : Option ValidationCost) → CostFits cost → AreInLine true (cost_members cost)
+with_cost None fits = at_end true
+with_cost (Some c) fits =
+    with_number true (codes "n") c.size _ fits.0 (with_number true (codes "steps") c.steps _ fits.1 (with_number true (codes "bound") c.bound no_members fits.2 (at_end true)))
+
+with_faults : (v : DocumentVerdict) → VerdictFits v → AreInLine true (faults_members v)
+with_faults (verdict.Validated faults cost) fits = with_number true (codes "faults") faults _ fits.0 (with_cost cost fits.1)
 with_faults verdict.TooLarge fits = at_end true
 with_faults verdict.NotJson fits = at_end true
 with_faults verdict.CannotRead fits = at_end true
@@ -111,8 +123,8 @@ line_of result ms h = record {
   others = All-cons IsInLine 123 (members_text false (text_member (codes "result") result ms)) (large 123 (omega arith)) (with_text false (codes "result") result ms h);
 }
 
-pub count_line : (nodes : ℕ) → Fits nodes → IsOneLine (json_line (count_value nodes))
-count_line nodes fits = line_of (codes "compiled") _ (with_number true (codes "nodes") nodes no_members fits (at_end true))
+pub count_line : (nodes : ℕ) (measures : Option Measures) → Fits nodes → MeasuresFit measures → IsOneLine (json_line (count_value nodes measures))
+count_line nodes measures fits fit = line_of (codes "compiled") _ (with_number true (codes "nodes") nodes _ fits (with_measures measures fit))
 
 pub run_line : (documents valid : ℕ) → Fits documents → Fits valid → IsOneLine (json_line (run_value documents valid))
 run_line documents valid fits less = line_of (codes "run") _ (with_number true (codes "documents") documents _ fits (with_number true (codes "valid") valid no_members less (at_end true)))

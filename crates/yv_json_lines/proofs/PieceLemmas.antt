@@ -10,13 +10,15 @@ use Rattle.serde_json.specs.Data.{Members, no_members}
 use Rattle.serde_json.specs.Written.{compact_text, members_text}
 use Rattle.serde_json.proofs.OnLiterals.{serde_json_on_literals}
 use Rattle.yv_base_streams.specs.Pages.{Adds, IsPaged, Output}
+use Rattle.yv_schema_tables.specs.declared.measures.Measures.{Measures}
 use Rattle.yv_data_faults.specs.Flaw.{Flaw}
 use Rattle.yv_data_faults.specs.Line.{escape, kind_name, path_text}
-use Rattle.yv_json_lines.specs.InnerPieces.{faults_piece, flaw_piece, line_piece, position_piece, unique_piece}
+use Rattle.yv_json_lines.specs.InnerPieces.{cost_piece, faults_piece, flaw_piece, line_piece, measures_piece, position_piece, unique_piece}
 use Rattle.yv_json_lines.specs.Pointer.{pointer_text}
-use Rattle.yv_json_lines.specs.Values.{count_value, document_value, fault_value, faults_member, line_member, number_member, refusal_value, run_value, shown_name, text_member, unique_member, verdict_name}
+use Rattle.yv_json_lines.specs.Values.{cost_members, count_value, document_value, fault_value, faults_members, line_member, measures_members, number_member, refusal_value, run_value, shown_name, text_member, unique_member, verdict_name}
 use Rattle.yv_json_lines.specs.declared.document.DocumentVerdict.{DocumentVerdict}
 use Rattle.yv_json_lines.specs.declared.document.DocumentVerdict.TheVariants as verdict
+use Rattle.yv_json_lines.specs.declared.document.ValidationCost.{ValidationCost}
 
 -- ---- what is put on a page
 
@@ -29,13 +31,13 @@ adds_both a b old mid new first second =
 
 -- ---- objects
 
-pub count_pieces : (nodes : ℕ) → codes "{\"result\":\"compiled\",\"nodes\":" ++ (decimal nodes ++ codes "}") ≡ compact_text (count_value nodes)
-unfolding serde_json_on_literals
-count_pieces nodes = refl
-
-pub run_pieces : (documents valid : ℕ) → codes "{\"result\":\"run\",\"documents\":" ++ (decimal documents ++ (codes ",\"valid\":" ++ (decimal valid ++ codes "}"))) ≡ compact_text (run_value documents valid)
+pub run_pieces : (documents valid : ℕ) → (codes "{\"result\":\"run\",\"documents\":" ++ decimal documents) ++ ((codes ",\"valid\":" ++ decimal valid) ++ codes "}") ≡ compact_text (run_value documents valid)
 unfolding serde_json_on_literals
 run_pieces documents valid = refl
+
+-- three texts and one more
+three : (a b c x : List ℕ) → (a ++ (b ++ c)) ++ x ≡ a ++ (b ++ (c ++ x))
+three a b c x = append_assoc a (b ++ c) x ∙ ap (λ (l : List ℕ). a ++ l) (append_assoc b c x)
 
 -- six texts and one more
 assoc : (a b c d e f x : List ℕ) → (a ++ (b ++ (c ++ (d ++ (e ++ f))))) ++ x ≡ a ++ (b ++ (c ++ (d ++ (e ++ (f ++ x)))))
@@ -52,7 +54,7 @@ position_step : (line column offset : ℕ) (others : Members) → position_piece
     ≡ members_text true (number_member (codes "line") line (number_member (codes "column") column (number_member (codes "offset") offset others)))
 unfolding serde_json_on_literals
 position_step line column offset others =
-    assoc (codes ",\"line\":") (decimal line) (codes ",\"column\":") (decimal column) (codes ",\"offset\":") (decimal offset) (members_text true others)
+    three (codes ",\"line\":" ++ decimal line) (codes ",\"column\":" ++ decimal column) (codes ",\"offset\":" ++ decimal offset) (members_text true others)
 
 flaw_step : (f : Flaw) (others : Members) → flaw_piece f ++ members_text true others
     ≡ members_text true (text_member (codes "kind") (kind_name f.kind) (text_member (codes "path") (path_text f.path) (text_member (codes "pointer") (pointer_text f.kind f.path) others)))
@@ -65,9 +67,20 @@ unfolding serde_json_on_literals
 line_step None others = refl
 line_step (Some n) others = refl
 
-faults_step : (v : DocumentVerdict) → faults_piece v ++ codes "}" ≡ members_text true (faults_member v no_members)
+measures_step : (measures : Option Measures) → measures_piece measures ++ codes "}" ≡ members_text true (measures_members measures)
 unfolding serde_json_on_literals
-faults_step (verdict.Validated count) = refl
+measures_step None = refl
+measures_step (Some s) = three (codes ",\"m\":" ++ decimal s.m) (codes ",\"u\":" ++ decimal s.u) (codes ",\"w\":" ++ decimal s.w) (codes "}")
+
+cost_step : (cost : Option ValidationCost) → cost_piece cost ++ codes "}" ≡ members_text true (cost_members cost)
+unfolding serde_json_on_literals
+cost_step None = refl
+cost_step (Some c) = three (codes ",\"n\":" ++ decimal c.size) (codes ",\"steps\":" ++ decimal c.steps) (codes ",\"bound\":" ++ decimal c.bound) (codes "}")
+
+faults_step : (v : DocumentVerdict) → faults_piece v ++ codes "}" ≡ members_text true (faults_members v)
+unfolding serde_json_on_literals
+faults_step (verdict.Validated faults cost) =
+    append_assoc (codes ",\"faults\":" ++ decimal faults) (cost_piece cost) (codes "}") ∙ ap (λ (l : List ℕ). (codes ",\"faults\":" ++ decimal faults) ++ l) (cost_step cost)
 faults_step verdict.TooLarge = refl
 faults_step verdict.NotJson = refl
 faults_step verdict.CannotRead = refl
@@ -86,6 +99,10 @@ doc_step name line others =
 
 -- ---- whole objects
 
+pub count_pieces : (nodes : ℕ) (measures : Option Measures) → (codes "{\"result\":\"compiled\",\"nodes\":" ++ decimal nodes) ++ (measures_piece measures ++ codes "}") ≡ compact_text (count_value nodes measures)
+unfolding serde_json_on_literals
+count_pieces nodes measures = ap (λ (l : List ℕ). (codes "{\"result\":\"compiled\",\"nodes\":" ++ decimal nodes) ++ l) (measures_step measures)
+
 pub refusal_pieces : (file : List ℕ) (line column offset : ℕ) (code : List ℕ) → codes "{\"result\":\"refused\",\"file\":" ++ (quoted file ++ (position_piece line column offset ++ (codes ",\"code\":" ++ (quoted code ++ codes "}"))))
     ≡ compact_text (refusal_value file line column offset code)
 unfolding serde_json_on_literals
@@ -97,7 +114,7 @@ pub document_pieces : (name : List ℕ) (line : Option ℕ) (v : DocumentVerdict
 unfolding serde_json_on_literals
 document_pieces name line v =
     ap (λ (l : List ℕ). codes "{\"result\":\"document\",\"document\":" ++ ((quoted (shown_name name) ++ line_piece line) ++ (codes ",\"verdict\":" ++ (quoted (verdict_name v) ++ l)))) (faults_step v)
-    ∙ ap (λ (l : List ℕ). codes "{\"result\":\"document\",\"document\":" ++ l) (doc_step name line (text_member (codes "verdict") (verdict_name v) (faults_member v no_members)))
+    ∙ ap (λ (l : List ℕ). codes "{\"result\":\"document\",\"document\":" ++ l) (doc_step name line (text_member (codes "verdict") (verdict_name v) (faults_members v)))
 
 pub fault_pieces : (name : List ℕ) (line : Option ℕ) (f : Flaw) → codes "{\"result\":\"fault\",\"document\":" ++ ((quoted (shown_name name) ++ line_piece line) ++ (flaw_piece f ++ (unique_piece f.number ++ codes "}")))
     ≡ compact_text (fault_value name line f)

@@ -2,4 +2,6 @@ pub mod Column
 pub mod Pointer
 pub mod Values
 pub mod OneLine
+pub mod ReadBack
 pub mod InnerPieces
+pub mod InnerSteps

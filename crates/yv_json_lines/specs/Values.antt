@@ -6,11 +6,13 @@ use Rattle.std.specs.declared.option.Option.{Option}
 use Rattle.std.specs.declared.option.Option.TheVariants.{None, Some}
 use Rattle.serde_json.specs.Data.{Data, Members, member, no_members, number, object, string, unsigned}
 use Rattle.serde_json.specs.Written.{compact_text}
+use Rattle.yv_schema_tables.specs.declared.measures.Measures.{Measures}
 use Rattle.yv_data_faults.specs.Flaw.{Flaw}
 use Rattle.yv_data_faults.specs.Line.{escape, kind_name, path_text}
 use Rattle.yv_json_lines.specs.Pointer.{pointer_text}
 use Rattle.yv_json_lines.specs.declared.document.DocumentVerdict.{DocumentVerdict}
 use Rattle.yv_json_lines.specs.declared.document.DocumentVerdict.TheVariants as verdict
+use Rattle.yv_json_lines.specs.declared.document.ValidationCost.{ValidationCost}
 
 -- the text of a value without blanks, and a line feed
 abbrev pub json_line : Data → List ℕ
@@ -28,9 +30,18 @@ number_member name n others = member name (number (unsigned n)) others
 abbrev pub result_value : (result : List ℕ) → Members → Data
 result_value result others = object (text_member (codes "result") result others)
 
--- modules that compiled to so many nodes
-abbrev pub count_value : (nodes : ℕ) → Data
-count_value nodes = result_value (codes "compiled") (number_member (codes "nodes") nodes no_members)
+-- what a schema measures, where it is said
+abbrev pub measures_members : Option Measures → Members
+measures_members None = no_members
+measures_members (Some measures) =
+    number_member (codes "m") measures.m (number_member (codes "u") measures.u
+    (number_member (codes "w") measures.w no_members))
+
+-- modules that compiled to so many nodes, and what their schema measures, where it is said
+abbrev pub count_value : (nodes : ℕ) → Option Measures → Data
+count_value nodes measures =
+    result_value (codes "compiled")
+    (number_member (codes "nodes") nodes (measures_members measures))
 
 -- modules that were refused: the file, the line and the column from 1, the offset in bytes from 0,
 -- and the name of the refusal
@@ -68,26 +79,35 @@ fault_value name line f =
 
 -- what a verdict is called
 abbrev pub verdict_name : DocumentVerdict → List ℕ
-verdict_name (verdict.Validated count) =
-    if count == 0 then codes "valid" else codes "faulty"
+verdict_name (verdict.Validated faults cost) =
+    if faults == 0 then codes "valid" else codes "faulty"
 verdict_name verdict.TooLarge = codes "too-large"
 verdict_name verdict.NotJson = codes "not-json"
 verdict_name verdict.CannotRead = codes "cannot-read"
 verdict_name verdict.OutOfMemory = codes "out-of-memory"
 
--- the number of faults of a document that was validated
-abbrev pub faults_member : DocumentVerdict → Members → Members
-faults_member (verdict.Validated count) others = number_member (codes "faults") count others
-faults_member verdict.TooLarge others = others
-faults_member verdict.NotJson others = others
-faults_member verdict.CannotRead others = others
-faults_member verdict.OutOfMemory others = others
+-- what a validation cost, where it is said: the members and items of the document, the steps that
+-- were taken, and the most that it may take
+abbrev pub cost_members : Option ValidationCost → Members
+cost_members None = no_members
+cost_members (Some cost) =
+    number_member (codes "n") cost.size (number_member (codes "steps") cost.steps
+    (number_member (codes "bound") cost.bound no_members))
+
+-- the number of faults of a document that was validated, and the cost of that, where it is said
+abbrev pub faults_members : DocumentVerdict → Members
+faults_members (verdict.Validated faults cost) =
+    number_member (codes "faults") faults (cost_members cost)
+faults_members verdict.TooLarge = no_members
+faults_members verdict.NotJson = no_members
+faults_members verdict.CannotRead = no_members
+faults_members verdict.OutOfMemory = no_members
 
 -- the end of what is said of a document
 abbrev pub document_value : (name : List ℕ) → (line : Option ℕ) → DocumentVerdict → Data
 document_value name line v =
     result_value (codes "document") (doc_members name line
-    (text_member (codes "verdict") (verdict_name v) (faults_member v no_members)))
+    (text_member (codes "verdict") (verdict_name v) (faults_members v)))
 
 -- documents that were answered, and how many of them are valid
 abbrev pub run_value : (documents valid : ℕ) → Data

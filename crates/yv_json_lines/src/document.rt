@@ -3,18 +3,33 @@ ghost use Rattle.std.specs.{Prelude.{◌≡◌, ◌++◌, ℕ, List, Option, dec
 ghost use Rattle.json.specs.Print.{escape as json_escape, quoted};
 ghost use Rattle.yv_data_faults.specs.Line.{escape};
 ghost use Rattle.yv_base_streams.specs.{Stream.{has_failed, stream_inner}, Pages.{Adds, paged_output}};
-ghost use Rattle.yv_json_lines.specs.{InnerPieces.{faults_piece, line_piece}, Values.{document_value, json_line, shown_name, verdict_name}};
+ghost use Rattle.yv_json_lines.specs.{InnerPieces.{cost_piece, faults_piece, line_piece}, Values.{document_value, json_line, shown_name, verdict_name}};
 
-use crate::path::put_escaped;
-use crate::strings::{put_number, put_quoted};
+use crate::steps;
+use crate::strings::{put_member, put_quoted};
 use std::io::Write;
 use yv_base_streams::{Counted, Page};
+
+/// What the validation of a document cost.
+#[derive(Clone, Copy, PartialEq, Eq, Debug)]
+pub struct ValidationCost {
+    /// The number of members and items of the document.
+    pub size: u64,
+    /// The steps that were taken.
+    pub steps: u64,
+    /// The most steps that it may take.
+    pub bound: u64,
+}
 
 /// The verdict on a document, which is said of it at the end.
 #[derive(Clone, Copy)]
 pub enum DocumentVerdict {
-    /// It was validated, and has so many faults: none if it is valid.
-    Validated(u64),
+    /// It was validated, and has so many faults: none if it is valid. The cost is there if it is to
+    /// be said.
+    Validated {
+        faults: u64,
+        cost: Option<ValidationCost>,
+    },
     /// It has too many bytes, or too many members and items.
     TooLarge,
     /// It is not JSON.
@@ -32,8 +47,8 @@ impl DocumentVerdict {
         ensures { result.now ≡ verdict_name self }
     {
         match self {
-            DocumentVerdict::Validated(0) => "valid",
-            DocumentVerdict::Validated(_) => "faulty",
+            DocumentVerdict::Validated { faults: 0, .. } => "valid",
+            DocumentVerdict::Validated { .. } => "faulty",
             DocumentVerdict::TooLarge => "too-large",
             DocumentVerdict::NotJson => "not-json",
             DocumentVerdict::CannotRead => "cannot-read",
@@ -95,7 +110,7 @@ fn put_quoted_label<W: Write>(page: &mut Page, writer: &mut Counted<W>, name: &[
         (paged_output W.contents writer.new page.new) }
 {
     page.put(writer, b"\"");
-    put_escaped(page, writer, name);
+    steps::put_name(page, writer, steps::Spelling::Path, name);
     page.put(writer, b"\"");
 }
 
@@ -104,8 +119,7 @@ fn put_line<W: Write>(page: &mut Page, writer: &mut Counted<W>, line: Option<u64
         (paged_output W.contents writer.new page.new) }
 {
     if let Some(number) = line {
-        page.put(writer, b",\"line\":");
-        put_number(page, writer, number);
+        put_member(page, writer, b",\"line\":", number);
     }
 }
 
@@ -113,8 +127,20 @@ fn put_faults<W: Write>(page: &mut Page, writer: &mut Counted<W>, verdict: Docum
     ensures { Adds (faults_piece verdict) (paged_output W.contents writer.old page.old)
         (paged_output W.contents writer.new page.new) }
 {
-    if let DocumentVerdict::Validated(count) = verdict {
-        page.put(writer, b",\"faults\":");
-        put_number(page, writer, count);
+    if let DocumentVerdict::Validated { faults, cost } = verdict {
+        put_member(page, writer, b",\"faults\":", faults);
+        put_cost(page, writer, cost);
+    }
+}
+
+// Puts the members of a cost, where there is one.
+fn put_cost<W: Write>(page: &mut Page, writer: &mut Counted<W>, cost: Option<ValidationCost>)
+    ensures { Adds (cost_piece cost) (paged_output W.contents writer.old page.old)
+        (paged_output W.contents writer.new page.new) }
+{
+    if let Some(cost) = cost {
+        put_member(page, writer, b",\"n\":", cost.size);
+        put_member(page, writer, b",\"steps\":", cost.steps);
+        put_member(page, writer, b",\"bound\":", cost.bound);
     }
 }

@@ -8,7 +8,7 @@ ghost use Rattle.yv_json_lines.specs.{InnerPieces.{flaw_piece, line_piece, uniqu
 use crate::document::put_document;
 use crate::path::put_path;
 use crate::pointer::put_pointer;
-use crate::strings::{put_number, put_quoted};
+use crate::strings::{put_member, put_quoted};
 use std::io::Write;
 use yv_base_streams::{Counted, Page};
 use yv_data_faults::Fault;
@@ -27,22 +27,9 @@ pub fn put_fault_line<W: Write>(
         (paged_output W.contents writer.old page.old)
         (paged_output W.contents writer.new page.new) }
 {
-    if !writer.has_failed() {
-        put_whole_line(page, writer, name, line, fault);
+    if writer.has_failed() {
+        return;
     }
-}
-
-fn put_whole_line<W: Write>(
-    page: &mut Page,
-    writer: &mut Counted<W>,
-    name: &[u8],
-    line: Option<u64>,
-    fault: &Fault,
-)
-    ensures { Adds (json_line (fault_value name.now line fault.now))
-        (paged_output W.contents writer.old page.old)
-        (paged_output W.contents writer.new page.new) }
-{
     page.put(writer, b"{\"result\":\"fault\",\"document\":");
     put_document(page, writer, name, line);
     put_flaw(page, writer, fault);
@@ -70,7 +57,6 @@ fn put_unique<W: Write>(page: &mut Page, writer: &mut Counted<W>, number: u32)
         (paged_output W.contents writer.new page.new) }
 {
     if number != 0 {
-        page.put(writer, b",\"unique\":");
-        put_number(page, writer, number as u64);
+        put_member(page, writer, b",\"unique\":", number as u64);
     }
 }

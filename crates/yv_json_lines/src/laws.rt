@@ -1,13 +1,15 @@
 //! Laws about the definitions only. These functions do nothing: the contract of each is the law.
-ghost use Rattle.std.specs.Prelude.{ℕ, List, Option};
+ghost use Rattle.std.specs.Prelude.{◌≡◌, ◌≤◌, ◌+◌, ◌-◌, ℕ, List, length, Option};
+ghost use Rattle.yv_schema_tables.specs.declared.measures.Measures.{Measures};
 ghost use Rattle.yv_data_faults.specs.Flaw.{Flaw};
-ghost use Rattle.yv_json_lines.specs.{OneLine.{Fits, IsOneLine, LineFits, VerdictFits}, Values.{count_value, document_value, fault_value, json_line, refusal_value, run_value}, declared.document.DocumentVerdict.{DocumentVerdict}};
+ghost use Rattle.yv_json_lines.specs.{Column.{LineBegins, column, line_at}, OneLine.{Fits, IsOneLine, LineFits, MeasuresFit, VerdictFits}, ReadBack.{ReadsBack}, Values.{count_value, document_value, fault_value, json_line, refusal_value, run_value}, declared.document.DocumentVerdict.{DocumentVerdict}};
 
 /// No line has a line feed or a carriage return but the line feed at its end, so that the lines of
 /// an output are its results.
 pub fn json_lines_are_lines()
     // The line of compiled modules is one line.
-    ensures count { (nodes : ℕ) → Fits nodes → IsOneLine (json_line (count_value nodes)) }
+    ensures count { (nodes : ℕ) (measures : Option Measures) → Fits nodes → MeasuresFit measures
+        → IsOneLine (json_line (count_value nodes measures)) }
     // So is that of refused modules.
     ensures refusal { (file : List ℕ) (line column offset : ℕ) (code : List ℕ) → Fits line
         → Fits column → Fits offset
@@ -21,4 +23,40 @@ pub fn json_lines_are_lines()
     // So is that of all documents.
     ensures run { (documents valid : ℕ) → Fits documents → Fits valid
         → IsOneLine (json_line (run_value documents valid)) }
+{}
+
+/// Each line is read as an object that has the members of its definition, and no others. An object
+/// that was read has them in the order of their names, so that they are looked up.
+pub fn json_lines_read_back()
+    // The line of compiled modules is read back.
+    ensures count { (nodes : ℕ) (measures : Option Measures) → Fits nodes → MeasuresFit measures
+        → ReadsBack (count_value nodes measures) }
+    // So is that of refused modules.
+    ensures refusal { (file : List ℕ) (line column offset : ℕ) (code : List ℕ) → Fits line
+        → Fits column → Fits offset → ReadsBack (refusal_value file line column offset code) }
+    // So is that of a fault.
+    ensures fault { (name : List ℕ) (line : Option ℕ) (f : Flaw) → LineFits line → Fits f.number
+        → ReadsBack (fault_value name line f) }
+    // So is that of a document.
+    ensures document { (name : List ℕ) (line : Option ℕ) (v : DocumentVerdict) → LineFits line
+        → VerdictFits v → ReadsBack (document_value name line v) }
+    // So is that of all documents.
+    ensures run { (documents valid : ℕ) → Fits documents → Fits valid
+        → ReadsBack (run_value documents valid) }
+{}
+
+/// An offset is found again by its line and its column: it comes so many bytes behind the place
+/// where the line begins.
+pub fn columns_are_offsets()
+    // Wherever the line of an offset begins, the column less one leads from there to the offset.
+    ensures offset { (bytes : List ℕ) (offset place : ℕ) → offset ≤ length bytes
+        → LineBegins bytes (line_at bytes offset) place
+        → offset ≡ place + (column bytes offset - 1) }
+    // The line of an offset begins somewhere.
+    ensures begins { (bytes : List ℕ) (offset : ℕ) → offset ≤ length bytes
+        → (place : ℕ) × LineBegins bytes (line_at bytes offset) place }
+    // Offsets of a file that have the same line and the same column are the same.
+    ensures same { (bytes : List ℕ) (offset other : ℕ) → offset ≤ length bytes
+        → other ≤ length bytes → line_at bytes offset ≡ line_at bytes other
+        → column bytes offset ≡ column bytes other → offset ≡ other }
 {}

@@ -8,11 +8,12 @@ pub mod laws;
 mod path;
 mod pointer;
 mod refusal;
+mod steps;
 mod strings;
 mod totals;
 
 pub use column::column_of;
-pub use document::{DocumentVerdict, put_document_line};
+pub use document::{DocumentVerdict, ValidationCost, put_document_line};
 pub use fault::put_fault_line;
 pub use path::put_path;
 pub use pointer::put_pointer;

@@ -1,16 +1,15 @@
 //! Pointers to the places of faults (RFC 6901) as JSON strings.
 ghost use Rattle.std.specs.{Prelude.{◌≡◌, ◌<◌, ◌++◌, ◌-◌, ◌∷◌, [], ℕ, List, Option, codes, decimal, option_map}};
 ghost use Rattle.json.specs.Print.{escape as json_escape, quoted};
-ghost use Rattle.yv_nodes.specs.Member.{behind};
 ghost use Rattle.yv_data_leafrefs.specs.Place.{member_text};
-ghost use Rattle.yv_data_faults.specs.Part.{part_of};
 ghost use Rattle.yv_base_streams.specs.{Stream.{has_failed, stream_inner}, Pages.{Adds, paged_output}};
-ghost use Rattle.yv_json_lines.specs.Pointer.{index_text, is_choice_at, is_of_choices, opens, place_pointer, places_pointer, pointer_byte, pointer_name, pointer_text};
+ghost use Rattle.yv_json_lines.specs.Pointer.{index_text, is_choice_at, is_of_choices, opens, pointer_byte, pointer_text};
 
+use crate::steps::{Spelling, put_step, put_steps};
 use crate::strings::{put_digits, put_inside};
 use std::io::Write;
 use yv_base_streams::{Counted, Page};
-use yv_data_faults::{FaultKind, MemberName, Part, PathSteps};
+use yv_data_faults::{FaultKind, MemberName, PathSteps};
 
 /// Puts the pointer to the place of a fault of this kind and path as a JSON string.
 pub fn put_pointer<W: Write>(
@@ -41,9 +40,9 @@ fn put_places<W: Write>(
         (paged_output W.contents writer.new page.new) }
 {
     if let Some((last, before)) = path.split_last() {
-        put_steps(page, writer, &before);
+        put_steps(page, writer, Spelling::Pointer, &before);
         if !is_choice(kind, &last.name) {
-            put_step(page, writer, &last);
+            put_step(page, writer, Spelling::Pointer, &last);
         }
     }
 }
@@ -81,71 +80,8 @@ fn opens(text: &[u8]) -> bool
     matches!(text, [b'(', ..])
 }
 
-// The calls nest as deep as the path is long.
-fn put_steps<W: Write>(page: &mut Page, writer: &mut Counted<W>, path: &PathSteps<'_>)
-    ensures { Adds (json_escape (places_pointer path.now))
-        (paged_output W.contents writer.old page.old)
-        (paged_output W.contents writer.new page.new) }
-{
-    if let Some((last, before)) = path.split_last() {
-        put_steps(page, writer, &before);
-        put_step(page, writer, &last);
-    }
-}
-
-fn put_step<W: Write>(page: &mut Page, writer: &mut Counted<W>, step: &Part<'_>)
-    ensures { Adds (json_escape (place_pointer (part_of step.now)))
-        (paged_output W.contents writer.old page.old)
-        (paged_output W.contents writer.new page.new) }
-{
-    put_inside(page, writer, b"/");
-    put_name(page, writer, &step.name);
-    put_index(page, writer, step.item);
-}
-
-fn put_name<W: Write>(page: &mut Page, writer: &mut Counted<W>, name: &MemberName<'_>)
-    ensures { Adds
-        (json_escape
-        (pointer_name
-        (member_text name.now.is_choice (option_map (λ m. m.now) name.now.module)
-        name.now.name.now))) (paged_output W.contents writer.old page.old)
-        (paged_output W.contents writer.new page.new) }
-{
-    if name.is_choice {
-        put_escaped(page, writer, b"(");
-        put_qualified(page, writer, name);
-        put_escaped(page, writer, b")");
-    } else {
-        put_qualified(page, writer, name);
-    }
-}
-
-fn put_qualified<W: Write>(page: &mut Page, writer: &mut Counted<W>, name: &MemberName<'_>)
-    ensures { Adds
-        (json_escape
-        (pointer_name (behind (option_map (λ m. m.now) name.now.module) name.now.name.now)))
-        (paged_output W.contents writer.old page.old)
-        (paged_output W.contents writer.new page.new) }
-{
-    if let Some(module) = name.module {
-        put_escaped(page, writer, module.as_bytes());
-        put_escaped(page, writer, b":");
-    }
-    put_escaped(page, writer, name.name.as_bytes());
-}
-
-// Puts a name as a pointer has it.
-fn put_escaped<W: Write>(page: &mut Page, writer: &mut Counted<W>, name: &[u8])
-    ensures { Adds (json_escape (pointer_name name.now))
-        (paged_output W.contents writer.old page.old)
-        (paged_output W.contents writer.new page.new) }
-{
-    for byte in name {
-        put_escaped_byte(page, writer, *byte);
-    }
-}
-
-fn put_escaped_byte<W: Write>(page: &mut Page, writer: &mut Counted<W>, byte: u8)
+// Puts a byte of a name: `~0` for `~`, and `~1` for `/`.
+pub(crate) fn put_tilde_byte<W: Write>(page: &mut Page, writer: &mut Counted<W>, byte: u8)
     ensures { Adds (json_escape (pointer_byte byte)) (paged_output W.contents writer.old page.old)
         (paged_output W.contents writer.new page.new) }
 {
@@ -158,8 +94,8 @@ fn put_escaped_byte<W: Write>(page: &mut Page, writer: &mut Counted<W>, byte: u8
     }
 }
 
-// The place of an entry or an item, from 0.
-fn put_index<W: Write>(page: &mut Page, writer: &mut Counted<W>, item: Option<u64>)
+// Puts the place of an entry or an item, from 0.
+pub(crate) fn put_index<W: Write>(page: &mut Page, writer: &mut Counted<W>, item: Option<u64>)
     ensures { Adds (json_escape (index_text item)) (paged_output W.contents writer.old page.old)
         (paged_output W.contents writer.new page.new) }
 {

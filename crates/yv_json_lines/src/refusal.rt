@@ -4,7 +4,7 @@ ghost use Rattle.json.specs.Print.{quoted};
 ghost use Rattle.yv_base_streams.specs.{Stream.{has_failed, stream_inner}, Pages.{Adds, paged_output}};
 ghost use Rattle.yv_json_lines.specs.{InnerPieces.{position_piece}, Values.{json_line, refusal_value}};
 
-use crate::strings::{put_number, put_quoted};
+use crate::strings::{put_member, put_quoted};
 use std::io::Write;
 use yv_base_streams::{Counted, Page};
 
@@ -46,10 +46,7 @@ fn put_position<W: Write>(page: &mut Page, writer: &mut Counted<W>, position: Po
         (paged_output W.contents writer.old page.old)
         (paged_output W.contents writer.new page.new) }
 {
-    page.put(writer, b",\"line\":");
-    put_number(page, writer, position.line);
-    page.put(writer, b",\"column\":");
-    put_number(page, writer, position.column);
-    page.put(writer, b",\"offset\":");
-    put_number(page, writer, position.offset);
+    put_member(page, writer, b",\"line\":", position.line);
+    put_member(page, writer, b",\"column\":", position.column);
+    put_member(page, writer, b",\"offset\":", position.offset);
 }

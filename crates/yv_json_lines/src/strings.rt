@@ -1,6 +1,7 @@
 //! Texts and numbers of JSON: texts as serde_json writes them.
-ghost use Rattle.std.specs.{Prelude.{◌≡◌, ◌<◌, ◌++◌, ◌∷◌, [], ℕ, List, Option, codes, decimal}, Char.{digit_char}};
+ghost use Rattle.std.specs.Prelude.{◌≡◌, ◌<◌, ◌++◌, ◌∷◌, [], ℕ, List, Option, codes, decimal};
 ghost use Rattle.json.specs.Print.{escape, escape_byte, escape_letter, quoted};
+ghost use Rattle.yv_json_lines.specs.InnerPieces.{digit_from};
 ghost use Rattle.yv_base_streams.specs.{Stream.{has_failed, stream_inner}, Pages.{Adds, paged_output}};
 
 use itoa::Buffer;
@@ -39,7 +40,14 @@ pub(crate) fn put_byte_inside<W: Write>(page: &mut Page, writer: &mut Counted<W>
     } else if byte < 32 {
         page.put(
             writer,
-            &[b'\\', b'u', b'0', b'0', digit(byte / 16), digit(byte % 16)],
+            &[
+                b'\\',
+                b'u',
+                b'0',
+                b'0',
+                digit(byte / 16, b'a'),
+                digit(byte % 16, b'a'),
+            ],
         );
     } else {
         page.put_byte(writer, byte);
@@ -67,15 +75,31 @@ fn letter_of(byte: u8) -> u8
     }
 }
 
-fn digit(value: u8) -> u8
-    requires { value < 16 }
-    ensures { result ≡ digit_char value }
+// The hexadecimal digit of a value, where the digit of 10 is this letter.
+pub(crate) fn digit(value: u8, ten: u8) -> u8
+    requires small { value < 16 }
+    requires letter { ten < 128 }
+    ensures { result ≡ digit_from ten value }
 {
     if value < 10 {
         b'0' + value
     } else {
-        b'a' + value - 10
+        ten + value - 10
     }
+}
+
+// Puts a member that has a number, with this text before the number.
+pub(crate) fn put_member<W: Write>(
+    page: &mut Page,
+    writer: &mut Counted<W>,
+    head: &[u8],
+    number: u64,
+)
+    ensures { Adds (head.now ++ decimal number) (paged_output W.contents writer.old page.old)
+        (paged_output W.contents writer.new page.new) }
+{
+    page.put(writer, head);
+    put_number(page, writer, number);
 }
 
 // Puts a number.

@@ -1,22 +1,42 @@
 //! The lines that say how a compilation or a validation ended.
 ghost use Rattle.std.specs.Prelude.{◌≡◌, ◌++◌, ℕ, List, Option, decimal};
 ghost use Rattle.yv_base_streams.specs.{Stream.{has_failed, stream_inner}, Pages.{Adds, paged_output}};
-ghost use Rattle.yv_json_lines.specs.Values.{count_value, json_line, run_value};
+ghost use Rattle.yv_json_lines.specs.{InnerPieces.{measures_piece}, Values.{count_value, json_line, run_value}};
 
-use crate::strings::put_number;
+use crate::strings::put_member;
 use std::io::Write;
 use yv_base_streams::{Counted, Page};
+use yv_schema_tables::Measures;
 
-/// Puts the line of modules that compiled to so many nodes.
-pub fn put_count_line<W: Write>(page: &mut Page, writer: &mut Counted<W>, nodes: u64)
+/// Puts the line of modules that compiled to so many nodes, and what the schema measures, if that
+/// is asked for.
+pub fn put_count_line<W: Write>(
+    page: &mut Page,
+    writer: &mut Counted<W>,
+    nodes: u64,
+    measures: Option<Measures>,
+)
     // The line of this value follows what was put before it.
-    ensures { Adds (json_line (count_value nodes)) (paged_output W.contents writer.old page.old)
+    ensures { Adds (json_line (count_value nodes measures))
+        (paged_output W.contents writer.old page.old)
         (paged_output W.contents writer.new page.new) }
 {
-    page.put(writer, b"{\"result\":\"compiled\",\"nodes\":");
-    put_number(page, writer, nodes);
+    put_member(page, writer, b"{\"result\":\"compiled\",\"nodes\":", nodes);
+    put_measures(page, writer, measures);
     page.put(writer, b"}");
     page.put(writer, b"\n");
+}
+
+// Puts the members of what a schema measures, where there is that.
+fn put_measures<W: Write>(page: &mut Page, writer: &mut Counted<W>, measures: Option<Measures>)
+    ensures { Adds (measures_piece measures) (paged_output W.contents writer.old page.old)
+        (paged_output W.contents writer.new page.new) }
+{
+    if let Some(measures) = measures {
+        put_member(page, writer, b",\"m\":", measures.m);
+        put_member(page, writer, b",\"u\":", measures.u);
+        put_member(page, writer, b",\"w\":", measures.w);
+    }
 }
 
 /// Puts the line of so many documents, of which so many are valid.
@@ -26,10 +46,13 @@ pub fn put_run_line<W: Write>(page: &mut Page, writer: &mut Counted<W>, document
         (paged_output W.contents writer.old page.old)
         (paged_output W.contents writer.new page.new) }
 {
-    page.put(writer, b"{\"result\":\"run\",\"documents\":");
-    put_number(page, writer, documents);
-    page.put(writer, b",\"valid\":");
-    put_number(page, writer, valid);
+    put_member(
+        page,
+        writer,
+        b"{\"result\":\"run\",\"documents\":",
+        documents,
+    );
+    put_member(page, writer, b",\"valid\":", valid);
     page.put(writer, b"}");
     page.put(writer, b"\n");
 }

@@ -1,7 +1,7 @@
 -- What a run over many documents leaves, from what its parts answer.
-use Rattle.std.proofs.Common.{◌≡◌, ◌∙◌, ◌⊎◌, ◌↔◌, inl, inr, ℕ, List, [], ◌∷◌, ◌++◌, Bool, true, map, flat_map, refl, sym, ap, subst, append_assoc, append-nil, IfOk, Result, Ok, Err}
+use Rattle.std.proofs.Common.{◌≡◌, ◌∙◌, ◌⊎◌, ◌↔◌, inl, inr, ℕ, List, [], ◌∷◌, ◌++◌, Bool, true, map, flat_map, codes, refl, sym, ap, subst, append_assoc, append-nil, IfOk, Result, Ok, Err}
 use Rattle.std.specs.declared.option.Option.{Option}
-use Rattle.std.specs.declared.option.Option.TheVariants.{None}
+use Rattle.std.specs.declared.option.Option.TheVariants.{None, Some}
 use Rattle.yv_text_statement.specs.declared.document_kind.Kind.{Kind}
 use Rattle.yv_nodes.specs.Rows.{Rows}
 use Rattle.yv_base_streams.specs.Files.{File}
@@ -16,12 +16,17 @@ use Rattle.yv_batch.specs.declared.batch.BatchEnd.TheVariants as batch
 use Rattle.yv_batch.specs.declared.batch.Tally.{Tally}
 use Rattle.yv_batch.specs.declared.level.Level.{Level}
 use Rattle.yv_batch.specs.declared.level.Level.TheVariants as level
+use Rattle.yv_documents.specs.VerdictText.{with_end}
 use Rattle.yv_documents.specs.Document.{DocumentText, TooLarge, NotJson, Reads, document_text}
-use Rattle.yv_documents.specs.DocumentLines.{asked_level, asked_lines, count_line, data_lines, faults_lines, reading_lines}
+use Rattle.yv_json_lines.specs.declared.document.ValidationCost.{ValidationCost}
+use Rattle.yv_job.specs.declared.job.OutputOptions.{OutputOptions}
+use Rattle.yv_documents.specs.AskedText.{asked_text, asked_total}
+use Rattle.yv_documents.specs.DocumentLines.{asked_level, cost_lines, count_line, data_lines, faults_lines, reading_lines}
 use Rattle.yv_documents.specs.Lines.{ended_line}
+use Rattle.yv_documents.specs.Steps.{cost_if, steps_line}
 use Rattle.yv_run.specs.Batches.{AnswersAll, IsAll, IsFound, RunsAll, StopsBefore, answered, refused}
 use Rattle.yv_run.specs.Compiles.{AreRefused}
-use Rattle.yv_run.specs.Output.{IsStopped, data_printed, faults_printed, reading_printed}
+use Rattle.yv_run.specs.Output.{IsStopped, cost_end, data_printed, faults_printed, reading_printed}
 use Rattle.yv_run.specs.Status.{batch_status, level_status}
 use Rattle.yv_run.specs.declared.status.Status.{Status}
 use Rattle.yv_run.specs.declared.status.Status.TheVariants as ended
@@ -29,24 +34,39 @@ use Rattle.yv_run.specs.declared.whole_run.RunEnd.{RunEnd}
 
 -- ---- the law on labels
 
--- lines and one more, each with its line feed
-ended_more : (fs : List Flaw) (last : List ℕ) → flat_map ended_line (map line_text fs ++ last ∷ []) ≡ flat_map (λ (f : Flaw). ended_line (line_text f)) fs ++ ended_line last
-ended_more [] last = append-nil (ended_line last)
-ended_more (f ∷ fs) last =
-    ap (λ (l : List ℕ). ended_line (line_text f) ++ l) (ended_more fs last)
-    ∙ sym (append_assoc (ended_line (line_text f)) (flat_map (λ (g : Flaw). ended_line (line_text g)) fs) (ended_line last))
+-- lines and others, each with its line feed
+ended_more : (fs : List Flaw) (others : List (List ℕ)) → flat_map ended_line (map line_text fs ++ others) ≡ flat_map (λ (f : Flaw). ended_line (line_text f)) fs ++ flat_map ended_line others
+ended_more [] others = refl
+ended_more (f ∷ fs) others =
+    ap (λ (l : List ℕ). ended_line (line_text f) ++ l) (ended_more fs others)
+    ∙ sym (append_assoc (ended_line (line_text f)) (flat_map (λ (g : Flaw). ended_line (line_text g)) fs) (flat_map ended_line others))
 
-faults_are_printed : (fs : List Flaw) → flat_map ended_line (faults_lines fs) ≡ (faults_printed fs).text
-faults_are_printed [] = refl
-faults_are_printed (f ∷ fs) = ended_more (f ∷ fs) (count_line (f ∷ fs))
+-- one line, and the one of the cost
+cost_after : (line : List ℕ) (cost : Option ValidationCost) → flat_map ended_line (line ∷ cost_lines cost) ≡ with_end (ended_line line) (cost_end cost)
+cost_after line None = append-nil (ended_line line)
+cost_after line (Some cost) = ap (λ (l : List ℕ). ended_line line ++ l) (append-nil (ended_line (steps_line cost)))
 
-reading_is_printed : (k : Kind) (s : Rows) (t : DocumentText) → flat_map ended_line (reading_lines k s t) ≡ (reading_printed k s t).text
-reading_is_printed k s TooLarge = refl
-reading_is_printed k s NotJson = refl
-reading_is_printed k s (Reads d) = faults_are_printed (faults k s d)
+-- what comes after two texts comes after the second
+end_after : (a b : List ℕ) (end : Option (List ℕ)) → a ++ with_end b end ≡ with_end (a ++ b) end
+end_after a b None = refl
+end_after a b (Some end) = sym (append_assoc a b end)
 
-pub lines_are_printed : (k : Kind) (s : Rows) (given : List ℕ) → flat_map ended_line (data_lines k s given) ≡ (data_printed k s given).text
-lines_are_printed k s given = reading_is_printed k s (document_text given)
+faults_are_printed : (cost : Option ValidationCost) (fs : List Flaw) → flat_map ended_line (faults_lines cost fs) ≡ (faults_printed cost fs).text
+faults_are_printed cost [] = cost_after (codes "valid") cost
+faults_are_printed cost (f ∷ fs) =
+    let lines = flat_map (λ (g : Flaw). ended_line (line_text g)) (f ∷ fs) in
+    let count = count_line (f ∷ fs) in
+    ended_more (f ∷ fs) (count ∷ cost_lines cost)
+    ∙ ap (λ (l : List ℕ). lines ++ l) (cost_after count cost)
+    ∙ end_after lines (ended_line count) (cost_end cost)
+
+reading_is_printed : (measures : Bool) (k : Kind) (s : Rows) (t : DocumentText) → flat_map ended_line (reading_lines measures k s t) ≡ (reading_printed measures k s t).text
+reading_is_printed measures k s TooLarge = refl
+reading_is_printed measures k s NotJson = refl
+reading_is_printed measures k s (Reads d) = faults_are_printed (cost_if measures k s d) (faults k s d)
+
+pub lines_are_printed : (measures : Bool) (k : Kind) (s : Rows) (given : List ℕ) → flat_map ended_line (data_lines measures k s given) ≡ (data_printed measures k s given).text
+lines_are_printed measures k s given = reading_is_printed measures k s (document_text given)
 
 -- ---- how a run ends
 
@@ -106,7 +126,10 @@ over_found task files run is_over unread rest old new (answered s compiles answe
 -- ---- documents that were answered
 
 -- by an answer that says what the definition says
-pub answers_as : (k : Kind) (s : Rows) (lines : AskedDocument → List (List ℕ)) (level : AskedDocument → ℕ) (end : BatchEnd) (unread rest : Option (List AskedDocument)) (old new : Option (List ℕ)) → lines ≡ asked_lines k s → level ≡ asked_level k s
-    → Answers lines level end unread rest old new → Answers (asked_lines k s) (asked_level k s) end unread rest old new
-answers_as k s lines level end unread rest old new e f h =
-    subst (λ (v : AskedDocument → ℕ). Answers (asked_lines k s) v end unread rest old new) f (subst (λ (t : AskedDocument → List (List ℕ)). Answers t level end unread rest old new) e h)
+pub answers_as : (o : OutputOptions) (k : Kind) (s : Rows) (text : AskedDocument → List ℕ) (total : ℕ → ℕ → List ℕ) (level : AskedDocument → ℕ) (end : BatchEnd) (unread rest : Option (List AskedDocument)) (old new : Option (List ℕ))
+    → text ≡ asked_text o k s → total ≡ asked_total o.form → level ≡ asked_level k s
+    → Answers text total level end unread rest old new → Answers (asked_text o k s) (asked_total o.form) (asked_level k s) end unread rest old new
+answers_as o k s text total level end unread rest old new e f g h =
+    let texts = subst (λ (t : AskedDocument → List ℕ). Answers t total level end unread rest old new) e h in
+    let totals = subst (λ (t : ℕ → ℕ → List ℕ). Answers (asked_text o k s) t level end unread rest old new) f texts in
+    subst (λ (v : AskedDocument → ℕ). Answers (asked_text o k s) (asked_total o.form) v end unread rest old new) g totals

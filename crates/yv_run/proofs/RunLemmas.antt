@@ -6,8 +6,9 @@ use Rattle.std.specs.Option.{option_map}
 use Rattle.std.proofs.KnownBytes.{Consumes-nil}
 use Rattle.yv_text_statement.specs.declared.refusal.Refusal.{Refusal}
 use Rattle.yv_job.specs.Jobs.{CommandAsked, Compiles, Draws, Checks, Task}
+use Rattle.yv_job.specs.declared.job.OutputOptions.{OutputOptions}
 use Rattle.yv_text_statement.specs.declared.document_kind.Kind.{Kind}
-use Rattle.yv_nodes.specs.Rows.{Rows, whole}
+use Rattle.yv_nodes.specs.Rows.{Rows}
 use Rattle.yv_data_faults.specs.Flaw.{Flaw}
 use Rattle.yv_base_streams.specs.Files.{File}
 use Rattle.yv_base_streams.specs.Stream.{TakesAtMost}
@@ -40,7 +41,7 @@ takes_none limit known = record { taken = []; consumed = Consumes-nil known; few
 module _ (old new : Option (List ℕ)) (ended : RunEnd) where
   -- a refusal is written whatever the document is
   pub runs_refused : (known : Option (List ℕ)) (task : Task) (files : List File) (r : Refusal) → FilesCompile task.choice task.limit files (RefusedAt r)
-      → Writes (refusal_printed files r) ended.status old new → HasNote (λ note. IsSomeAnd note (TellsRefusal files r)) ended
+      → Writes (refusal_printed task.output.form files r) ended.status old new → HasNote (λ note. IsSomeAnd note (TellsRefusal files r)) ended
       → RunsWithNote task files ended known known old new
   runs_refused known task files r compiles writes noted =
       let d = some_given known in
@@ -51,36 +52,36 @@ module _ (old new : Option (List ℕ)) (ended : RunEnd) where
 
   -- and what was asked of a schema is written, where the files give one
   pub runs_built : (unread rest : Option (List ℕ)) (task : Task) (files : List File) (s : Rows) → FilesCompile task.choice task.limit files (HasSchema s)
-      → RunsSchema task.asked task.kind s ended unread rest old new → RunsWithNote task files ended unread rest old new
+      → RunsSchema task.asked task.output task.kind s ended unread rest old new → RunsWithNote task files ended unread rest old new
   runs_built unread rest task files s compiles runs = record {
     runs = record { given = runs.given; gives = runs.gives; compiled = HasSchema s; compiles = compiles; consumed = runs.consumed; writes = runs.writes };
     noted = runs.noted;
   }
 
   -- the number of nodes is that of any document
-  pub runs_count : (known : Option (List ℕ)) (asked : CommandAsked) (k : Kind) (s : Rows) → asked ≡ Compiles → Writes (count_printed (whole s)) ended.status old new
-      → HasNote (λ note. note ≡ None) ended → RunsSchema asked k s ended known known old new
-  runs_count known asked k s is writes noted =
+  pub runs_count : (known : Option (List ℕ)) (asked : CommandAsked) (o : OutputOptions) (k : Kind) (s : Rows) → asked ≡ Compiles → Writes (count_printed o s) ended.status old new
+      → HasNote (λ note. note ≡ None) ended → RunsSchema asked o k s ended known known old new
+  runs_count known asked o k s is writes noted =
       let d = some_given known in
-      let runs : RunsSchema Compiles k s ended known known old new =
+      let runs : RunsSchema Compiles o k s ended known known old new =
       record { given = d.0; gives = d.1; consumed = Consumes-nil known; writes = writes; noted = noted } in
-      subst (λ (a : CommandAsked). RunsSchema a k s ended known known old new) (sym is) runs
+      subst (λ (a : CommandAsked). RunsSchema a o k s ended known known old new) (sym is) runs
 
   -- and so is a diagram
-  pub runs_diagram : (known : Option (List ℕ)) (asked : CommandAsked) (name : List ℕ) (k : Kind) (s : Rows) → asked ≡ Draws name
-      → Writes (diagram_printed s name) ended.status old new → HasNote (NotesDiagram s name) ended → RunsSchema asked k s ended known known old new
-  runs_diagram known asked name k s is writes noted =
+  pub runs_diagram : (known : Option (List ℕ)) (asked : CommandAsked) (name : List ℕ) (o : OutputOptions) (k : Kind) (s : Rows) → asked ≡ Draws name
+      → Writes (diagram_printed s name) ended.status old new → HasNote (NotesDiagram s name) ended → RunsSchema asked o k s ended known known old new
+  runs_diagram known asked name o k s is writes noted =
       let d = some_given known in
-      let runs : RunsSchema (Draws name) k s ended known known old new =
+      let runs : RunsSchema (Draws name) o k s ended known known old new =
       record { given = d.0; gives = d.1; consumed = Consumes-nil known; writes = writes; noted = noted } in
-      subst (λ (a : CommandAsked). RunsSchema a k s ended known known old new) (sym is) runs
+      subst (λ (a : CommandAsked). RunsSchema a o k s ended known known old new) (sym is) runs
 
   -- what is said of a document is said where one is read
-  pub runs_document : (unread rest : Option (List ℕ)) (asked : CommandAsked) (k : Kind) (s : Rows) → ReadsData asked → RunsData k s ended unread rest old new
-      → RunsSchema asked k s ended unread rest old new
-  runs_document unread rest Compiles k s reads runs = absurd reads
-  runs_document unread rest (Draws name) k s reads runs = absurd reads
-  runs_document unread rest (Checks file) k s reads runs =
+  pub runs_document : (unread rest : Option (List ℕ)) (asked : CommandAsked) (o : OutputOptions) (k : Kind) (s : Rows) → ReadsData asked → RunsData o.measures k s ended unread rest old new
+      → RunsSchema asked o k s ended unread rest old new
+  runs_document unread rest Compiles o k s reads runs = absurd reads
+  runs_document unread rest (Draws name) o k s reads runs = absurd reads
+  runs_document unread rest (Checks file) o k s reads runs =
       record { given = runs.given; gives = runs.gives; consumed = runs.consumed; writes = runs.writes; noted = runs.noted }
 
 -- a run without its note

@@ -8,12 +8,14 @@ use Rattle.yv_text_statement.specs.declared.document_kind.Kind.{Kind}
 use Rattle.yv_text_statement.specs.declared.refusal.Refusal.{Refusal}
 use Rattle.yv_nodes.specs.Rows.{Rows}
 use Rattle.yv_job.specs.Jobs.{Task}
+use Rattle.yv_job.specs.declared.job.OutputOptions.{OutputOptions}
 use Rattle.yv_base_streams.specs.Files.{File}
 use Rattle.yv_batch.specs.Answers.{Answers}
 use Rattle.yv_batch.specs.AskedDocument.{AskedDocument}
 use Rattle.yv_batch.specs.declared.batch.BatchEnd.{BatchEnd}
 use Rattle.yv_batch.specs.declared.batch.BatchEnd.TheVariants as batch
-use Rattle.yv_documents.specs.DocumentLines.{asked_level, asked_lines}
+use Rattle.yv_documents.specs.AskedText.{asked_text, asked_total}
+use Rattle.yv_documents.specs.DocumentLines.{asked_level}
 use Rattle.yv_run.specs.Compiles.{FilesCompile, HasSchema, RefusedAt}
 use Rattle.yv_run.specs.Notes.{TellsRefusal}
 use Rattle.yv_run.specs.Output.{refusal_printed}
@@ -51,10 +53,11 @@ IsAll batch.Endless = ⊥
 
 -- Documents of a kind were answered by a schema, and the status is that of the worst of them, or
 -- says how far they were answered. If all were, the supply said that there are no more.
-pub record AnswersAll (k : Kind) (s : Rows) (status : Status) (is_over : Bool)
-    (unread rest : Option (List AskedDocument)) (old new : Option (List ℕ)) : Type 0 where
+pub record AnswersAll (o : OutputOptions) (k : Kind) (s : Rows) (status : Status)
+    (is_over : Bool) (unread rest : Option (List AskedDocument)) (old new : Option (List ℕ)) : Type 0 where
   pub end : BatchEnd
-  pub answers : Answers (asked_lines k s) (asked_level k s) end unread rest old new
+  pub answers : Answers (asked_text o k s) (asked_total o.form) (asked_level k s) end unread rest
+      old new
   pub ends : status ≡ batch_status end
   pub over : IsAll end → is_over ≡ true
 
@@ -64,10 +67,11 @@ pub record AnswersAll (k : Kind) (s : Rows) (status : Status) (is_over : Bool)
 pub data RunsAll (task : Task) (files : List File) (run : RunEnd) (is_over : Bool)
     (unread rest : Option (List AskedDocument)) (old new : Option (List ℕ)) : Type 0 where
   refused : (r : Refusal) → FilesCompile task.choice task.limit files (RefusedAt r)
-      → Writes (refusal_printed files r) run.status old new
+      → Writes (refusal_printed task.output.form files r) run.status old new
       → IfOk run.note
       (λ note. IsSomeAnd (option_map string_bytes note) (TellsRefusal files r))
       → RunsAll task files run is_over unread rest old new
   answered : (s : Rows) → FilesCompile task.choice task.limit files (HasSchema s)
-      → AnswersAll task.kind s run.status is_over unread rest old new → run.note ≡ Ok None
+      → AnswersAll task.output task.kind s run.status is_over unread rest old new
+      → run.note ≡ Ok None
       → RunsAll task files run is_over unread rest old new

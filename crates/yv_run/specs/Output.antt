@@ -1,23 +1,36 @@
 -- What a run writes, and how it ends.
-use Rattle.std.specs.Prelude.{◌≡◌, ℕ, List, [], ◌∷◌, ◌++◌, take, codes, IfSome, string_bytes, slice_get}
+use Rattle.std.specs.Prelude.{◌≡◌, ℕ, List, [], ◌∷◌, ◌++◌, Bool, true, false, take, codes, IfSome, string_bytes, option_map, slice_get}
 use Rattle.std.specs.declared.option.Option.{Option}
 use Rattle.std.specs.declared.option.Option.TheVariants.{Some, None}
 use Rattle.std.specs.Fmt.{decimal}
+use Rattle.serde_json.specs.Data.{Data}
 use Rattle.yv_text_statement.specs.Codes.{name_of}
 use Rattle.yv_text_statement.specs.declared.refusal.Refusal.{Refusal}
 use Rattle.yv_nodes.specs.Tree.{Forest, count as node_count}
 use Rattle.yv_nodes.specs.Rows.{Rows, whole}
 use Rattle.yv_text_statement.specs.declared.document_kind.Kind.{Kind}
+use Rattle.yv_schema_tables.specs.Measures.{measures_of}
+use Rattle.yv_schema_tables.specs.declared.measures.Measures.{Measures}
 use Rattle.yv_tree.specs.Diagram.{diagram_of}
 use Rattle.yv_job.specs.Jobs.{CommandAsked, Compiles, Draws, Checks, Task}
+use Rattle.yv_job.specs.declared.job.OutputForm.{OutputForm}
+use Rattle.yv_job.specs.declared.job.OutputForm.TheVariants as form
+use Rattle.yv_job.specs.declared.job.OutputOptions.{OutputOptions}
 use Rattle.yv_data_faults.specs.Flaw.{Flaw}
 use Rattle.yv_validate.specs.Faults.{faults}
-use Rattle.yv_documents.specs.Lines.{ended_line, faults_text}
+use Rattle.yv_json_lines.specs.Column.{column}
+use Rattle.yv_json_lines.specs.Values.{count_value, json_line, refusal_value}
+use Rattle.yv_json_lines.specs.declared.document.ValidationCost.{ValidationCost}
+use Rattle.yv_documents.specs.VerdictText.{checked_text, with_end}
+use Rattle.yv_documents.specs.Lines.{ended_line}
+use Rattle.yv_documents.specs.Steps.{cost_if, steps_line}
 use Rattle.yv_run.specs.Compiles.{Compilation, RefusedAt, HasSchema, FilesCompile, GiveSchema}
 use Rattle.yv_documents.specs.Document.{DocumentText, TooLarge, NotJson, Reads, document_text}
 use Rattle.yv_base_streams.specs.Files.{File}
 use Rattle.yv_run.specs.declared.print.Body.{Body}
-use Rattle.yv_run.specs.declared.print.Body.TheVariants.{Text, Diagram, Faults}
+use Rattle.yv_run.specs.declared.print.Body.TheVariants.{Text, Diagram, Faults, Object}
+use Rattle.yv_run.specs.declared.print.ResultObject.{ResultObject}
+use Rattle.yv_run.specs.declared.print.ResultObject.TheVariants as object
 use Rattle.yv_run.specs.declared.print.Output.{Output}
 use Rattle.yv_run.specs.declared.status.Status.{Status}
 use Rattle.yv_run.specs.declared.status.Status.TheVariants as ended
@@ -34,35 +47,81 @@ abbrev pub name_of_file : Option File → List ℕ
 name_of_file None = []
 name_of_file (Some f) = f.name
 
+-- and its bytes
+abbrev pub bytes_of_file : Option File → List ℕ
+bytes_of_file None = []
+bytes_of_file (Some f) = f.bytes
+
 -- FILE:LINE: NAME
 abbrev pub refusal_line : List File → Refusal → List ℕ
 refusal_line files r =
     ended_line (name_of_file (slice_get files r.file)
     ++ (58 ∷ decimal r.line ++ codes ": " ++ name_of r.code))
 
--- `valid`, or the faults' lines and how many they are
-abbrev pub faults_printed : List Flaw → Page
-faults_printed [] = record { text = ended_line (codes "valid"); verdict = Clean }
-faults_printed (f ∷ fs) = record { text = faults_text (f ∷ fs); verdict = Refused }
+-- the same as a JSON object, with the column and the offset
+abbrev pub refusal_object : List File → Refusal → Data
+refusal_object files r =
+    let file = slice_get files r.file in
+    refusal_value (name_of_file file) r.line (column (bytes_of_file file) r.offset) r.offset
+    (name_of r.code)
+
+-- a refusal in a form
+abbrev pub refusal_text : OutputForm → List File → Refusal → List ℕ
+refusal_text form.Text files r = refusal_line files r
+refusal_text form.Json files r = json_line (refusal_object files r)
+
+-- the line of what a validation cost, where that is said
+abbrev pub cost_end : Option ValidationCost → Option (List ℕ)
+cost_end None = None
+cost_end (Some cost) = Some (ended_line (steps_line cost))
+
+-- a document without faults is valid
+abbrev pub faults_verdict : List Flaw → Verdict
+faults_verdict [] = Clean
+faults_verdict (f ∷ fs) = Refused
+
+-- what is printed of faults, and of what the validation cost, where that is said
+abbrev pub faults_printed : Option ValidationCost → List Flaw → Page
+faults_printed cost fs =
+    record { text = with_end (checked_text fs) (cost_end cost); verdict = faults_verdict fs }
 
 -- what is printed of a document that is too large or not JSON
 abbrev pub bad_input : List ℕ → Page
 bad_input text = record { text = ended_line text; verdict = BadInput }
 
 -- what is said of a document of a kind, by what its bytes are
-abbrev pub reading_printed : Kind → Rows → DocumentText → Page
-reading_printed k s TooLarge = bad_input (codes "data: too large")
-reading_printed k s NotJson = bad_input (codes "data: not JSON")
-reading_printed k s (Reads d) = faults_printed (faults k s d)
+abbrev pub reading_printed : (measures : Bool) → Kind → Rows → DocumentText → Page
+reading_printed measures k s TooLarge = bad_input (codes "data: too large")
+reading_printed measures k s NotJson = bad_input (codes "data: not JSON")
+reading_printed measures k s (Reads d) = faults_printed (cost_if measures k s d) (faults k s d)
 
 -- what is printed of a document of these bytes
-abbrev pub data_printed : Kind → Rows → List ℕ → Page
-data_printed k s given = reading_printed k s (document_text given)
+abbrev pub data_printed : (measures : Bool) → Kind → Rows → List ℕ → Page
+data_printed measures k s given = reading_printed measures k s (document_text given)
 
--- `nodes: N`, for as many nodes as the schema has
-abbrev pub count_printed : Forest → Page
-count_printed ts =
-    record { text = ended_line (codes "nodes: " ++ decimal (node_count ts)); verdict = Clean }
+-- the measures of a schema, where they are asked for
+abbrev pub measures_if : (measures : Bool) → Rows → Option Measures
+measures_if false s = None
+measures_if true s = Some (measures_of (whole s))
+
+-- a line for each measure, where there are some
+abbrev pub measures_end : Option Measures → Option (List ℕ)
+measures_end None = None
+measures_end (Some ms) = Some (ended_line (codes "m: " ++ decimal ms.m)
+    ++ (ended_line (codes "u: " ++ decimal ms.u) ++ ended_line (codes "w: " ++ decimal ms.w)))
+
+-- `nodes: N`, and the measures, in a form
+abbrev pub count_text : OutputForm → (nodes : ℕ) → Option Measures → List ℕ
+count_text form.Text nodes measures =
+    with_end (ended_line (codes "nodes: " ++ decimal nodes)) (measures_end measures)
+count_text form.Json nodes measures = json_line (count_value nodes measures)
+
+-- what is printed of a schema: how many nodes it has, and its measures, where they are asked for
+abbrev pub count_printed : OutputOptions → Rows → Page
+count_printed o s = record {
+  text = count_text o.form (node_count (whole s)) (measures_if o.measures s);
+  verdict = Clean;
+}
 
 -- a diagram, or that there is no module to draw
 abbrev pub drawn_printed : (diagram : Option (List ℕ)) → Page
@@ -74,19 +133,20 @@ abbrev pub diagram_printed : Rows → (name : List ℕ) → Page
 diagram_printed s name = drawn_printed (diagram_of s name)
 
 -- what is said of a schema, by what was asked
-abbrev pub schema_printed : CommandAsked → Kind → Rows → List ℕ → Page
-schema_printed Compiles k s given = count_printed (whole s)
-schema_printed (Draws name) k s given = diagram_printed s name
-schema_printed (Checks f) k s given = data_printed k s given
+abbrev pub schema_printed : CommandAsked → OutputOptions → Kind → Rows → List ℕ → Page
+schema_printed Compiles o k s given = count_printed o s
+schema_printed (Draws name) o k s given = diagram_printed s name
+schema_printed (Checks f) o k s given = data_printed o.measures k s given
 
 -- what is printed of refused files
-abbrev pub refusal_printed : List File → Refusal → Page
-refusal_printed files r = record { text = refusal_line files r; verdict = Refused }
+abbrev pub refusal_printed : OutputForm → List File → Refusal → Page
+refusal_printed f files r = record { text = refusal_text f files r; verdict = Refused }
 
 -- a refusal's line, or what is said of the schema
 abbrev pub compiled_printed : Task → List File → Compilation → List ℕ → Page
-compiled_printed task files (RefusedAt r) given = refusal_printed files r
-compiled_printed task files (HasSchema s) given = schema_printed task.asked task.kind s given
+compiled_printed task files (RefusedAt r) given = refusal_printed task.output.form files r
+compiled_printed task files (HasSchema s) given =
+    schema_printed task.asked task.output task.kind s given
 
 -- what a run prints that is to do this task with these files, where the document's bytes are
 -- `given`
@@ -118,11 +178,18 @@ IsStopped ended.PatternBuild = Unit {0}
 IsStopped ended.ReadFault = Unit {0}
 IsStopped ended.WriteFault = ⊥
 
--- the bytes of a text, of a diagram, or of the lines of faults
+-- what an object of the code is
+abbrev pub object_of : ResultObject → Data
+object_of (object.Compiled nodes measures) = count_value nodes measures
+object_of (object.Refused file at code) =
+    refusal_value (string_bytes file) at.line at.column at.offset code.now
+
+-- the bytes of a text, of a diagram, of the lines of faults, or of an object's line
 abbrev pub body_text : Body → List ℕ
 body_text (Text text) = string_bytes text
 body_text (Diagram text) = text
-body_text (Faults list) = faults_text list.items
+body_text (Faults list end) = with_end (checked_text list.items) (option_map string_bytes end)
+body_text (Object o) = json_line (object_of o)
 
 -- what an output of the code prints
 abbrev pub printed_of : Output → Page

@@ -2,18 +2,18 @@
 //! person is made.
 ghost use Rattle.std.specs.Prelude.{◌≡◌, ◌↔◌, ◌⊎◌, true, map, IfErr, IfOk, IsErrOf, IsSomeAnd, OnErr, None, option_map, string_bytes};
 ghost use Rattle.yv_job.specs.Jobs.{asked_of};
-ghost use Rattle.yv_nodes.specs.Rows.{whole};
 ghost use Rattle.yv_base_streams.specs.{Stream.{stream_inner, has_failed, IsFresh, FailsOnceAtMost, TakesAtMost}, Files.{file_of}};
 ghost use Rattle.yv_run.specs.{Output.{ReadsData, IsStopped, count_printed, data_printed, diagram_printed, refusal_printed}, PersonNotes.{NotesData, NotesDiagram}, declared.status.Status.{Status}, InnerRun.{HasNote, RunsData, RunsSchema}, Notes.{TellsRefusal}, Runs.{Writes, most_read}};
 
+use crate::checks::of_data;
 use crate::notes::diagram_note;
 use crate::output::write_output;
-use crate::print::{of_count, of_data, of_diagram, of_refusal};
+use crate::print::{of_count, of_diagram, of_refusal};
 use crate::whole_run::{Halt, Holdings, RunEnd};
 use std::alloc::{AllocError, Global};
 use std::io::{Read, Write};
 use yv_base_streams::{Counted, Input, InputFault, read_up_to};
-use yv_job::{Command, Job};
+use yv_job::{Command, Job, OutputOptions};
 use yv_note_refusals::explanation;
 use yv_schema::Schema;
 use yv_text_statement::Refusal;
@@ -31,7 +31,8 @@ pub(crate) fn write_refusal<W: Write>(
 ) -> Result<RunEnd, Halt>
     requires { IsFresh writer.old }
     ensures writes { IfOk result
-        (λ e. Writes (refusal_printed (map file_of inputs.now) refusal.now) e.status
+        (λ e. Writes (refusal_printed job.now.output.form (map file_of inputs.now) refusal.now)
+        e.status
         (W.contents (stream_inner writer.old)) (W.contents (stream_inner writer.new))) }
     ensures notes { IfOk result
         (HasNote (λ note. IsSomeAnd note (TellsRefusal (map file_of inputs.now) refusal.now))) }
@@ -42,7 +43,7 @@ pub(crate) fn write_refusal<W: Write>(
     ensures rest { OnErr result (writer.new ≡ writer.old) }
     ensures no_memory { IfErr result (λ h. h ≡ Halt.NoMemory) }
 {
-    let output = of_refusal(alloc, inputs, refusal)?;
+    let output = of_refusal(alloc, inputs, refusal, job.output.form)?;
     let status = write_output(&output, writer);
     let note = refusal_note(alloc, job, inputs, refusal);
     Ok(RunEnd {
@@ -78,7 +79,7 @@ pub(crate) fn write_answer<R: Read, W: Write>(
     requires reader { IsFresh reader.old }
     requires writer { IsFresh writer.old }
     ensures runs { IfOk result
-        (λ e. RunsSchema (asked_of job.now.command) job.now.kind schema e
+        (λ e. RunsSchema (asked_of job.now.command) job.now.output job.now.kind schema e
         (R.remaining (stream_inner reader.old))
         (R.remaining (stream_inner reader.new)) (W.contents (stream_inner writer.old))
         (W.contents (stream_inner writer.new))) }
@@ -95,21 +96,22 @@ pub(crate) fn write_answer<R: Read, W: Write>(
     ensures never_built { IsErrOf result Halt.PatternBuild → ⊥ }
 {
     match &job.command {
-        Command::Compile => write_count(alloc, schema, writer),
+        Command::Compile => write_count(alloc, schema, job.output, writer),
         Command::Tree(name) => write_diagram(alloc, job, schema, name.as_str(), writer),
         Command::Validate(_) => validate_document(alloc, job, schema, reader, writer),
     }
 }
 
-// Writes how many nodes the schema has.
+// Writes how many nodes the schema has, as these options ask.
 fn write_count<W: Write>(
     alloc: Global,
     schema: Schema,
+    options: OutputOptions,
     writer: &mut Counted<W>,
 ) -> Result<RunEnd, Halt>
     requires { IsFresh writer.old }
     ensures writes { IfOk result
-        (λ e. Writes (count_printed (whole schema)) e.status
+        (λ e. Writes (count_printed options schema) e.status
         (W.contents (stream_inner writer.old)) (W.contents (stream_inner writer.new))) }
     ensures notes { IfOk result (HasNote (λ note. note ≡ None)) }
     ensures ends { IfOk result (λ e. IsStopped e.status → ⊥) }
@@ -119,7 +121,7 @@ fn write_count<W: Write>(
     ensures rest { OnErr result (writer.new ≡ writer.old) }
     ensures no_memory { IfErr result (λ h. h ≡ Halt.NoMemory) }
 {
-    let output = of_count(alloc, &schema)?;
+    let output = of_count(alloc, &schema, options)?;
     Ok(RunEnd {
         status: write_output(&output, writer),
         note: Ok(None),
@@ -171,7 +173,8 @@ fn validate_document<R: Read, W: Write>(
     requires reader { IsFresh reader.old }
     requires writer { IsFresh writer.old }
     ensures runs { IfOk result
-        (λ e. RunsData job.now.kind schema e (R.remaining (stream_inner reader.old))
+        (λ e. RunsData job.now.output.measures job.now.kind schema e
+        (R.remaining (stream_inner reader.old))
         (R.remaining (stream_inner reader.new))
         (W.contents (stream_inner writer.old)) (W.contents (stream_inner writer.new))) }
     ensures ends { IfOk result (λ e. IsStopped e.status → ⊥) }
@@ -202,7 +205,7 @@ fn write_findings<W: Write>(
 ) -> Result<RunEnd, Halt>
     requires { IsFresh writer.old }
     ensures writes { IfOk result
-        (λ e. Writes (data_printed job.now.kind schema bytes.now) e.status
+        (λ e. Writes (data_printed job.now.output.measures job.now.kind schema bytes.now) e.status
         (W.contents (stream_inner writer.old)) (W.contents (stream_inner writer.new))) }
     ensures notes { IfOk result (HasNote (NotesData job.now.kind schema bytes.now)) }
     ensures ends { IfOk result (λ e. IsStopped e.status → ⊥) }
@@ -212,7 +215,7 @@ fn write_findings<W: Write>(
     ensures rest { OnErr result (writer.new ≡ writer.old) }
     ensures no_memory { IfErr result (λ h. h ≡ Halt.NoMemory) }
 {
-    let answer = of_data(alloc, &schema, bytes, job.kind)?;
+    let answer = of_data(alloc, &schema, bytes, job.kind, job.output.measures)?;
     let status = write_output(&answer.output, writer);
     let note = answer.note(alloc, job, &schema, bytes);
     Ok(RunEnd {

@@ -130,7 +130,7 @@ fn answer_documents<D: Documents, N: NoteSink, W: Write>(
 ) -> Result<RunEnd, Halt>
     requires { IsFresh writer.old }
     ensures answers { IfOk result
-        (λ e. AnswersAll job.now.kind schema e.status (D.is_over documents.new)
+        (λ e. AnswersAll job.now.output job.now.kind schema e.status (D.is_over documents.new)
         (D.left documents.old) (D.left documents.new) (W.contents (stream_inner writer.old))
         (W.contents (stream_inner writer.new))) }
     ensures note { IfOk result (λ e. e.note ≡ Ok None) }

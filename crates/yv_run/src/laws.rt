@@ -1,5 +1,5 @@
 //! Laws about the definitions only. These functions do nothing: the contract of each is the law.
-ghost use Rattle.std.specs.Prelude.{◌≡◌, ℕ, List, flat_map};
+ghost use Rattle.std.specs.Prelude.{◌≡◌, ℕ, Bool, List, flat_map};
 ghost use Rattle.yv_text_statement.specs.declared.document_kind.Kind.{Kind};
 ghost use Rattle.yv_nodes.specs.Rows.{Rows};
 ghost use Rattle.yv_job.specs.Jobs.{Task};
@@ -26,6 +26,7 @@ pub fn a_run_has_one_output()
 /// What a run over one document writes are the lines that a run over many writes of it, each with
 /// its line feed: only the labels are new.
 pub fn labels_alone_are_new()
-    ensures { (k : Kind) (s : Rows) (given : List ℕ)
-        → flat_map ended_line (data_lines k s given) ≡ (data_printed k s given).text }
+    ensures { (measures : Bool) (k : Kind) (s : Rows) (given : List ℕ)
+        → flat_map ended_line (data_lines measures k s given)
+        ≡ (data_printed measures k s given).text }
 {}

@@ -4,6 +4,7 @@
 
 mod answers;
 mod batch_run;
+mod checks;
 mod compilation;
 pub mod laws;
 mod modules;
@@ -15,10 +16,13 @@ mod status;
 mod whole_run;
 
 pub use batch_run::run_all;
+pub use checks::{CheckResult, of_data};
 pub use notes::diagram_note;
-pub use print::{Body, CheckResult, Output, of_count, of_data, of_diagram, of_refusal};
+pub use print::{Body, Output, ResultObject, of_count, of_diagram, of_refusal};
 pub use status::{Status, Verdict};
 pub use whole_run::{Holdings, RunEnd, run, run_with_note};
 pub use yv_base_streams::{Counted, Input, InputFault, read_input};
 pub use yv_documents::{Document, NoteSink, read_document, write_faults};
-pub use yv_job::{Action, Command, FolderSearch, Job, JobFault, Request, read_request};
+pub use yv_job::{
+    Action, Command, FolderSearch, Job, JobFault, OutputForm, OutputOptions, Request, read_request,
+};

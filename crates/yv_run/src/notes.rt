@@ -4,8 +4,9 @@ ghost use Rattle.std.specs.Prelude.{◌≡◌, IfOk, option_map, string_bytes};
 ghost use Rattle.yv_documents.specs.{Document.{document_view, document_text}, Notes.{NotesReading}};
 ghost use Rattle.yv_run.specs.{Output.{diagram_printed, printed_of}, PersonNotes.{NotesDiagram, faults_of}};
 
+use crate::checks::CheckResult;
 use crate::modules::modules_note;
-use crate::print::{Body, CheckResult, Output};
+use crate::print::{Body, Output};
 use crate::status::Verdict;
 use std::alloc::{AllocError, Global};
 use yv_documents::document_note;
@@ -38,8 +39,8 @@ impl Body<'_> {
         ensures { result.now ≡ faults_of self.now }
     {
         match self {
-            Body::Text(_) | Body::Diagram(_) => &[],
-            Body::Faults(faults) => faults.as_slice(),
+            Body::Text(_) | Body::Diagram(_) | Body::Object(_) => &[],
+            Body::Faults(faults, _) => faults.as_slice(),
         }
     }
 }

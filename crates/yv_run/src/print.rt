@@ -1,18 +1,29 @@
 //! The text of an outcome.
-ghost use Rattle.std.specs.Prelude.{◌≡◌, [], map, slice_get, IfOk, None};
-ghost use Rattle.yv_nodes.specs.Rows.{whole};
+ghost use Rattle.std.specs.Prelude.{◌≡◌, map, slice_get, option_map, IfOk, None, string_bytes};
 ghost use Rattle.yv_base_streams.specs.Files.{file_of};
-ghost use Rattle.yv_documents.specs.{Document.{MeetsLimits, document_view, document_text}, DocumentLines.{faults_in}};
-ghost use Rattle.yv_run.specs.{Output.{name_of_file, refusal_printed, faults_printed, data_printed, reading_printed, count_printed, diagram_printed, drawn_printed, printed_of}, PersonNotes.{faults_of}};
+ghost use Rattle.yv_job.specs.declared.job.OutputForm.TheVariants as form;
+ghost use Rattle.yv_json_lines.specs.Column.{column};
+ghost use Rattle.yv_run.specs.Output.{body_text, bytes_of_file, count_printed, count_text, diagram_printed, drawn_printed, measures_if, name_of_file, printed_of, refusal_printed, refusal_text};
 
 use crate::status::Verdict;
 use std::alloc::{AllocError, Global};
 use yv_base_streams::Input;
-use yv_documents::{Document, read_document};
+use yv_job::{OutputForm, OutputOptions};
+use yv_json_lines::{Position, column_of};
 use yv_schema::Schema;
-use yv_text_statement::{Kind, Refusal};
+use yv_schema_tables::Measures;
+use yv_text_statement::Refusal;
 use yv_tree::TreeDiagram;
-use yv_validate::{Fault, validate};
+use yv_validate::Fault;
+
+/// A result that is written as a JSON object.
+#[derive(Drop)]
+pub enum ResultObject {
+    /// The number of nodes of a schema, and its measures, where they are asked for.
+    Compiled(u64, Option<Measures>),
+    /// The name of a file that is refused, the position, and the name of the refusal.
+    Refused(String, Position, &'static str),
+}
 
 /// The body of an outcome: what is written of it. A diagram and the lines of faults aren't text:
 /// they may be more than memory holds, since what is short in a module may be shown many times, and
@@ -22,8 +33,10 @@ pub enum Body<'a> {
     Text(String),
     /// The diagram of a module, which is drawn as it is written.
     Diagram(TreeDiagram<'a>),
-    /// The faults of a document, one or more.
-    Faults(Vec<Fault>),
+    /// The faults of a document, of which there may be none, and a text that follows their lines.
+    Faults(Vec<Fault>, Option<String>),
+    /// An object of JSON, on a line of its own.
+    Object(ResultObject),
 }
 
 /// The output of a run: what it writes, and what it found.
@@ -33,23 +46,59 @@ pub struct Output<'a> {
     pub verdict: Verdict,
 }
 
-/// The line of a refusal, with the name of its file.
+/// The line of a refusal in a form, with the name of its file.
 pub fn of_refusal(
     alloc: Global,
     inputs: &[Input],
     refusal: &Refusal,
+    form: OutputForm,
 ) -> Result<Output<'static>, AllocError>
     ensures { IfOk result
-        (λ o. printed_of o ≡ refusal_printed (map file_of inputs.now) refusal.now) }
+        (λ o. printed_of o ≡ refusal_printed form (map file_of inputs.now) refusal.now) }
+{
+    let body = match form {
+        OutputForm::Text => refusal_line(alloc, inputs, refusal)?,
+        OutputForm::Json => refusal_object(alloc, inputs, refusal)?,
+    };
+    Ok(Output {
+        body,
+        verdict: Verdict::Refused,
+    })
+}
+
+// A refusal as a line of text.
+fn refusal_line(
+    alloc: Global,
+    inputs: &[Input],
+    refusal: &Refusal,
+) -> Result<Body<'static>, AllocError>
+    ensures { IfOk result
+        (λ b. body_text b ≡ refusal_text form.Text (map file_of inputs.now) refusal.now) }
 {
     let name = name_at(inputs, refusal.file);
     let line = refusal.line;
     let code = refusal.code.name();
-    let text = format!(in alloc; "{name}:{line}: {code}\n")?;
-    Ok(Output {
-        body: Body::Text(text),
-        verdict: Verdict::Refused,
-    })
+    Ok(Body::Text(format!(in alloc; "{name}:{line}: {code}\n")?))
+}
+
+// A refusal as a JSON object.
+fn refusal_object(
+    alloc: Global,
+    inputs: &[Input],
+    refusal: &Refusal,
+) -> Result<Body<'static>, AllocError>
+    ensures { IfOk result
+        (λ b. body_text b ≡ refusal_text form.Json (map file_of inputs.now) refusal.now) }
+{
+    let name = String::from_str(alloc, name_at(inputs, refusal.file))?;
+    let column = column_of(bytes_at(inputs, refusal.file), refusal.offset as usize);
+    let position = Position {
+        line: refusal.line,
+        column: column as u64,
+        offset: refusal.offset,
+    };
+    let object = ResultObject::Refused(name, position, refusal.code.name());
+    Ok(Body::Object(object))
 }
 
 // The name of the file of this number, where there is one.
@@ -62,16 +111,56 @@ fn name_at(inputs: &[Input], file: u32) -> &str
     }
 }
 
-/// How many nodes a schema has.
-pub fn of_count(alloc: Global, schema: &Schema) -> Result<Output<'static>, AllocError>
-    ensures { IfOk result (λ o. printed_of o ≡ count_printed (whole schema.now)) }
+// The bytes of that file.
+fn bytes_at(inputs: &[Input], file: u32) -> &[u8]
+    ensures { result.now ≡ bytes_of_file (slice_get (map file_of inputs.now) file) }
 {
-    let count = schema.len();
-    let text = format!(in alloc; "nodes: {count}\n")?;
+    match inputs.get(file as usize) {
+        Some(input) => input.bytes.as_slice(),
+        None => &[],
+    }
+}
+
+/// How many nodes a schema has, and its measures where they are asked for.
+pub fn of_count(
+    alloc: Global,
+    schema: &Schema,
+    options: OutputOptions,
+) -> Result<Output<'static>, AllocError>
+    ensures { IfOk result (λ o. printed_of o ≡ count_printed options schema.now) }
+{
+    let (nodes, measures) = (schema.len() as u64, measures_if(schema, options.measures));
+    let body = match options.form {
+        OutputForm::Text => Body::Text(count_lines(alloc, nodes, measures)?),
+        OutputForm::Json => Body::Object(ResultObject::Compiled(nodes, measures)),
+    };
     Ok(Output {
-        body: Body::Text(text),
+        body,
         verdict: Verdict::Clean,
     })
+}
+
+// What a schema measures, where that is asked for.
+fn measures_if(schema: &Schema, is_asked: bool) -> Option<Measures>
+    ensures { result ≡ measures_if is_asked schema.now }
+{
+    if is_asked {
+        Some(schema.measures())
+    } else {
+        None
+    }
+}
+
+// So many nodes, and measures where there are some, as lines of text.
+fn count_lines(alloc: Global, nodes: u64, measures: Option<Measures>) -> Result<String, AllocError>
+    ensures { IfOk result (λ text. string_bytes text ≡ count_text form.Text nodes measures) }
+{
+    match measures {
+        None => format!(in alloc; "nodes: {nodes}\n"),
+        Some(Measures { m, u, w }) => {
+            format!(in alloc; "nodes: {nodes}\nm: {m}\nu: {u}\nw: {w}\n")
+        }
+    }
 }
 
 /// The tree diagram of the implemented module of this name, or that there is no such module.
@@ -97,87 +186,6 @@ fn no_module(alloc: Global) -> Result<Output<'static>, AllocError>
     let text = String::from_str(alloc, "tree: no such module\n")?;
     Ok(Output {
         body: Body::Text(text),
-        verdict: Verdict::Refused,
-    })
-}
-
-/// The result of checking a document, and the document that its bytes are: what a note on it is
-/// made of.
-#[derive(Drop)]
-pub struct CheckResult {
-    pub output: Output<'static>,
-    pub document: Document,
-}
-
-/// What is said of a document of these bytes, which is checked as one of this kind.
-pub fn of_data(
-    alloc: Global,
-    schema: &Schema,
-    bytes: &[u8],
-    kind: Kind,
-) -> Result<CheckResult, AllocError>
-    // The document's faults against the schema in order, as a document of this kind, or that it is
-    // valid, too large or not JSON.
-    ensures prints { IfOk result
-        (λ c. printed_of c.output ≡ data_printed kind schema.now bytes.now) }
-    // The document is what these bytes are.
-    ensures document { IfOk result (λ c. document_view c.document ≡ document_text bytes.now) }
-    // The faults are those of the definition for it.
-    ensures faults { IfOk result
-        (λ c. faults_of c.output.body ≡ faults_in kind schema.now (document_text bytes.now)) }
-{
-    let document = read_document(alloc, bytes)?;
-    let output = of_document(alloc, schema, &document, kind)?;
-    Ok(CheckResult { output, document })
-}
-
-// What is said of a document, which is checked as one of this kind.
-fn of_document(
-    alloc: Global,
-    schema: &Schema,
-    document: &Document,
-    kind: Kind,
-) -> Result<Output<'static>, AllocError>
-    requires { MeetsLimits document.now }
-    ensures prints { IfOk result
-        (λ o. printed_of o ≡ reading_printed kind schema.now (document_view document.now)) }
-    ensures faults { IfOk result
-        (λ o. faults_of o.body ≡ faults_in kind schema.now (document_view document.now)) }
-{
-    match document {
-        Document::TooLarge => bad_input(alloc, "data: too large\n"),
-        Document::NotJson => bad_input(alloc, "data: not JSON\n"),
-        Document::Json(json) => of_faults(alloc, validate(alloc, schema, json, kind)?.faults),
-    }
-}
-
-// What is said of a document that can't be read.
-fn bad_input(alloc: Global, text: &str) -> Result<Output<'static>, AllocError>
-    ensures prints { IfOk result
-        (λ o. printed_of o ≡ record { text = text.now; verdict = Verdict.BadInput }) }
-    ensures faults { IfOk result (λ o. faults_of o.body ≡ []) }
-{
-    let text = String::from_str(alloc, text)?;
-    Ok(Output {
-        body: Body::Text(text),
-        verdict: Verdict::BadInput,
-    })
-}
-
-// That a document is valid, or its faults.
-fn of_faults(alloc: Global, faults: Vec<Fault>) -> Result<Output<'static>, AllocError>
-    ensures prints { IfOk result (λ o. printed_of o ≡ faults_printed faults.items) }
-    ensures faults { IfOk result (λ o. faults_of o.body ≡ faults.items) }
-{
-    if faults.is_empty() {
-        let text = String::from_str(alloc, "valid\n")?;
-        return Ok(Output {
-            body: Body::Text(text),
-            verdict: Verdict::Clean,
-        });
-    }
-    Ok(Output {
-        body: Body::Faults(faults),
         verdict: Verdict::Refused,
     })
 }

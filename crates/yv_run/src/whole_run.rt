@@ -7,9 +7,9 @@ ghost use Rattle.yv_base_streams.specs.{Stream.{stream_inner, has_failed, IsFres
 ghost use Rattle.yv_run.specs.{declared.whole_run.Halt.TheVariants.{NoMemory}, Compiles.{HavePattern}, Output.{WantsData, IsStopped}, Notes.{NotesPattern, RunsWithNote}, Runs.{Runs, most_read}};
 
 use crate::answers::{write_answer, write_refusal};
+use crate::checks::CheckResult;
 use crate::compilation::compile_files;
 use crate::pattern_laws::a_pattern_of_a_type_is_listed;
-use crate::print::CheckResult;
 use crate::status::Status;
 use std::alloc::{AllocError, Global};
 use std::io::{Read, Write};
@@ -112,9 +112,10 @@ impl RunEnd {
 
 /// Compiles the files of a job, and writes the outcome: the refusal's line, or how many nodes the
 /// schema has, or the tree diagram of one of its modules, or, where the job is to check a document,
-/// what is wrong with what the reader gives, or that it is valid. After `WriteFault` the writer
-/// holds the front of that text; after `NoMemory`, `PatternBuild` and `ReadFault` nothing was
-/// written.
+/// what is wrong with what the reader gives, or that it is valid. A refusal and the number of nodes
+/// have the form that the job asks for; all else is text: `run_all` writes what is wrong with
+/// documents as JSON. After `WriteFault` the writer holds the front of what was to be written;
+/// after `NoMemory`, `PatternBuild` and `ReadFault` nothing was written.
 pub fn run<R: Read, W: Write>(
     alloc: Global,
     job: &Job,

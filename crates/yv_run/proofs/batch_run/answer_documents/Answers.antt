@@ -6,7 +6,7 @@ use Rattle.yv_run.proofs.batch_run.answer_documents.Goals as goal
 pub returns-clause-answers : goal.returns-clause-answers
 returns-clause-answers g c = record {
   end = c.answer_all-end.result;
-  answers = answers_as c.args.job.now.kind c.args.schema _ _ c.answer_all-end.result _ _ _ _ c.in_ok-answer.ensures.lines c.in_ok-answer.ensures.level c.answer_all-end.ensures.answers;
+  answers = answers_as c.args.job.now.output c.args.job.now.kind c.args.schema _ _ _ c.answer_all-end.result _ _ _ _ c.in_ok-answer.ensures.text c.in_ok-answer.ensures.total c.in_ok-answer.ensures.level c.answer_all-end.ensures.answers;
   ends = c.of_batch.ensures;
   over = over_of_all c.answer_all-end.result _ c.answer_all-end.ensures.over;
 }

@@ -2,7 +2,7 @@ use Rattle.std.proofs.Common.{ap}
 use Rattle.yv_data_faults.specs.Flaw.{Flaw}
 use Rattle.yv_json_lines.specs.InnerPieces.{unique_piece}
 use Rattle.yv_json_lines.proofs.PieceLemmas.{adds_as, adds_both, fault_pieces}
-use Rattle.yv_json_lines.proofs.fault.put_whole_line.Goals as goal
+use Rattle.yv_json_lines.proofs.fault.put_fault_line.Goals as goal
 
 pub returns : goal.returns
 returns g c =
