@@ -1,3 +1,4 @@
 pub mod DocumentLemmas
 pub mod NoteLemmas
 pub mod ReplyLemmas
+pub mod StepsLemmas

@@ -52,7 +52,8 @@ pub fn steps_text(alloc: Global, cost: &ValidationCost) -> Result<String, AllocE
     // It has the steps and the most steps, and ends with a line feed.
     ensures { IfOk result (λ text. string_bytes text ≡ ended_line (steps_line cost.now)) }
 {
-    let (steps, bound) = (cost.steps, cost.bound);
+    let steps = cost.steps;
+    let bound = cost.bound;
     format!(in alloc; "steps: {steps} of {bound}\n")
 }
 

@@ -1,5 +1,5 @@
 //! What is found of a document.
-ghost use Rattle.std.specs.Prelude.{◌≡◌, [], IfOk, None, length};
+ghost use Rattle.std.specs.Prelude.{◌≡◌, ◌≤◌, [], IfOk, None, length};
 ghost use Rattle.serde_json.specs.View.{view};
 ghost use Rattle.yv_validate.specs.Size.{size as data_size};
 ghost use Rattle.yv_documents.specs.{Document.{MeetsLimits, document_view, document_text}, DocumentLines.{faults_in}, DocumentResults.{reading_verdict}, Steps.{cost_if, cost_with}, InnerReply.{cost_said}};
