@@ -1,14 +1,12 @@
 -- Only private clauses cite this: what the parts of a run leave.
-use Rattle.std.specs.Prelude.{ℕ, List, Bool, true, false, IfOk, string_bytes}
+use Rattle.std.specs.Prelude.{ℕ, List, Bool, IfOk, string_bytes}
 use Rattle.std.specs.Option.{option_map}
 use Rattle.std.specs.declared.option.Option.{Option}
-use Rattle.std.specs.declared.option.Option.TheVariants.{None, Some}
 use Rattle.std.specs.Io.KnownBytes.{Consumes}
 use Rattle.yv_nodes.specs.Rows.{Rows}
 use Rattle.yv_job.specs.Jobs.{CommandAsked}
 use Rattle.yv_job.specs.declared.job.OutputOptions.{OutputOptions}
 use Rattle.yv_text_statement.specs.declared.document_kind.Kind.{Kind}
-use Rattle.yv_json_lines.specs.declared.document.ValidationCost.{ValidationCost}
 use Rattle.yv_run.specs.Output.{Gives, data_printed, schema_printed}
 use Rattle.yv_run.specs.PersonNotes.{NotesData}
 use Rattle.yv_run.specs.Notes.{NotesSchema}
@@ -36,8 +34,3 @@ pub record RunsSchema (asked : CommandAsked) (o : OutputOptions) (k : Kind) (s :
   pub consumed : Consumes unread rest (schema_read asked given)
   pub writes : Writes (schema_printed asked o k s given) ended.status old new
   pub noted : HasNote (NotesSchema asked k s given) ended
-
--- what a validation cost, where measures are asked for
-abbrev pub cost_said : (measures : Bool) → ValidationCost → Option ValidationCost
-cost_said false cost = None
-cost_said true cost = Some cost

@@ -1,10 +1,9 @@
 //! What is said of a document.
-ghost use Rattle.std.specs.Prelude.{◌≡◌, ◌≤◌, [], IfOk, Option, option_map, string_bytes};
-ghost use Rattle.serde_json.specs.View.{view};
-ghost use Rattle.yv_validate.specs.Size.{size};
-ghost use Rattle.yv_json_lines.specs.declared.document.ValidationCost.{ValidationCost};
-ghost use Rattle.yv_documents.specs.{Document.{MeetsLimits, document_view, document_text}, DocumentLines.{faults_in}, Steps.{cost_with}};
-ghost use Rattle.yv_run.specs.{InnerRun.{cost_said}, Output.{cost_end, data_printed, faults_printed, faults_verdict, printed_of, reading_printed}, PersonNotes.{faults_of}};
+ghost use Rattle.std.specs.Prelude.{◌≡◌, ◌≤◌, [], IfOk, option_map, string_bytes};
+ghost use Rattle.serde_json.specs.{Data.{depth}, View.{view}};
+ghost use Rattle.yv_validate.specs.{Faults.{faults as all_faults}, Size.{size}};
+ghost use Rattle.yv_documents.specs.{Document.{MeetsLimits, document_view, document_text}, DocumentLines.{faults_in}, Steps.{cost_if}, VerdictText.{checked_text, with_end}};
+ghost use Rattle.yv_run.specs.{Output.{cost_end, data_printed, faults_verdict, printed_of, reading_printed}, PersonNotes.{faults_of}};
 
 use crate::print::{Body, Output};
 use crate::status::Verdict;
@@ -66,11 +65,34 @@ fn of_document(
         Document::TooLarge => bad_input(alloc, "data: too large\n"),
         Document::NotJson => bad_input(alloc, "data: not JSON\n"),
         Document::Json(json) => {
-            let report = validate(alloc, schema, json, kind)?;
-            let end = cost_line(alloc, schema, json, report.steps, measures)?;
-            Ok(of_faults(report.faults, end))
+            let (faults, end) = find_faults(alloc, schema, json, kind, measures)?;
+            Ok(of_faults(faults, end))
         }
     }
+}
+
+// The faults of a document, and the line of what its validation cost, where measures are asked for.
+fn find_faults(
+    alloc: Global,
+    schema: &Schema,
+    document: &Value,
+    kind: Kind,
+    measures: bool,
+) -> Result<(Vec<Fault>, Option<String>), AllocError>
+    requires size { size (view document.now) ≤ 16777216 }
+    requires nests { depth (view document.now) ≤ 127 }
+    ensures faults { IfOk result
+        (λ f. f.0.items ≡ all_faults kind schema.now (view document.now)) }
+    ensures end { IfOk result
+        (λ f. option_map string_bytes f.1
+        ≡ cost_end (cost_if measures kind schema.now (view document.now))) }
+{
+    let report = validate(alloc, schema, document, kind)?;
+    if !measures {
+        return Ok((report.faults, None));
+    }
+    let cost = cost_of(schema, document, report.steps);
+    Ok((report.faults, Some(steps_text(alloc, &cost)?)))
 }
 
 // What is said of a document that can't be read.
@@ -86,30 +108,12 @@ fn bad_input(alloc: Global, text: &str) -> Result<Output<'static>, AllocError>
     })
 }
 
-// The line of what a validation cost, where measures are asked for.
-fn cost_line(
-    alloc: Global,
-    schema: &Schema,
-    document: &Value,
-    steps: u64,
-    measures: bool,
-) -> Result<Option<String>, AllocError>
-    requires { size (view document.now) ≤ 16777216 }
-    ensures { IfOk result
-        (λ end. option_map string_bytes end
-        ≡ cost_end (cost_said measures (cost_with schema.now (view document.now) steps))) }
-{
-    if measures {
-        Ok(Some(steps_text(alloc, &cost_of(schema, document, steps))?))
-    } else {
-        Ok(None)
-    }
-}
-
 // That a document is valid, or its faults, and then this text.
 fn of_faults(faults: Vec<Fault>, end: Option<String>) -> Output<'static>
-    ensures prints { (cost : Option ValidationCost) → option_map string_bytes end ≡ cost_end cost
-        → printed_of result ≡ faults_printed cost faults.items }
+    ensures prints { printed_of result ≡ record {
+      text = with_end (checked_text faults.items) (option_map string_bytes end);
+      verdict = faults_verdict faults.items;
+    } }
     ensures faults { faults_of result.body ≡ faults.items }
 {
     let verdict = verdict_on(faults.as_slice());
