@@ -28,9 +28,9 @@ use Rattle.yv_run.specs.Compiles.{Compilation, RefusedAt, HasSchema, FilesCompil
 use Rattle.yv_documents.specs.Document.{DocumentText, TooLarge, NotJson, Reads, document_text}
 use Rattle.yv_base_streams.specs.Files.{File}
 use Rattle.yv_run.specs.declared.print.Body.{Body}
-use Rattle.yv_run.specs.declared.print.Body.TheVariants.{Text, Diagram, Faults, Object}
-use Rattle.yv_run.specs.declared.print.ResultObject.{ResultObject}
-use Rattle.yv_run.specs.declared.print.ResultObject.TheVariants as object
+use Rattle.yv_run.specs.declared.print.Body.TheVariants.{Text, Diagram, Faults, Compilation}
+use Rattle.yv_run.specs.declared.print.CompilationResult.{CompilationResult}
+use Rattle.yv_run.specs.declared.print.CompilationResult.TheVariants as compilation
 use Rattle.yv_run.specs.declared.print.Output.{Output}
 use Rattle.yv_run.specs.declared.status.Status.{Status}
 use Rattle.yv_run.specs.declared.status.Status.TheVariants as ended
@@ -104,11 +104,15 @@ abbrev pub measures_if : (measures : Bool) → Rows → Option Measures
 measures_if false s = None
 measures_if true s = Some (measures_of (whole s))
 
--- a line for each measure, where there are some
+-- a line for each measure
+abbrev pub measures_lines : Measures → List ℕ
+measures_lines ms = ended_line (codes "m: " ++ decimal ms.m)
+    ++ (ended_line (codes "u: " ++ decimal ms.u) ++ ended_line (codes "w: " ++ decimal ms.w))
+
+-- the same, where there are measures
 abbrev pub measures_end : Option Measures → Option (List ℕ)
 measures_end None = None
-measures_end (Some ms) = Some (ended_line (codes "m: " ++ decimal ms.m)
-    ++ (ended_line (codes "u: " ++ decimal ms.u) ++ ended_line (codes "w: " ++ decimal ms.w)))
+measures_end (Some ms) = Some (measures_lines ms)
 
 -- `nodes: N`, and the measures, in a form
 abbrev pub count_text : OutputForm → (nodes : ℕ) → Option Measures → List ℕ
@@ -178,18 +182,18 @@ IsStopped ended.PatternBuild = Unit {0}
 IsStopped ended.ReadFault = Unit {0}
 IsStopped ended.WriteFault = ⊥
 
--- what an object of the code is
-abbrev pub object_of : ResultObject → Data
-object_of (object.Compiled nodes measures) = count_value nodes measures
-object_of (object.Refused file at code) =
-    refusal_value (string_bytes file) at.line at.column at.offset code.now
+-- the bytes of the result of a compilation
+abbrev pub compilation_text : CompilationResult → List ℕ
+compilation_text (compilation.Count f nodes measures) = count_text f nodes measures
+compilation_text (compilation.Refusal file at code) =
+    json_line (refusal_value (string_bytes file) at.line at.column at.offset code.now)
 
--- the bytes of a text, of a diagram, of the lines of faults, or of an object's line
+-- the bytes of a text, of a diagram, of the lines of faults, or of the result of a compilation
 abbrev pub body_text : Body → List ℕ
 body_text (Text text) = string_bytes text
 body_text (Diagram text) = text
 body_text (Faults list end) = with_end (checked_text list.items) (option_map string_bytes end)
-body_text (Object o) = json_line (object_of o)
+body_text (Compilation r) = compilation_text r
 
 -- what an output of the code prints
 abbrev pub printed_of : Output → Page

@@ -96,7 +96,7 @@ pub(crate) fn write_answer<R: Read, W: Write>(
     ensures never_built { IsErrOf result Halt.PatternBuild → ⊥ }
 {
     match &job.command {
-        Command::Compile => write_count(alloc, schema, job.output, writer),
+        Command::Compile => write_count(schema, job.output, writer),
         Command::Tree(name) => write_diagram(alloc, job, schema, name.as_str(), writer),
         Command::Validate(_) => validate_document(alloc, job, schema, reader, writer),
     }
@@ -104,7 +104,6 @@ pub(crate) fn write_answer<R: Read, W: Write>(
 
 // Writes how many nodes the schema has, as these options ask.
 fn write_count<W: Write>(
-    alloc: Global,
     schema: Schema,
     options: OutputOptions,
     writer: &mut Counted<W>,
@@ -121,7 +120,7 @@ fn write_count<W: Write>(
     ensures rest { OnErr result (writer.new ≡ writer.old) }
     ensures no_memory { IfErr result (λ h. h ≡ Halt.NoMemory) }
 {
-    let output = of_count(alloc, &schema, options)?;
+    let output = of_count(&schema, options);
     Ok(RunEnd {
         status: write_output(&output, writer),
         note: Ok(None),

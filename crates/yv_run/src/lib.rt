@@ -18,7 +18,7 @@ mod whole_run;
 pub use batch_run::run_all;
 pub use checks::{CheckResult, of_data};
 pub use notes::diagram_note;
-pub use print::{Body, Output, ResultObject, of_count, of_diagram, of_refusal};
+pub use print::{Body, CompilationResult, Output, of_count, of_diagram, of_refusal};
 pub use status::{Status, Verdict};
 pub use whole_run::{Holdings, RunEnd, run, run_with_note};
 pub use yv_base_streams::{Counted, Input, InputFault, read_input};

@@ -1,15 +1,19 @@
 //! What a run writes.
-ghost use Rattle.std.specs.{Prelude.{◌≡◌, ◌↔◌, ℕ, true, false, take}, Io.KnownBytes.{Appends}};
+ghost use Rattle.std.specs.{Prelude.{◌≡◌, ◌↔◌, ◌++◌, ℕ, true, false, decimal, take}, Io.KnownBytes.{Appends}};
 ghost use Rattle.yv_base_streams.specs.{Stream.{stream_inner, has_failed, IsFresh, FailsOnceAtMost}, Pages.{Adds, paged_output}};
-ghost use Rattle.yv_json_lines.specs.Values.{json_line};
-ghost use Rattle.yv_run.specs.{Output.{IsStopped, body_text, object_of, printed_of}, Runs.{Writes}};
+ghost use Rattle.yv_documents.specs.Lines.{ended_line};
+ghost use Rattle.yv_job.specs.declared.job.OutputForm.TheVariants as form;
+ghost use Rattle.yv_run.specs.{Output.{IsStopped, body_text, compilation_text, count_text, measures_lines, printed_of}, Runs.{Writes}};
 
-use crate::print::{Body, Output, ResultObject};
+use crate::print::{Body, CompilationResult, Output};
 use crate::status::Status;
+use itoa::Buffer;
 use std::io::Write;
 use yv_base_streams::{Counted, Page, write_whole};
 use yv_documents::{flush_all, write_checked};
+use yv_job::OutputForm;
 use yv_json_lines::{put_count_line, put_refusal_line};
+use yv_schema_tables::Measures;
 
 /// Writes what was found, has the writer pass it on, and answers how the run ends.
 pub(crate) fn write_output<W: Write>(output: &Output<'_>, writer: &mut Counted<W>) -> Status
@@ -61,40 +65,85 @@ fn put_body<W: Write>(writer: &mut Counted<W>, body: &Body<'_>) -> bool
         Body::Faults(faults, Some(end)) => {
             write_checked(writer, faults.as_slice(), Some(end.as_str()))
         }
-        Body::Object(object) => write_object(writer, object),
+        Body::Compilation(result) => write_compilation(writer, result),
     }
 }
 
-// Writes the line of an object, and answers whether all was taken.
-fn write_object<W: Write>(writer: &mut Counted<W>, object: &ResultObject) -> bool
+// Writes the result of a compilation, and answers whether all was taken.
+fn write_compilation<W: Write>(writer: &mut Counted<W>, compilation: &CompilationResult) -> bool
     requires { has_failed writer.old ≡ false }
     ensures ends { result ≡ true
         → Appends (W.contents (stream_inner writer.old)) (W.contents (stream_inner writer.new))
-        (json_line (object_of object.now)) }
+        (compilation_text compilation.now) }
     ensures part { (n : ℕ)
         × Appends (W.contents (stream_inner writer.old)) (W.contents (stream_inner writer.new))
-        (take n (json_line (object_of object.now))) }
+        (take n (compilation_text compilation.now)) }
     ensures fault { result ≡ false ↔ (has_failed writer.new ≡ true) }
     ensures once { FailsOnceAtMost writer.new }
 {
     let mut page = Page::new();
-    put_object(&mut page, writer, object);
+    put_compilation(&mut page, writer, compilation);
     page.turn(writer);
     !writer.has_failed()
 }
 
-// Puts the line of an object on a page.
-fn put_object<W: Write>(page: &mut Page, writer: &mut Counted<W>, object: &ResultObject)
-    ensures { Adds (json_line (object_of object.now))
+// Puts it on a page.
+fn put_compilation<W: Write>(
+    page: &mut Page,
+    writer: &mut Counted<W>,
+    compilation: &CompilationResult,
+)
+    ensures { Adds (compilation_text compilation.now)
         (paged_output W.contents writer.old page.old)
         (paged_output W.contents writer.new page.new) }
 {
-    match object {
-        ResultObject::Compiled(nodes, measures) => {
+    match compilation {
+        CompilationResult::Count(OutputForm::Text, nodes, measures) => {
+            put_count(page, writer, *nodes, *measures);
+        }
+        CompilationResult::Count(OutputForm::Json, nodes, measures) => {
             put_count_line(page, writer, *nodes, *measures);
         }
-        ResultObject::Refused(file, position, code) => {
+        CompilationResult::Refusal(file, position, code) => {
             put_refusal_line(page, writer, file.as_str(), *position, code);
         }
     }
+}
+
+// Puts the lines of how many nodes there are, and of measures where there are some.
+fn put_count<W: Write>(
+    page: &mut Page,
+    writer: &mut Counted<W>,
+    nodes: u64,
+    measures: Option<Measures>,
+)
+    ensures { Adds (count_text form.Text nodes measures)
+        (paged_output W.contents writer.old page.old)
+        (paged_output W.contents writer.new page.new) }
+{
+    put_number_line(page, writer, b"nodes: ", nodes);
+    if let Some(measures) = measures {
+        put_measures(page, writer, measures);
+    }
+}
+
+// Puts a line for each measure.
+fn put_measures<W: Write>(page: &mut Page, writer: &mut Counted<W>, measures: Measures)
+    ensures { Adds (measures_lines measures) (paged_output W.contents writer.old page.old)
+        (paged_output W.contents writer.new page.new) }
+{
+    put_number_line(page, writer, b"m: ", measures.m);
+    put_number_line(page, writer, b"u: ", measures.u);
+    put_number_line(page, writer, b"w: ", measures.w);
+}
+
+// Puts a line with a word and a number.
+fn put_number_line<W: Write>(page: &mut Page, writer: &mut Counted<W>, word: &[u8], number: u64)
+    ensures { Adds (ended_line (word.now ++ decimal number))
+        (paged_output W.contents writer.old page.old)
+        (paged_output W.contents writer.new page.new) }
+{
+    page.put(writer, word);
+    page.put(writer, Buffer::new().format(number).as_bytes());
+    page.put(writer, b"\n");
 }

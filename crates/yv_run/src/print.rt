@@ -1,9 +1,8 @@
 //! The text of an outcome.
-ghost use Rattle.std.specs.Prelude.{◌≡◌, map, slice_get, option_map, IfOk, None, string_bytes};
+ghost use Rattle.std.specs.Prelude.{◌≡◌, map, slice_get, IfOk, None};
 ghost use Rattle.yv_base_streams.specs.Files.{file_of};
 ghost use Rattle.yv_job.specs.declared.job.OutputForm.TheVariants as form;
-ghost use Rattle.yv_json_lines.specs.Column.{column};
-ghost use Rattle.yv_run.specs.Output.{body_text, bytes_of_file, count_printed, count_text, diagram_printed, drawn_printed, measures_if, name_of_file, printed_of, refusal_printed, refusal_text};
+ghost use Rattle.yv_run.specs.Output.{body_text, bytes_of_file, count_printed, diagram_printed, drawn_printed, measures_if, name_of_file, printed_of, refusal_printed, refusal_text};
 
 use crate::status::Verdict;
 use std::alloc::{AllocError, Global};
@@ -16,13 +15,13 @@ use yv_text_statement::Refusal;
 use yv_tree::TreeDiagram;
 use yv_validate::Fault;
 
-/// A result that is written as a JSON object.
+/// The result of a compilation, which is put on a page when it is written.
 #[derive(Drop)]
-pub enum ResultObject {
-    /// The number of nodes of a schema, and its measures, where they are asked for.
-    Compiled(u64, Option<Measures>),
-    /// The name of a file that is refused, the position, and the name of the refusal.
-    Refused(String, Position, &'static str),
+pub enum CompilationResult {
+    /// The number of nodes of a schema, and its measures where they are asked for, in a form.
+    Count(OutputForm, u64, Option<Measures>),
+    /// A refusal as a JSON object: the name of its file, its position there, and its name.
+    Refusal(String, Position, &'static str),
 }
 
 /// The body of an outcome: what is written of it. A diagram and the lines of faults aren't text:
@@ -35,8 +34,8 @@ pub enum Body<'a> {
     Diagram(TreeDiagram<'a>),
     /// The faults of a document, of which there may be none, and a text that follows their lines.
     Faults(Vec<Fault>, Option<String>),
-    /// An object of JSON, on a line of its own.
-    Object(ResultObject),
+    /// The result of a compilation.
+    Compilation(CompilationResult),
 }
 
 /// The output of a run: what it writes, and what it found.
@@ -97,8 +96,8 @@ fn refusal_object(
         column: column as u64,
         offset: refusal.offset,
     };
-    let object = ResultObject::Refused(name, position, refusal.code.name());
-    Ok(Body::Object(object))
+    let result = CompilationResult::Refusal(name, position, refusal.code.name());
+    Ok(Body::Compilation(result))
 }
 
 // The name of the file of this number, where there is one.
@@ -122,22 +121,15 @@ fn bytes_at(inputs: &[Input], file: u32) -> &[u8]
 }
 
 /// How many nodes a schema has, and its measures where they are asked for.
-pub fn of_count(
-    alloc: Global,
-    schema: &Schema,
-    options: OutputOptions,
-) -> Result<Output<'static>, AllocError>
-    ensures { IfOk result (λ o. printed_of o ≡ count_printed options schema.now) }
+pub fn of_count(schema: &Schema, options: OutputOptions) -> Output<'static>
+    ensures { printed_of result ≡ count_printed options schema.now }
 {
     let (nodes, measures) = (schema.len() as u64, measures_if(schema, options.measures));
-    let body = match options.form {
-        OutputForm::Text => Body::Text(count_lines(alloc, nodes, measures)?),
-        OutputForm::Json => Body::Object(ResultObject::Compiled(nodes, measures)),
-    };
-    Ok(Output {
-        body,
+    let result = CompilationResult::Count(options.form, nodes, measures);
+    Output {
+        body: Body::Compilation(result),
         verdict: Verdict::Clean,
-    })
+    }
 }
 
 // What a schema measures, where that is asked for.
@@ -148,18 +140,6 @@ fn measures_if(schema: &Schema, is_asked: bool) -> Option<Measures>
         Some(schema.measures())
     } else {
         None
-    }
-}
-
-// So many nodes, and measures where there are some, as lines of text.
-fn count_lines(alloc: Global, nodes: u64, measures: Option<Measures>) -> Result<String, AllocError>
-    ensures { IfOk result (λ text. string_bytes text ≡ count_text form.Text nodes measures) }
-{
-    match measures {
-        None => format!(in alloc; "nodes: {nodes}\n"),
-        Some(Measures { m, u, w }) => {
-            format!(in alloc; "nodes: {nodes}\nm: {m}\nu: {u}\nw: {w}\n")
-        }
     }
 }
 
