@@ -1,4 +1,4 @@
-use Rattle.yv_batch.specs.Label.{label_line, label_of}
+use Rattle.yv_batch.specs.Label.{label_of}
 use Rattle.yv_documents.proofs.ReplyLemmas.{adds_as, adds_both, reply_added}
 use Rattle.yv_documents.proofs.text_reply.put_text_reply.Goals as goal
 

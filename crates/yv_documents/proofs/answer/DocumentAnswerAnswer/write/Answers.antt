@@ -4,7 +4,6 @@ use Rattle.yv_base_streams.specs.Stream.{stream_inner}
 use Rattle.yv_batch.specs.AskedDocument.{Read, asked_of, reading_of}
 use Rattle.yv_batch.specs.Level.{level_number}
 use Rattle.yv_batch.specs.declared.level.Level.{Level}
-use Rattle.yv_documents.specs.InnerReply.{text_of}
 use Rattle.yv_documents.proofs.ReplyLemmas.{faults_read, level_of_said, text_said, verdict_read}
 use Rattle.yv_documents.proofs.answer.DocumentAnswerAnswer.write.Goals as goal
 
