@@ -1,5 +1,5 @@
 -- An offset by its line and its column.
-use Rattle.std.proofs.Common.{◌≡◌, ◌∙◌, ◌+◌, ◌-◌, ◌<◌, ◌≤◌, ◌==◌, ℕ, zero, suc, not, Bool, true, false, List, length, get_or, take, refl, ap, sym, subst, nat_lt, arith}
+use Rattle.std.proofs.Common.{◌≡◌, ◌∙◌, ◌+◌, ◌-◌, ◌<◌, ◌≤◌, ℕ, zero, suc, not, Bool, true, false, List, length, get_or, take, refl, ap, sym, subst, nat_lt, arith}
 use Rattle.std.specs.Prelude.{count_by}
 use Rattle.std.specs.List.{suffix_len}
 use Rattle.std.proofs.lemmas.Bool.{eqb-true, ltb-false, ltb-true}

@@ -1,5 +1,5 @@
 -- Lines are read back.
-use Rattle.std.proofs.Common.{◌≡◌, ◌∙◌, ◌<◌, ◌≤◌, ◌^◌, ◌==◌, ℕ, List, [], ◌∷◌, ◌++◌, Bool, true, false, cond, Ordering, Less, Equal, Greater, nat_cmp, is_eq, ◌&&◌, refl, codes, decimal, sym, ap, subst, append-nil, arith}
+use Rattle.std.proofs.Common.{◌≡◌, ◌∙◌, ◌≤◌, ◌==◌, ℕ, List, [], Bool, true, false, cond, Ordering, Less, Equal, Greater, nat_cmp, is_eq, ◌&&◌, refl, codes, sym, ap, append-nil, arith}
 use Rattle.std.specs.Prelude.{⊤, Option, Some, None, is_none, option_and_then, option_map}
 use Rattle.std.specs.Cmp.Lexicographic.{slice_cmp}
 use Rattle.std.specs.Ordering.{match_ordering}
@@ -27,7 +27,7 @@ use Rattle.yv_data_faults.specs.Line.{kind_name, path_text}
 use Rattle.yv_json_lines.specs.OneLine.{CostFits, Fits, LineFits, MeasuresFit, VerdictFits}
 use Rattle.yv_json_lines.specs.Pointer.{pointer_text}
 use Rattle.yv_json_lines.specs.ReadBack.{ReadsBack}
-use Rattle.yv_json_lines.specs.Values.{cost_members, count_value, document_value, fault_value, faults_members, line_member, measures_members, number_member, refusal_value, result_value, run_value, shown_name, text_member, unique_member, verdict_name}
+use Rattle.yv_json_lines.specs.Values.{cost_members, count_value, document_value, fault_value, faults_members, line_member, number_member, refusal_value, result_value, run_value, shown_name, text_member, verdict_name}
 use Rattle.yv_json_lines.specs.declared.document.DocumentVerdict.{DocumentVerdict}
 use Rattle.yv_json_lines.specs.declared.document.DocumentVerdict.TheVariants as verdict
 use Rattle.yv_json_lines.specs.declared.document.ValidationCost.{ValidationCost}

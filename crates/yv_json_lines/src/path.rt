@@ -1,5 +1,5 @@
 //! Paths of faults as JSON strings.
-ghost use Rattle.std.specs.{Prelude.{◌≡◌, ◌<◌, ◌++◌, ◌∷◌, [], ℕ, List, Option, codes, decimal, option_map}};
+ghost use Rattle.std.specs.Prelude.{◌++◌, ◌∷◌, [], ℕ, List, Option, codes, decimal};
 ghost use Rattle.json.specs.Print.{escape as json_escape, escape_byte, quoted};
 ghost use Rattle.yv_data_faults.specs.Line.{escaped_byte, hexadecimal, is_plain, item_text, path_text, places_text};
 ghost use Rattle.yv_base_streams.specs.{Stream.{has_failed, stream_inner}, Pages.{Adds, paged_output}};

@@ -1,5 +1,5 @@
 //! Pointers to the places of faults (RFC 6901) as JSON strings.
-ghost use Rattle.std.specs.{Prelude.{◌≡◌, ◌<◌, ◌++◌, ◌-◌, ◌∷◌, [], ℕ, List, Option, codes, decimal, option_map}};
+ghost use Rattle.std.specs.Prelude.{◌≡◌, ◌++◌, ◌-◌, ◌∷◌, [], ℕ, List, Option, codes, decimal, option_map};
 ghost use Rattle.json.specs.Print.{escape as json_escape, quoted};
 ghost use Rattle.yv_data_leafrefs.specs.Place.{member_text};
 ghost use Rattle.yv_base_streams.specs.{Stream.{has_failed, stream_inner}, Pages.{Adds, paged_output}};

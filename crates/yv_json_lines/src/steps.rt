@@ -1,5 +1,5 @@
 //! The steps of paths inside of JSON strings, as paths or as pointers spell them.
-ghost use Rattle.std.specs.{Prelude.{◌≡◌, ◌<◌, ◌++◌, ◌∷◌, [], ℕ, List, Option, codes, decimal, option_map}};
+ghost use Rattle.std.specs.Prelude.{◌++◌, ◌∷◌, [], ℕ, List, Option, codes, option_map};
 ghost use Rattle.json.specs.Print.{escape as json_escape};
 ghost use Rattle.yv_nodes.specs.Member.{behind};
 ghost use Rattle.yv_data_leafrefs.specs.Place.{member_text};
