@@ -7,6 +7,7 @@ use Rattle.yv_data_faults.specs.Line.{line_text}
 use Rattle.yv_job.specs.declared.job.OutputForm.{OutputForm}
 use Rattle.yv_job.specs.declared.job.OutputForm.TheVariants as form
 use Rattle.yv_batch.specs.Label.{label_line, label_of}
+use Rattle.yv_json_lines.specs.Values.{fault_value, json_line}
 use Rattle.yv_json_lines.specs.declared.document.DocumentVerdict.{DocumentVerdict}
 use Rattle.yv_json_lines.specs.declared.document.DocumentVerdict.TheVariants as verdict
 use Rattle.yv_json_lines.specs.declared.document.ValidationCost.{ValidationCost}
@@ -71,3 +72,7 @@ verdict_level verdict.TooLarge = 2
 verdict_level verdict.NotJson = 2
 verdict_level verdict.CannotRead = 3
 verdict_level verdict.OutOfMemory = 3
+
+-- the line of a fault of a document of this name and line, as a JSON object
+unfoldable pub fault_result : (name : List ℕ) → (line : Option ℕ) → Flaw → List ℕ
+fault_result name line f = json_line (fault_value name line f)
