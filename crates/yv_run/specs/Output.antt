@@ -28,7 +28,7 @@ use Rattle.yv_run.specs.Compiles.{Compilation, RefusedAt, HasSchema, FilesCompil
 use Rattle.yv_documents.specs.Document.{DocumentText, TooLarge, NotJson, Reads, document_text}
 use Rattle.yv_base_streams.specs.Files.{File}
 use Rattle.yv_run.specs.declared.print.Body.{Body}
-use Rattle.yv_run.specs.declared.print.Body.TheVariants.{Text, Diagram, Faults, Compilation}
+use Rattle.yv_run.specs.declared.print.Body.TheVariants.{Text, Diagram, Faults, Compiled}
 use Rattle.yv_run.specs.declared.print.CompilationResult.{CompilationResult}
 use Rattle.yv_run.specs.declared.print.CompilationResult.TheVariants as compilation
 use Rattle.yv_run.specs.declared.print.Output.{Output}
@@ -193,7 +193,7 @@ abbrev pub body_text : Body → List ℕ
 body_text (Text text) = string_bytes text
 body_text (Diagram text) = text
 body_text (Faults list end) = with_end (checked_text list.items) (option_map string_bytes end)
-body_text (Compilation r) = compilation_text r
+body_text (Compiled r) = compilation_text r
 
 -- what an output of the code prints
 abbrev pub printed_of : Output → Page

@@ -10,14 +10,14 @@ use Rattle.yv_documents.specs.Document.{document_text}
 use Rattle.yv_documents.specs.DocumentLines.{faults_in}
 use Rattle.yv_documents.specs.Notes.{NotesReading}
 use Rattle.yv_run.specs.declared.print.Body.{Body}
-use Rattle.yv_run.specs.declared.print.Body.TheVariants.{Text, Diagram, Faults, Compilation}
+use Rattle.yv_run.specs.declared.print.Body.TheVariants.{Text, Diagram, Faults, Compiled}
 
 -- the faults of which the lines are written, none for a document that is valid
 abbrev pub faults_of : Body → List Flaw
 faults_of (Text text) = []
 faults_of (Diagram text) = []
 faults_of (Faults list end) = list.items
-faults_of (Compilation r) = []
+faults_of (Compiled r) = []
 
 -- the note on these bytes as a document of a kind: none where it is valid
 abbrev pub NotesData : Kind → Rows → (given : List ℕ) → (note : Option (List ℕ)) → Type 0

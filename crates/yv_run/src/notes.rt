@@ -39,7 +39,7 @@ impl Body<'_> {
         ensures { result.now ≡ faults_of self.now }
     {
         match self {
-            Body::Text(_) | Body::Diagram(_) | Body::Compilation(_) => &[],
+            Body::Text(_) | Body::Diagram(_) | Body::Compiled(_) => &[],
             Body::Faults(faults, _) => faults.as_slice(),
         }
     }

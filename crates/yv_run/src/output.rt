@@ -65,7 +65,7 @@ fn put_body<W: Write>(writer: &mut Counted<W>, body: &Body<'_>) -> bool
         Body::Faults(faults, Some(end)) => {
             write_checked(writer, faults.as_slice(), Some(end.as_str()))
         }
-        Body::Compilation(result) => write_compilation(writer, result),
+        Body::Compiled(result) => write_compilation(writer, result),
     }
 }
 

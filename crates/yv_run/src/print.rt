@@ -35,7 +35,7 @@ pub enum Body<'a> {
     /// The faults of a document, of which there may be none, and a text that follows their lines.
     Faults(Vec<Fault>, Option<String>),
     /// The result of a compilation.
-    Compilation(CompilationResult),
+    Compiled(CompilationResult),
 }
 
 /// The output of a run: what it writes, and what it found.
@@ -97,7 +97,7 @@ fn refusal_object(
         offset: refusal.offset,
     };
     let result = CompilationResult::Refusal(name, position, refusal.code.name());
-    Ok(Body::Compilation(result))
+    Ok(Body::Compiled(result))
 }
 
 // The name of the file of this number, where there is one.
@@ -127,7 +127,7 @@ pub fn of_count(schema: &Schema, options: OutputOptions) -> Output<'static>
     let (nodes, measures) = (schema.len() as u64, measures_if(schema, options.measures));
     let result = CompilationResult::Count(options.form, nodes, measures);
     Output {
-        body: Body::Compilation(result),
+        body: Body::Compiled(result),
         verdict: Verdict::Clean,
     }
 }
