@@ -45,7 +45,7 @@ _yangcheck_value() {
       [[ $word == *,* ]] && before=${word%,*},
       mapfile -t COMPREPLY < <(compgen -P "$before" -W "$(_yangcheck_module_names)" -- "${word##*,}")
       ;;
-    --max-nodes) ;;
+    --max-nodes | --explain) ;;
     *) return 1 ;;
   esac
   return 0
@@ -56,7 +56,7 @@ _yangcheck_options() {
   local command=$1 word=$2 option left=(--path)
   local options=(--max-nodes --support --import-only --help)
   [ "$command" = tree ] && options+=(--module)
-  [ "$command" = validate ] && options+=(--each --kind) && left+=(--data)
+  [ "$command" = validate ] && options+=(--each --kind --explain) && left+=(--data)
   [[ $command == compile || $command == validate ]] && options+=(--format --measures)
   for option in "${options[@]}"; do
     [[ " ${COMP_WORDS[*]:2} " == *" $option "* && $option != "$word" ]] || left+=("$option")

@@ -29,6 +29,7 @@ complete -c yangcheck -n '__fish_seen_subcommand_from tree' -l module -x -a '(__
 complete -c yangcheck -n '__fish_seen_subcommand_from validate' -l data -r -k -a '(__fish_complete_suffix .json)' -d 'JSON document, or - for standard input'
 complete -c yangcheck -n '__fish_seen_subcommand_from validate' -l each -x -a 'file\t"a document" line\t"documents on lines" name\t"file names on lines" name0\t"file names ended by NUL"' -d 'What each --data holds'
 complete -c yangcheck -n '__fish_seen_subcommand_from validate' -l kind -x -a 'data\t"configuration and state" config\t"configuration alone"' -d 'What the document holds'
+complete -c yangcheck -n '__fish_seen_subcommand_from validate' -l explain -x -d 'Faults of a document that are explained on standard error'
 complete -c yangcheck -n '__fish_seen_subcommand_from compile validate' -l format -x -a 'text\t"lines of text" json\t"a JSON object on each line"' -d 'Form of standard output'
 complete -c yangcheck -n '__fish_seen_subcommand_from compile validate' -l measures -d 'Print what bounds the work of a validation'
 complete -c yangcheck -n $in_command -k -a '(__fish_complete_suffix .yang)'

@@ -51,6 +51,10 @@ impl<R: Eprint> NoteSink for ErrorNotes<'_, R> {
         self.left.set(self.left.get().saturating_sub(1));
         let _ = self.rt.eprint(note);
     }
+
+    fn add(&mut self, line: &str) {
+        let _ = self.rt.eprint(line);
+    }
 }
 
 /// A document that could not be read, as its note names it.

@@ -129,6 +129,7 @@ pub(crate) fn plan_of(alloc: Global, request: Request, files: &[Input]) -> Resul
         limit,
         selection,
         kind,
+        explain,
         each,
         output,
         folders,
@@ -153,6 +154,7 @@ pub(crate) fn plan_of(alloc: Global, request: Request, files: &[Input]) -> Resul
         limit,
         selection,
         kind,
+        explain,
         output,
         search,
     };

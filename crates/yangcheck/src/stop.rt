@@ -52,6 +52,17 @@ pub(crate) fn read_failure<D: Display + Drop>(alloc: Global, name: &str, reason:
     RunEnd::stop_with_note(Status::ReadFault, note)
 }
 
+/// What stands before the number of an error, where the system's reason ends with one.
+const ERROR_NUMBER: &str = " (os error ";
+
+// A reason without the number of the system's error, which says nothing to a person.
+fn without_number(reason: &str) -> &str {
+    match reason.rsplit_once(ERROR_NUMBER) {
+        Some((words, _)) => words,
+        None => reason,
+    }
+}
+
 /// The name of a file as a terminal may show it, with the number of its line where it is one line
 /// of the file that can't be read, and why it can't be read.
 pub(crate) fn unread_note<D: Display + Drop>(
@@ -62,9 +73,11 @@ pub(crate) fn unread_note<D: Display + Drop>(
 ) -> Result<String, AllocError> {
     let mut note = String::new(alloc);
     push_shown(&mut note, name)?;
+    let whole = format!(in alloc; "{reason}")?;
+    let words = without_number(whole.as_str());
     let reason = match line {
-        Some(line) => format!(in alloc; ":{line}: {reason}\n")?,
-        None => format!(in alloc; ": {reason}\n")?,
+        Some(line) => format!(in alloc; ":{line}: {words}\n")?,
+        None => format!(in alloc; ": {words}\n")?,
     };
     note.push_str(reason.as_str())?;
     Ok(note)

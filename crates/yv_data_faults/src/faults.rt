@@ -78,10 +78,11 @@ impl Faults {
         ensures same { self.new.items ≡ self.old.items }
     {
         let way = way_to(alloc, schema, &mut self.ways, trail)?;
+        let node = trail.node();
         match trail {
-            Trail::Root => Ok(Path::of_way(way, self.entries_to(alloc, trail)?, None)),
+            Trail::Root => Ok(Path::of_way(node, way, self.entries_to(alloc, trail)?, None)),
             Trail::Below(outer, _, item) => {
-                Ok(Path::of_way(way, self.entries_to(alloc, outer)?, *item))
+                Ok(Path::of_way(node, way, self.entries_to(alloc, outer)?, *item))
             }
         }
     }
@@ -105,7 +106,7 @@ impl Faults {
         let step = Step::of_name(RcStr::from_str(alloc, member)?, None);
         let way = Rc::new(alloc, Way::After(way, trail.is_entry(), step))?;
         let around = self.entries_to(alloc, trail)?;
-        Ok(Path::of_way(way, around, None))
+        Ok(Path::of_way(trail.node(), way, around, None))
     }
 
     // The entries on a way, which are kept for the next fault.

@@ -8,6 +8,8 @@ use std::alloc::{AllocError, Global};
 use std::marker::Model;
 use std::rc::Rc;
 use yv_data_leafrefs::{MemberName, Step, ValuePath, ValueSteps};
+use yv_nodes::NodeId;
+use yv_schema_tables::Schema;
 
 /// The way to a node, or to a member that names none: what its steps are called. The ways below one
 /// share it.
@@ -43,6 +45,7 @@ enum KeptWay {
 #[derive(Drop)]
 pub struct Path {
     kept: KeptWay,
+    node: NodeId,
 }
 
 impl Model for Path {
@@ -56,12 +59,19 @@ impl Model for Path {
 }
 
 impl Path {
-    /// The path of a way, in these entries, to an entry or an item of this number.
-    pub(crate) fn of_way(way: Rc<Way>, entries: Rc<Entries>, item: Option<u64>) -> Path
+    /// The path of a way, in these entries, to an entry or an item of this number. It is about this
+    /// schema node.
+    pub(crate) fn of_way(
+        node: NodeId,
+        way: Rc<Way>,
+        entries: Rc<Entries>,
+        item: Option<u64>,
+    ) -> Path
         ensures { result ≡ places_of (way_names way.value) (numbers entries.value) item }
     {
         Path {
             kept: KeptWay::Shared(way, entries, item),
+            node,
         }
     }
 
@@ -69,9 +79,17 @@ impl Path {
     pub fn to_value(path: ValuePath) -> Path
         ensures { result ≡ path }
     {
+        let node = path.node().unwrap_or(Schema::ROOT);
         Path {
             kept: KeptWay::Value(path),
+            node,
         }
+    }
+
+    /// The schema node at the end of the path. It is the node around a member that names none, and
+    /// the root for the whole document.
+    pub fn node(&self) -> NodeId {
+        self.node
     }
 
     /// The path's steps.

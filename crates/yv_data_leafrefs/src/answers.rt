@@ -245,6 +245,7 @@ impl Answers<'_> {
     {
         Ok(Location {
             outer,
+            node,
             name: names.name_of(self.schema, node)?,
             item,
         })

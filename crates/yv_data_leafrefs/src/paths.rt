@@ -6,12 +6,14 @@ use crate::place::{MemberName, Step};
 use std::alloc::{AllocError, Global};
 use std::marker::Model;
 use std::rc::Rc;
+use yv_nodes::NodeId;
 
-/// Where something is: the number of the object around it, what its member is called, and its
-/// number from 1 where it is an entry or an item.
+/// Where something is: the number of the object around it, its schema node, what its member is
+/// called, and its number from 1 where it is an entry or an item.
 #[derive(Drop)]
 pub(crate) struct Location {
     pub(crate) outer: u64,
+    pub(crate) node: NodeId,
     pub(crate) name: Rc<Step>,
     pub(crate) item: Option<u64>,
 }
@@ -57,6 +59,12 @@ impl ValuePath {
             locations: self.locations.as_ref(),
             end: End::Value(self.number),
         }
+    }
+
+    /// The schema node of the value.
+    pub fn node(&self) -> Option<NodeId> {
+        let location = self.locations.values.get(self.number as usize)?;
+        Some(location.node)
     }
 }
 

@@ -4,11 +4,12 @@ ghost use Rattle.yv_documents.specs.{AskedText.{asked_text, asked_total}, Docume
 
 use crate::findings::find;
 use crate::measured_validator::MeasuredValidator;
-use crate::notes::{NoteSink, Notes};
+use crate::note_sink::{NoteSink, Notes};
+use crate::notes::{DocumentSource, NoteBasis};
 use crate::reply::{Reply, write_reply};
 use std::alloc::{AllocError, Global};
 use std::io::Write;
-use yv_base_streams::{Counted, Page};
+use yv_base_streams::{Counted, Input, Page};
 use yv_batch::{Answer, Content, Fetched, Level, Tally, put_total_line};
 use yv_job::{Job, OutputForm, OutputOptions};
 use yv_json_lines::{DocumentVerdict, put_run_line};
@@ -29,12 +30,13 @@ pub struct DocumentAnswer<'a, N> {
 impl<'a, N> DocumentAnswer<'a, N> {
     ghost use Rattle.yv_documents.specs.AnswerText.{answer_level, answer_text, answer_total};
 
-    /// The answer to documents of this schema, as the job asks. The tables of the schema that serve
-    /// all documents are made here.
+    /// The answer to documents of this schema, as the job asks, of which these are the files. The
+    /// tables of the schema that serve all documents are made here.
     pub fn new(
         alloc: Global,
         schema: &'a Schema,
         job: &'a Job,
+        inputs: &'a [Input],
         notes: &'a mut N,
     ) -> Result<DocumentAnswer<'a, N>, AllocError>
         // What is written of a document has the job's form, and says what a document of the job's
@@ -53,8 +55,11 @@ impl<'a, N> DocumentAnswer<'a, N> {
             kind: job.kind,
             output: job.output,
             notes: Notes {
-                job,
-                schema,
+                basis: NoteBasis {
+                    job,
+                    inputs,
+                    schema,
+                },
                 sink: notes,
             },
         })
@@ -84,7 +89,8 @@ impl<N: NoteSink> Answer for DocumentAnswer<'_, N> {
                 let bytes = bytes.as_slice();
                 let findings = find(alloc, &self.validator, self.kind, measures, bytes)?;
                 let level = write_reply(writer, form, name, line, &findings.reply());
-                self.notes.show(alloc, name, line, &findings, bytes);
+                let source = DocumentSource { name, line, bytes };
+                self.notes.show(alloc, &source, &findings);
                 Ok(level)
             }
             Content::Unread => {

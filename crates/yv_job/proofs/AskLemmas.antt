@@ -6,7 +6,7 @@ use Rattle.std.proofs.lemmas.List.Elements.{recursion_from_All}
 use Rattle.std.proofs.lemmas.List.Splits.{slice_split_at}
 use Rattle.std.proofs.Math.Dec.{eqb}
 use Rattle.clap.specs.Words.{Text, Row, subcommand_of}
-use Rattle.yv_job.specs.Asks.{IsCommand, IsAsked, AreSources, data_of, each_word, IsEachFor, IsFormFor, IsFlag, IsOutput, IsLimit, IsSupportFor, IsImportsFor, IsKindFor, IsChoice, IsFiles, Asks, AsksIn, WordsAsk}
+use Rattle.yv_job.specs.Asks.{IsCommand, IsAsked, AreSources, data_of, each_word, IsEachFor, IsFormFor, IsFlag, IsOutput, IsLimit, IsExplainFor, IsSupportFor, IsImportsFor, IsKindFor, IsChoice, IsFiles, Asks, AsksIn, WordsAsk}
 use Rattle.yv_job.specs.CommandLine.{yangcheck_app}
 use Rattle.yv_job.specs.Jobs.{CommandAsked, Compiles, Draws, Checks}
 use Rattle.yv_job.specs.Requests.{ActionAsked, Lists, Does, ChecksAll, RequestAsked}
@@ -119,6 +119,10 @@ same_limit : (t : Option Text) (m n : ℕ) → IsLimit t m → IsLimit t n → m
 same_limit None m n h i = h ∙ sym i
 same_limit (Some t) m n h i = sym h.0.1 ∙ i.0.1
 
+same_explain : (t : Option Text) (m n : ℕ) → IsExplainFor t m → IsExplainFor t n → m ≡ n
+same_explain None m n h i = h ∙ sym i
+same_explain (Some t) m n h i = sym h.0.1 ∙ i.0.1
+
 same_kind : (t : Option Text) (k l : Kind) → IsKindFor t k → IsKindFor t l → k ≡ l
 same_kind None k l h i = h ∙ sym i
 same_kind (Some t) All All h i = refl
@@ -196,11 +200,13 @@ same_request name rows v w h i =
     let files = same_files rows v.files w.files h.files i.files in
     let limit = same_limit _ v.limit w.limit h.limit i.limit in
     let choice = same_choice rows v.choice w.choice h.choice i.choice in
+    let explain = same_explain _ v.explain w.explain h.explain i.explain in
     let kind = same_kind _ v.kind w.kind h.kind i.kind in
-    ap₂ (λ (a : ActionAsked) (fs : List (List ℕ)). record { action = a; limit = v.limit; choice = v.choice; kind = v.kind; each = v.each; output = v.output; folders = v.folders; files = fs }) action files
-    ∙ ap₂ (λ (n : ℕ) (c : ModuleChoice). record { action = w.action; limit = n; choice = c; kind = v.kind; each = v.each; output = v.output; folders = v.folders; files = w.files }) limit choice
-    ∙ ap₂ (λ (ds : List (List ℕ)) (k : Kind). record { action = w.action; limit = w.limit; choice = w.choice; kind = k; each = v.each; output = v.output; folders = ds; files = w.files }) folders kind
-    ∙ ap₂ (λ (e : Option Each) (o : OutputOptions). record { action = w.action; limit = w.limit; choice = w.choice; kind = w.kind; each = e; output = o; folders = w.folders; files = w.files }) each output
+    ap₂ (λ (a : ActionAsked) (fs : List (List ℕ)). record { action = a; limit = v.limit; choice = v.choice; kind = v.kind; explain = v.explain; each = v.each; output = v.output; folders = v.folders; files = fs }) action files
+    ∙ ap₂ (λ (n : ℕ) (c : ModuleChoice). record { action = w.action; limit = n; choice = c; kind = v.kind; explain = v.explain; each = v.each; output = v.output; folders = v.folders; files = w.files }) limit choice
+    ∙ ap₂ (λ (ds : List (List ℕ)) (k : Kind). record { action = w.action; limit = w.limit; choice = w.choice; kind = k; explain = v.explain; each = v.each; output = v.output; folders = ds; files = w.files }) folders kind
+    ∙ ap₂ (λ (e : Option Each) (o : OutputOptions). record { action = w.action; limit = w.limit; choice = w.choice; kind = w.kind; explain = v.explain; each = e; output = o; folders = w.folders; files = w.files }) each output
+    ∙ ap (λ (n : ℕ). record { action = w.action; limit = w.limit; choice = w.choice; kind = w.kind; explain = n; each = w.each; output = w.output; folders = w.folders; files = w.files }) explain
 
 same_in : (found : Option (Text × List Row)) (v w : RequestAsked) → AsksIn found v → AsksIn found w → v ≡ w
 same_in None v w h i = absurd h

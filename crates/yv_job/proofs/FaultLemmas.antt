@@ -3,16 +3,17 @@ use Rattle.std.proofs.Common.{◌≡◌, ◌⊎◌, ◌∙◌, inl, inr, ℕ, Li
 use Rattle.clap.specs.Words.{Text, Row, first_of, fault_of, IsAmong}
 use Rattle.clap.specs.declared.error.kind.ErrorKind.{ErrorKind}
 use Rattle.clap.specs.declared.error.kind.ErrorKind.TheVariants as kind
-use Rattle.yv_job.specs.Asks.{AreUnderstood, Asks, IsAsked, IsEachFor, IsFormFor, IsImportsFor, IsKindFor, IsLimit, IsSupportFor}
+use Rattle.yv_job.specs.Asks.{AreUnderstood, Asks, IsAsked, IsEachFor, IsFormFor, IsImportsFor, IsExplainFor, IsKindFor, IsLimit, IsSupportFor}
 use Rattle.yv_job.specs.CommandLine.{yangcheck_app}
-use Rattle.yv_job.specs.Faults.{IfUsage, AreRefused, IsReason, command_line, of_command, of_each, of_imports, of_kind, of_limit, of_support, value_line}
+use Rattle.yv_job.specs.Faults.{IfUsage, AreRefused, IsReason, command_line, of_command, of_each, of_explain, of_imports, of_kind, of_limit, of_support, value_line}
 use Rattle.yv_job.specs.Requests.{ActionAsked, RequestAsked}
 use Rattle.yv_job.specs.declared.job.OutputForm.{OutputForm}
 use Rattle.yv_job.specs.declared.request.Each.{Each}
 use Rattle.yv_job.proofs.AskLemmas.{same_each, same_form}
 use Rattle.yv_text_statement.specs.Selection.{Entry}
 use Rattle.yv_text_statement.specs.declared.document_kind.Kind.{Kind}
-use Rattle.yv_job.specs.Matches.{IsFaultFor}
+use Rattle.yv_job.specs.Matches.{IsFaultFor, IsReport}
+use Rattle.yv_job.specs.declared.matches.ReportOptions.{ReportOptions}
 use Rattle.yv_job.specs.declared.request.JobFault.{JobFault}
 use Rattle.yv_job.specs.declared.request.JobFault.TheVariants.{Usage, Help, NoMemory}
 
@@ -31,6 +32,11 @@ pub limit_line : (name : Text) (rows : List Row) (value : Option Text) (line : T
     → line ≡ value_line (codes "max-nodes") (codes "a number from 1 to 1000000") value → IsReason name rows line
 limit_line name rows value line same unfit is =
     of_limit (λ n h. unfit n (subst (λ v. IsLimit v n) (sym same) h)) (is ∙ ap (value_line (codes "max-nodes") (codes "a number from 1 to 1000000")) same)
+
+pub explain_line : (name : Text) (rows : List Row) (value : Option Text) (line : Text) → value ≡ first_of (codes "explain") rows → ((n : ℕ) → IsExplainFor value n → ⊥)
+    → line ≡ value_line (codes "explain") (codes "a number from 0 to 10000") value → IsReason name rows line
+explain_line name rows value line same unfit is =
+    of_explain (λ n h. unfit n (subst (λ v. IsExplainFor v n) (sym same) h)) (is ∙ ap (value_line (codes "explain") (codes "a number from 0 to 10000")) same)
 
 pub kind_line : (name : Text) (rows : List Row) (value : Option Text) (line : Text) → value ≡ first_of (codes "kind") rows → ((k : Kind) → IsKindFor value k → ⊥)
     → line ≡ value_line (codes "kind") (codes "data or config") value → IsReason name rows line
@@ -51,6 +57,12 @@ pub each_line : (name : Text) (rows : List Row) (value : Option Text) (line : Te
     → line ≡ value_line (codes "each") (codes "file, line, name or name0") value → IsReason name rows line
 each_line name rows value line same unfit is =
     of_each (λ e h. unfit e (subst (λ v. IsEachFor v e) (sym same) h)) (is ∙ ap (value_line (codes "each") (codes "file, line, name or name0")) same)
+
+-- where nothing can be reported, the words ask for nothing
+pub no_report : (name : Text) (rows : List Row) → ((o : ReportOptions) → IsReport rows o → ⊥) → (w : RequestAsked) → Asks name rows w → ⊥
+no_report name rows none w asks =
+    none (record { kind = w.kind; each = w.each; output = w.output; explain = w.explain })
+    (record { kind = asks.kind; each = asks.each; output = asks.output; explain = asks.explain })
 
 -- where nothing is asked for with what was read of two options, nothing is with what they may say
 pub no_action : (name : Text) (rows : List Row) (e : Option Each) (f : OutputForm) → IsEachFor (first_of (codes "each") rows) e → IsFormFor (first_of (codes "format") rows) f

@@ -57,6 +57,12 @@ abbrev pub IsLimit : Option Text → ℕ → Type 0
 IsLimit None n = n ≡ 100000
 IsLimit (Some t) n = IsDecimal t n × (1 ≤ n) × (n ≤ 1000000)
 
+-- the number of faults of a document that have a line each on standard error is a decimal number
+-- up to 10,000, and 20 where none was named
+abbrev pub IsExplainFor : Option Text → ℕ → Type 0
+IsExplainFor None n = n ≡ 20
+IsExplainFor (Some t) n = IsDecimal t n × (n ≤ 10000)
+
 -- modules with their features, none where none were named
 abbrev pub IsSupportFor : Option Text → List Entry → Type 0
 IsSupportFor None es = es ≡ []
@@ -127,6 +133,7 @@ pub record Asks (name : Text) (rows : List Row) (w : RequestAsked) : Type 0 wher
   pub limit : IsLimit (first_of (codes "max-nodes") rows) w.limit
   pub choice : IsChoice rows w.choice
   pub kind : IsKindFor (first_of (codes "kind") rows) w.kind
+  pub explain : IsExplainFor (first_of (codes "explain") rows) w.explain
   pub each : IsEachFor (first_of (codes "each") rows) w.each
   pub output : IsOutput rows w.output
   pub folders : IsFolders rows w.folders

@@ -56,13 +56,14 @@ compile_app = with_shared (with_output (new_app (codes "compile")))
 abbrev pub tree_app : App
 tree_app = with_shared (with_rule (new_app (codes "tree")) (required_rule (codes "module")))
 
--- `validate --data F..`, with `--each W`, `--kind K`, `--format F` and `--measures`
+-- `validate --data F..`, with `--each W`, `--kind K`, `--explain N`, `--format F` and `--measures`
 abbrev pub validate_app : App
 validate_app =
     let checking = with_rule (new_app (codes "validate")) (required_repeated_rule (codes "data")) in
     let splitting = with_rule checking (option_rule (codes "each")) in
     let asking = with_rule splitting (option_rule (codes "kind")) in
-    with_shared (with_output asking)
+    let explaining = with_rule asking (option_rule (codes "explain")) in
+    with_shared (with_output explaining)
 
 -- `files`
 abbrev pub files_app : App

@@ -5,7 +5,7 @@ use Rattle.std.specs.Fmt.{decimal}
 use Rattle.clap.specs.Words.{Text, Row, fault_of, all_of, first_of, IsAmong}
 use Rattle.clap.specs.declared.error.kind.ErrorKind.{ErrorKind}
 use Rattle.clap.specs.declared.error.kind.ErrorKind.TheVariants as kind
-use Rattle.yv_job.specs.Asks.{WordsAsk, IsAsked, IsFiles, IsLimit, IsSupportFor, IsImportsFor, IsKindFor, IsEachFor, IsFormFor}
+use Rattle.yv_job.specs.Asks.{WordsAsk, IsAsked, IsFiles, IsLimit, IsExplainFor, IsSupportFor, IsImportsFor, IsKindFor, IsEachFor, IsFormFor}
 use Rattle.yv_job.specs.CommandLine.{yangcheck_app}
 use Rattle.yv_job.specs.Requests.{ActionAsked, RequestAsked}
 use Rattle.yv_text_statement.specs.Selection.{Entry}
@@ -74,6 +74,10 @@ pub data IsReason (name : Text) (rows : List Row) (line : Text) : Type 0 where
       → IsReason name rows line
   of_form : ((f : OutputForm) → IsFormFor (first_of (codes "format") rows) f → ⊥)
       → line ≡ value_line (codes "format") (codes "text or json") (first_of (codes "format") rows)
+      → IsReason name rows line
+  of_explain : ((n : ℕ) → IsExplainFor (first_of (codes "explain") rows) n → ⊥)
+      → line ≡ value_line (codes "explain") (codes "a number from 0 to 10000")
+      (first_of (codes "explain") rows)
       → IsReason name rows line
   of_files : ((fs : List Text) → IsFiles rows fs → ⊥)
       → line ≡ files_line (all_of (codes "file") rows) → IsReason name rows line

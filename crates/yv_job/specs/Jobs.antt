@@ -1,5 +1,5 @@
 -- What a clause reads of a job.
-use Rattle.std.specs.Prelude.{◌≤◌, length, ℕ, List, map, string_bytes}
+use Rattle.std.specs.Prelude.{◌≡◌, ◌≤◌, length, ℕ, List, Some, map, slice_get, string_bytes}
 use Rattle.yv_job.specs.declared.job.Job.{Job}
 use Rattle.yv_job.specs.declared.job.Command.{Command}
 use Rattle.yv_job.specs.declared.job.OutputOptions.{OutputOptions}
@@ -20,6 +20,7 @@ pub record Task : Type 0 where
   pub limit : ℕ
   pub choice : ModuleChoice
   pub kind : Kind
+  pub explain : ℕ
   pub output : OutputOptions
 
 -- what a command asks for
@@ -36,8 +37,13 @@ task_of j = record {
   limit = j.limit;
   choice = selected_of j.selection;
   kind = j.kind;
+  explain = j.explain;
   output = j.output;
 }
+
+-- the text is the name of one of a job's files
+abbrev pub IsFileOf : Job → List ℕ → Type 0
+IsFileOf j name = (place : ℕ) × (slice_get (map string_bytes j.files.items) place ≡ Some name)
 
 -- a job has 1 to 256 files
 abbrev pub HasFiles : Job → Type 0

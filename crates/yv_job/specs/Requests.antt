@@ -23,6 +23,7 @@ pub record RequestAsked : Type 0 where
   pub limit : ℕ
   pub choice : ModuleChoice
   pub kind : Kind
+  pub explain : ℕ
   pub each : Option Each
   pub output : OutputOptions
   pub folders : List (List ℕ)
@@ -41,6 +42,7 @@ request_of r = record {
   limit = r.limit;
   choice = selected_of r.selection;
   kind = r.kind;
+  explain = r.explain;
   each = r.each;
   output = r.output;
   folders = map string_bytes r.folders.items;
@@ -54,6 +56,7 @@ plain_request t = record {
   limit = t.limit;
   choice = t.choice;
   kind = t.kind;
+  explain = t.explain;
   each = None;
   output = t.output;
   folders = [];

@@ -1,4 +1,7 @@
 //! How the files of a job were found, for notes to a person.
+ghost use Rattle.std.specs.Prelude.{◌<◌, length, IfSome};
+ghost use Rattle.yv_job.specs.Jobs.{IsFileOf};
+
 use crate::job::Job;
 
 /// A search of folders for the files that a job has.
@@ -15,18 +18,23 @@ pub struct FolderSearch {
 
 impl Job {
     /// The place among the files of the one that was found for a module or submodule of this name.
-    pub fn found_place(&self, name: &str) -> Option<usize> {
+    pub fn found_place(&self, name: &str) -> Option<usize>
+        // It is the place of a file that the job has.
+        ensures { IfSome result (λ place. place < length self.now.files.items) }
+    {
         let named = self.search.as_ref()?.named;
-        for (place, file) in self.files.iter().enumerate().skip(named) {
-            if is_file_of(file.as_str(), name) {
-                return Some(place);
-            }
-        }
-        None
+        let found = self.files.get(named..)?;
+        let place = found
+            .iter()
+            .position(|file| is_file_of(file.as_str(), name))?;
+        Some(named + place)
     }
 
     /// The file that was found for a module that is imported only, since nothing requires it.
-    pub fn unrequired_file(&self, module: &str) -> Option<&str> {
+    pub fn unrequired_file(&self, module: &str) -> Option<&str>
+        // It is the name of a file that the job has.
+        ensures { IfSome result (λ file. IsFileOf self.now file.now) }
+    {
         let given = self.search.as_ref()?.given;
         let is_unrequired = self
             .selection

@@ -103,6 +103,9 @@ one, and the last line is `valid: V of N`. The exit status is the greatest of th
 documents'. A document that cannot be read does not keep the others from being
 validated.
 
+Standard error says what is wrong and what to do: of a document a line on each of its
+first 20 faults, or as many as --explain N says.
+
 With --measures, a line `steps: S of B` follows `valid` or `faults: N`: the steps
 that were taken, and the most that a document of this size may take. With
 --format json each line is a JSON object.",
@@ -153,6 +156,9 @@ What F holds: file (a document), line (documents on lines), name (file names on 
 
 pub const KIND: &str = "\
 What the document holds: data (configuration and state) or config (configuration alone) [default: data]";
+
+pub const EXPLAIN: &str = "\
+Of how many faults of a document standard error has a line, from 0 to 10000 [default: 20]";
 
 pub const FORMAT: &str = "\
 The form of standard output: text or json (a JSON object on each line) [default: text]";

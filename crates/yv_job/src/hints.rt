@@ -1,4 +1,4 @@
-//! Hints for words that users of other tools may type.
+//! Hints for words that users of other tools may type, and for what new users type first.
 use std::alloc::{AllocError, Global};
 
 const FOLDER_WORDS: &[&str] = &["-p", "--searchpath", "--search-path", "-D", "--search-dir"];
@@ -14,22 +14,40 @@ const CHECK_WORDS: &[&str] = &[
     "--ietf",
 ];
 
-const FOLDERS: &str = "hint: to search a folder for imported modules, write --path DIR\n";
+const FOLDERS: &str = "\
+hint: name the files of modules; to search a folder for those that they import, write --path DIR\n";
 
 const TREES: &str = "hint: to draw a tree, write yangcheck tree --module NAME FILE\n";
 
 const CHECKS: &str = "hint: to check modules, write yangcheck compile FILE\n";
 
-/// Adds a hint to the text of a usage error, where one of its words is known.
+/// How clap's refusal of a second `--support` begins.
+const SECOND_SUPPORT: &str = "error: the argument '--support <S>' cannot be used multiple times";
+
+/// How clap's refusal of a second `--import-only` begins.
+const SECOND_IMPORTS: &str =
+    "error: the argument '--import-only <L>' cannot be used multiple times";
+
+const JOINED_SUPPORT: &str = "\
+hint: give --support once and join its entries by `/`: --support MODULE:FEATURE/MODULE:FEATURE\n";
+
+const JOINED_IMPORTS: &str = "\
+hint: give --import-only once and join its modules by `,`: --import-only MODULE,MODULE\n";
+
+/// Adds a hint to the text of a usage error, where it is about an option that was given twice, or
+/// where one of the words is known.
 pub(crate) fn push_hint(
     alloc: Global,
     text: &mut String,
     words: &[String],
 ) -> Result<(), AllocError> {
+    if let Some(hint) = hint_on_second(text.as_str()) {
+        return text.push_str(hint);
+    }
     for (place, word) in words.iter().enumerate() {
         let word = word.as_str();
         if place == 1 && word.ends_with(".yang") {
-            let hint = format!(in alloc; "hint: to compile it, write yangcheck compile {word}\n")?;
+            let hint = format!(in alloc; "hint: did you mean: yangcheck compile {word}\n")?;
             return text.push_str(hint.as_str());
         }
         if let Some(hint) = hint_on(word) {
@@ -37,6 +55,17 @@ pub(crate) fn push_hint(
         }
     }
     Ok(())
+}
+
+// The hint on an option whose values are joined, where clap refuses a second one.
+fn hint_on_second(refusal: &str) -> Option<&'static str> {
+    if refusal.starts_with(SECOND_SUPPORT) {
+        Some(JOINED_SUPPORT)
+    } else if refusal.starts_with(SECOND_IMPORTS) {
+        Some(JOINED_IMPORTS)
+    } else {
+        None
+    }
 }
 
 // The hint on a word that other tools know.

@@ -52,6 +52,9 @@ pub struct Job {
     pub selection: Selection,
     /// What a document is checked as. It is all data for a job that checks none.
     pub kind: Kind,
+    /// Of how many faults of a document standard error has a line. It is 20 for a job that
+    /// checks none.
+    pub explain: u32,
     /// What standard output is like. Diagrams are always text, and so is what a run over one
     /// document writes of it.
     pub output: OutputOptions,

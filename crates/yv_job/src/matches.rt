@@ -2,20 +2,22 @@
 ghost use Rattle.std.specs.Prelude.{◌≡◌, ◌≤◌, ℕ, List, length, IfSome, IfOk, IfErr, MatchOption, [], codes, map, option_map, string_bytes};
 ghost use Rattle.std.specs.Option.{unwrap_or};
 ghost use Rattle.clap.specs.Words.{subcommand_rows_of, found_of, rows_of, all_of, first_of};
-ghost use Rattle.yv_job.specs.{Asks.{AsksIn, Asks, IsChoice, IsAsked, IsFiles, IsFlag, IsOutput}, Requests.{ActionAsked, request_of, action_of, NamesFiles, IsLimited}, Faults.{IsReason, TellsReason}, Matches.{AsksForNothing}};
+ghost use Rattle.yv_job.specs.{Asks.{AsksIn, Asks, IsChoice, IsAsked, IsFiles, IsFlag, IsOutput}, Requests.{ActionAsked, request_of, action_of, NamesFiles, IsLimited}, Faults.{IsReason, TellsReason}, Matches.{AsksForNothing, IsReport}};
 ghost use Rattle.yv_text_statement.specs.Selection.{ModuleChoice, selected_of};
-ghost use Rattle.yv_job.specs.declared.job.OutputOptions.{OutputOptions as TheOutput};
+ghost use Rattle.yv_job.specs.declared.{job.OutputOptions.{OutputOptions as TheOutput}, matches.ReportOptions.{ReportOptions as TheReport}};
 
 use crate::job::{Command, OutputForm, OutputOptions};
 use crate::names::copy_texts;
-use crate::options::{each_value, form_value, imports_value, kind_value, limit_of, support_value};
+use crate::options::{
+    each_value, explain_value, form_value, imports_value, kind_value, limit_of, support_value,
+};
 use crate::reasons::{
-    COMMAND, EACH, FORMS, IMPORTS, KINDS, NODES, SUPPORT, files_line, usage, value_line,
+    COMMAND, EACH, EXPLAIN, FORMS, IMPORTS, KINDS, NODES, SUPPORT, files_line, usage, value_line,
 };
 use crate::request::{Action, Each, Request};
 use clap::ArgMatches;
 use std::alloc::{AllocError, Global};
-use yv_text_statement::Selection;
+use yv_text_statement::{Kind, Selection};
 
 const MOST_FILES: usize = 256;
 
@@ -121,6 +123,52 @@ fn output_of(
     Ok(Ok(OutputOptions { form, measures }))
 }
 
+/// What documents are checked as, and what is reported of them.
+#[derive(Clone, Copy)]
+struct ReportOptions {
+    kind: Kind,
+    each: Option<Each>,
+    output: OutputOptions,
+    explain: u32,
+}
+
+// What the options ask for about documents, or the line about the one that is wrong.
+fn report_of(
+    alloc: Global,
+    below: &ArgMatches<'_>,
+) -> Result<Result<ReportOptions, String>, AllocError>
+    ensures report { let rows = rows_of (found_of below.now) in
+        IfOk result (λ r. IfOk r (λ o. IsReport rows o)) }
+    ensures nothing { let rows = rows_of (found_of below.now) in
+        IfOk result (λ r. IfErr r (λ _. (o : TheReport) → IsReport rows o → ⊥)) }
+    ensures reason { let rows = rows_of (found_of below.now) in
+        IfOk result
+        (λ r. IfErr r (λ line. (name : List ℕ) → IsReason name rows (string_bytes line))) }
+{
+    let word = first(below, "kind");
+    let Some(kind) = kind_value(word) else {
+        return Ok(Err(value_line(alloc, "kind", KINDS, word)?));
+    };
+    let word = first(below, "each");
+    let Some(each) = each_value(word) else {
+        return Ok(Err(value_line(alloc, "each", EACH, word)?));
+    };
+    let output = match output_of(alloc, below)? {
+        Ok(output) => output,
+        Err(line) => return Ok(Err(line)),
+    };
+    let number = first(below, "explain");
+    let Some(explain) = explain_value(number) else {
+        return Ok(Err(value_line(alloc, "explain", EXPLAIN, number)?));
+    };
+    Ok(Ok(ReportOptions {
+        kind,
+        each,
+        output,
+        explain,
+    }))
+}
+
 // The folders that are to be searched.
 fn folders_of(alloc: Global, below: &ArgMatches<'_>) -> Result<Vec<String>, AllocError>
     ensures { let rows = rows_of (found_of below.now) in
@@ -197,16 +245,13 @@ fn request_of_command(
         Ok(selection) => selection,
         Err(line) => return Ok(Err(line)),
     };
-    let word = first(below, "kind");
-    let Some(kind) = kind_value(word) else {
-        return Ok(Err(value_line(alloc, "kind", KINDS, word)?));
-    };
-    let word = first(below, "each");
-    let Some(each) = each_value(word) else {
-        return Ok(Err(value_line(alloc, "each", EACH, word)?));
-    };
-    let output = match output_of(alloc, below)? {
-        Ok(output) => output,
+    let ReportOptions {
+        kind,
+        each,
+        output,
+        explain,
+    } = match report_of(alloc, below)? {
+        Ok(report) => report,
         Err(line) => return Ok(Err(line)),
     };
     let Some(action) = action_of(alloc, name, below, each, output.form)? else {
@@ -221,6 +266,7 @@ fn request_of_command(
         limit,
         selection,
         kind,
+        explain,
         each,
         output,
         folders,

@@ -1,6 +1,6 @@
 //! The values of the options that all commands share.
 ghost use Rattle.std.specs.Prelude.{◌≡◌, ◌≤◌, ◌==◌, ℕ, List, Option, slice_index, IfSome, IfOk, MatchOption, map, option_map, string_bytes};
-ghost use Rattle.yv_job.specs.{Asks.{IsDecimal, IsLimit, IsSupportFor, IsImportsFor, IsKindFor, IsEachFor, IsFormFor}, declared.{job.OutputForm.{OutputForm as TheForm}, request.Each.{Each as TheEach}}};
+ghost use Rattle.yv_job.specs.{Asks.{IsDecimal, IsLimit, IsExplainFor, IsSupportFor, IsImportsFor, IsKindFor, IsEachFor, IsFormFor}, declared.{job.OutputForm.{OutputForm as TheForm}, request.Each.{Each as TheEach}}};
 ghost use Rattle.yv_text_statement.specs.{Selection.{Entry, entry_of}, declared.document_kind.Kind.{Kind as TheKind}};
 
 use crate::job::OutputForm;
@@ -12,6 +12,10 @@ use yv_text_statement::Kind;
 const MOST_NODES: u32 = 1_000_000;
 
 const USUAL_NODES: u32 = 100_000;
+
+const MOST_EXPLAIN: u32 = 10_000;
+
+const USUAL_EXPLAIN: u32 = 20;
 
 const USUAL_KIND: Kind = Kind::All;
 
@@ -46,6 +50,21 @@ pub fn limit_of(value: Option<&str>) -> Option<u32>
     };
     match number_of(text) {
         Some(n) if n >= 1 && n <= MOST_NODES => Some(n),
+        _ => None,
+    }
+}
+
+/// Of how many faults of a document `--explain` asks for a line: the usual number where it has no
+/// value.
+pub fn explain_value(value: Option<&str>) -> Option<u32>
+    ensures { let text = option_map (λ t. t.now) value.entry in
+        MatchOption result ((n : ℕ) → IsExplainFor text n → ⊥) (IsExplainFor text) }
+{
+    let Some(text) = value else {
+        return Some(USUAL_EXPLAIN);
+    };
+    match number_of(text) {
+        Some(n) if n <= MOST_EXPLAIN => Some(n),
         _ => None,
     }
 }

@@ -16,6 +16,9 @@ pub const EACH: &str = "file, line, name or name0";
 /// What `--format` takes.
 pub const FORMS: &str = "text or json";
 
+/// What `--explain` takes.
+pub const EXPLAIN: &str = "a number from 0 to 10000";
+
 /// What `--support` takes.
 pub const SUPPORT: &str = "MODULE:FEATURE,FEATURE/MODULE:";
 

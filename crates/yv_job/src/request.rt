@@ -40,6 +40,9 @@ pub struct Request {
     pub selection: Selection,
     /// What a document is checked as. It is all data for a request that checks none.
     pub kind: Kind,
+    /// Of how many faults of a document standard error has a line. It is 20 for a request that
+    /// checks none.
+    pub explain: u32,
     /// What each source of documents holds, where that was said.
     pub each: Option<Each>,
     /// What standard output is like.
@@ -63,6 +66,7 @@ impl Request {
             folders,
             output,
             each,
+            explain,
             kind,
             selection,
             limit,
@@ -80,6 +84,7 @@ impl Request {
             limit,
             selection,
             kind,
+            explain,
             output,
             search: None,
         })

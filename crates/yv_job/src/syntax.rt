@@ -173,8 +173,10 @@ fn validate<'a>(alloc: Global) -> Result<Command<'a>, AllocError>
     let kind = option(alloc, "kind", "K", help::KIND);
     let checking = with_arg(command, data)?;
     let splitting = with_arg(checking, each)?;
+    let explain = option(alloc, "explain", "N", help::EXPLAIN);
     let asking = with_arg(splitting, kind)?;
-    let writing = with_output_options(alloc, asking)?;
+    let explaining = with_arg(asking, explain)?;
+    let writing = with_output_options(alloc, explaining)?;
     with_shared_options(alloc, writing)
 }
 

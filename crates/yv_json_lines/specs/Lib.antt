@@ -1,4 +1,3 @@
-pub mod Column
 pub mod Pointer
 pub mod Values
 pub mod OneLine

@@ -1,8 +1,8 @@
 //! Laws about the definitions only. These functions do nothing: the contract of each is the law.
-ghost use Rattle.std.specs.Prelude.{◌≡◌, ◌≤◌, ◌+◌, ◌-◌, ℕ, List, length, Option};
+ghost use Rattle.std.specs.Prelude.{ℕ, List, Option};
 ghost use Rattle.yv_schema_tables.specs.declared.measures.Measures.{Measures};
 ghost use Rattle.yv_data_faults.specs.Flaw.{Flaw};
-ghost use Rattle.yv_json_lines.specs.{Column.{LineBegins, column, line_at}, OneLine.{Fits, IsOneLine, LineFits, MeasuresFit, VerdictFits}, ReadBack.{ReadsBack}, Values.{count_value, document_value, fault_value, json_line, refusal_value, run_value}, declared.document.DocumentVerdict.{DocumentVerdict}};
+ghost use Rattle.yv_json_lines.specs.{OneLine.{Fits, IsOneLine, LineFits, MeasuresFit, VerdictFits}, ReadBack.{ReadsBack}, Values.{count_value, document_value, fault_value, json_line, refusal_value, run_value}, declared.document.DocumentVerdict.{DocumentVerdict}};
 
 /// No line has a line feed or a carriage return but the line feed at its end, so that the lines of
 /// an output are its results.
@@ -43,20 +43,4 @@ pub fn json_lines_read_back()
     // So is that of all documents.
     ensures run { (documents valid : ℕ) → Fits documents → Fits valid
         → ReadsBack (run_value documents valid) }
-{}
-
-/// An offset is found again by its line and its column: it comes so many bytes behind the place
-/// where the line begins.
-pub fn columns_are_offsets()
-    // Wherever the line of an offset begins, the column less one leads from there to the offset.
-    ensures offset { (bytes : List ℕ) (offset place : ℕ) → offset ≤ length bytes
-        → LineBegins bytes (line_at bytes offset) place
-        → offset ≡ place + (column bytes offset - 1) }
-    // The line of an offset begins somewhere.
-    ensures begins { (bytes : List ℕ) (offset : ℕ) → offset ≤ length bytes
-        → (place : ℕ) × LineBegins bytes (line_at bytes offset) place }
-    // Offsets of a file that have the same line and the same column are the same.
-    ensures same { (bytes : List ℕ) (offset other : ℕ) → offset ≤ length bytes
-        → other ≤ length bytes → line_at bytes offset ≡ line_at bytes other
-        → column bytes offset ≡ column bytes other → offset ≡ other }
 {}

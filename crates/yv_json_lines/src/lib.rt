@@ -1,7 +1,6 @@
 //! Results as lines of JSON, one object on each, written through a page of fixed size.
 #![tactic(auto)]
 
-mod column;
 mod document;
 mod fault;
 pub mod laws;
@@ -12,7 +11,6 @@ mod steps;
 mod strings;
 mod totals;
 
-pub use column::column_of;
 pub use document::{DocumentVerdict, ValidationCost, put_document_line};
 pub use fault::put_fault_line;
 pub use path::put_path;

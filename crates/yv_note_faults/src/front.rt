@@ -5,7 +5,7 @@ ghost use Rattle.yv_note_faults.specs.Line.{Begins, number_text, shortened_line}
 
 use itoa::Buffer;
 use std::alloc::{AllocError, Global};
-use yv_validate::{Fault, Part, line};
+use yv_data_faults::{Fault, Part, line};
 
 /// The most bytes of the steps that are shown of a path, as the names are before they are escaped.
 const MOST_SHOWN: usize = 300;

@@ -1,17 +1,19 @@
-//! Sentences for a person on the faults of a document, besides their lines: what is wrong at each
-//! place and what to do. However long names and paths are, the text has some kilobytes.
+//! The notes for a person on the documents that are validated: a line for each fault, with its
+//! place in the document, its entry, and what to do. However long names and paths are, a line has
+//! some kilobytes at most.
 #![tactic(auto)]
 
-mod advice;
 mod all_sentences;
-mod beside;
-mod choices;
+mod causes;
+mod choice;
 mod clear;
-mod duplicates;
+mod document;
 mod front;
-mod reference;
-mod spot;
-mod unknown;
-mod words;
+mod hint;
+mod places;
+mod repeats;
+mod sentence;
 
 pub use all_sentences::sentences;
+pub use document::{FaultNote, NotedDocument};
+pub use repeats::repeat_lines;

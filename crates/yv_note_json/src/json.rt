@@ -3,6 +3,7 @@ ghost use Rattle.std.specs.Prelude.{◌≤◌, length, IfOk, IfSome, IfNone, str
 ghost use Rattle.yv_note_json.specs.Document.{IsJson, SaysWhy, ShowsReason, TellsLarge};
 
 use crate::json_reason::reason_at;
+use crate::other_format::{MODULE, encoding_line, is_module};
 use serde_json::{Error, Value};
 use std::alloc::{AllocError, Global};
 use yv_note_text::excerpt;
@@ -56,17 +57,8 @@ fn not_text(alloc: Global, bytes: &[u8], valid: usize) -> Result<String, AllocEr
     ensures { IfOk result (λ text. ShowsReason bytes.now (string_bytes text)) }
 {
     let mut why = excerpt(alloc, bytes, valid.min(bytes.len()))?;
-    why.push_str(if is_utf16(bytes) { UTF16 } else { NOT_UTF8 })?;
+    why.push_str(encoding_line(bytes))?;
     Ok(why)
-}
-
-const NOT_UTF8: &str = "data: not UTF-8 from this byte on\n";
-
-const UTF16: &str = "data: not UTF-8 but UTF-16: save the document as UTF-8\n";
-
-// Whether a mark of UTF-16 is at the start.
-fn is_utf16(bytes: &[u8]) -> bool {
-    matches!(bytes, [0xFF, 0xFE, ..] | [0xFE, 0xFF, ..])
 }
 
 // Where a text is not JSON, and why.
@@ -78,6 +70,8 @@ fn json_message(alloc: Global, bytes: &[u8], error: &Error) -> Result<String, Al
     let message = format!(in alloc; "{error}")?;
     let reason = if message.as_str().starts_with("number") {
         "a number has a size below 1.8e308"
+    } else if is_module(bytes) {
+        MODULE
     } else if error.is_eof() {
         reason_at(alloc, bytes, bytes.len())?
     } else {

@@ -11,4 +11,4 @@ pub use definitions::{
     tell_feature_name, tell_grouping_name, tell_identity_name, tell_second_module,
     tell_second_name, tell_type_name,
 };
-pub use modules::{tell_missing, tell_prefix, tell_revision, tell_submodule};
+pub use modules::{say_nearest_file, tell_missing, tell_prefix, tell_revision, tell_submodule};

@@ -5,10 +5,11 @@ use yv_link_scopes::prefix_of;
 use yv_note_statements::{
     Guess, Message, Site, Sites, declaration, first_in_file, named_in_file, say_guess, words_of,
 };
+use yv_note_text::Likeness;
 use yv_text_statement::Code;
 
 // Of the modules, or for an `include` of the submodules, the one whose name is most like the name
-// that is written.
+// that is written. The file of the statement itself is none of them.
 fn nearest_file<'a>(site: &Site<'_, 'a>) -> Option<Guess<'a>> {
     let keyword = if site.is("include") {
         "submodule"
@@ -17,19 +18,34 @@ fn nearest_file<'a>(site: &Site<'_, 'a>) -> Option<Guess<'a>> {
     };
     Sites::all(site.entries)
         .take_while(|root| root.is_root())
-        .filter(|root| root.is(keyword))
+        .filter(|root| root.is(keyword) && !root.is_beside(site))
         .fold(None, |nearest, root| {
             Guess::nearer(nearest, Guess::of(site.argument(), root.argument(), None))
         })
 }
 
-/// Adds that a module is not among the files.
+/// Adds that a module is not among the files, and which one may be meant.
 pub fn tell_missing<'a>(telling: &mut Message<'a>, site: &Site<'_, 'a>) {
-    telling.sentence(Code::MissingModule);
-    match site.argument().strip_suffix(".yang") {
-        Some(name) => telling.quote(" That is the name of a file: did you mean ", name, "?"),
-        None => say_guess(telling, nearest_file(site)),
+    if let Some(name) = site.argument().strip_suffix(".yang") {
+        telling.subject(NONE_OF_THE_FILES, ".");
+        telling.quote(" That is the name of a file: did you mean ", name, "?");
+        return;
     }
+    match nearest_file(site) {
+        Some(guess) if guess.likeness != Likeness::Same => {
+            telling.subject(NONE_OF_THE_FILES, ".");
+            say_guess(telling, Some(guess));
+            telling.say(" If not, add its file to the command line.");
+        }
+        _ => telling.sentence(Code::MissingModule),
+    }
+}
+
+const NONE_OF_THE_FILES: &str = "None of the given files defines ";
+
+/// Adds which of the files may be meant by the name of a module that is in none of them.
+pub fn say_nearest_file<'a>(telling: &mut Message<'a>, site: &Site<'_, 'a>) {
+    say_guess(telling, nearest_file(site));
 }
 
 // The `revision` of a file with the latest date.

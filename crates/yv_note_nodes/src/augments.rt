@@ -1,6 +1,7 @@
 //! Augments and refines.
 use crate::mandatory::first_mandatory;
 use crate::nodes::{Steps, Way, follow, node_below, nodes_below, root_of, say_no_node};
+use crate::step_modules::say_foreign_step;
 use crate::tree::Tree;
 use crate::unprefixed_paths::say_prefixed;
 use std::alloc::AllocError;
@@ -129,12 +130,18 @@ pub fn tell_augment_target<'a>(
     site: &Site<'_, 'a>,
 ) -> Result<(), AllocError> {
     let mut tree = Tree::explain(telling, Code::AugmentTarget, site)?;
+    let is_absolute = site.argument().starts_with('/');
     match way_of(&mut tree, site)? {
         Way::Until(node, name) => say_missing_step(telling, &mut tree, &node, name)?,
-        Way::To(node) => say_no_target(telling, &node),
+        Way::To(node) => {
+            if is_absolute && say_foreign_step(telling, &mut tree, site, Steps::Schema)? {
+                return Ok(());
+            }
+            say_no_target(telling, &node);
+        }
         _ => telling.say(" Look at the prefixes of its steps."),
     }
-    if site.argument().starts_with('/') {
+    if is_absolute {
         say_prefixed(telling, &mut tree, site, site.argument(), Steps::Schema)?;
     }
     Ok(())

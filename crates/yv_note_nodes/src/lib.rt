@@ -10,6 +10,7 @@ mod mandatory;
 mod nodes;
 mod paths;
 mod placement;
+mod step_modules;
 mod tree;
 mod units;
 mod unprefixed_paths;

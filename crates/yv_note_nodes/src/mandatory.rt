@@ -1,9 +1,10 @@
 //! Nodes that are mandatory.
-use crate::nodes::{Steps, node_named, nodes_below};
+use crate::augments::way_of;
+use crate::nodes::{Steps, Way, node_named, nodes_below};
 use crate::tree::Tree;
-use std::alloc::{AllocError, Global};
+use std::alloc::AllocError;
 use yv_link_scopes::local;
-use yv_note_statements::{Message, Site};
+use yv_note_statements::{Message, Site, Sites, last_step};
 
 /// Whether a node says that it is mandatory.
 pub(crate) fn is_mandatory(node: &Site<'_, '_>) -> bool {
@@ -28,15 +29,12 @@ pub fn tell_mandatory<'a>(
         Some(default) if site.is("choice") && !is_mandatory(site) => {
             tell_mandatory_case(telling, site, &default)
         }
-        default => {
-            say_both(telling, site, default);
-            Ok(())
-        }
+        _ => say_both(telling, site),
     }
 }
 
 // Adds that a node is mandatory and has a default, and where each of the two is said.
-fn say_both<'a>(telling: &mut Message<'a>, site: &Site<'_, 'a>, default: Option<Site<'_, 'a>>) {
+fn say_both<'a>(telling: &mut Message<'a>, site: &Site<'_, 'a>) -> Result<(), AllocError> {
     let demand = if site.is("leaf-list") {
         telling.subject(
             "The leaf-list ",
@@ -50,19 +48,65 @@ fn say_both<'a>(telling: &mut Message<'a>, site: &Site<'_, 'a>, default: Option<
         );
         "mandatory"
     };
-    say_place(telling, " The default ", default);
+    let mut tree = Tree::around(telling.alloc(), site)?;
+    telling.say(" The default ");
+    say_place(telling, &mut tree, site, "default")?;
     telling.say(", and `");
     telling.say(demand);
-    say_place(telling, "` ", site.child(demand));
+    telling.say("` ");
+    say_place(telling, &mut tree, site, demand)?;
     telling.say(".");
+    Ok(())
 }
 
-// Adds where a property is said.
-fn say_place<'a>(telling: &mut Message<'a>, before: &'a str, property: Option<Site<'_, 'a>>) {
-    telling.say(before);
-    match property {
-        Some(property) => telling.point("is at ", &property, ""),
+// Adds where a property of a node is said.
+fn say_place<'s, 'a>(
+    telling: &mut Message<'a>,
+    tree: &mut Tree<'s, 'a>,
+    node: &Site<'s, 'a>,
+    keyword: &str,
+) -> Result<(), AllocError> {
+    if let Some(property) = node.child(keyword) {
+        telling.point("is at ", &property, "");
+        return Ok(());
+    }
+    match refine_of(tree, node, keyword)? {
+        Some(refine) => telling.point("comes by the `refine` at ", &refine, ""),
         None => telling.say("comes by a `refine`"),
+    }
+    Ok(())
+}
+
+// The first `refine` of a node that has a property.
+fn refine_of<'s, 'a>(
+    tree: &mut Tree<'s, 'a>,
+    node: &Site<'s, 'a>,
+    keyword: &str,
+) -> Result<Option<Site<'s, 'a>>, AllocError> {
+    for refine in Sites::all(node.entries) {
+        if is_refine_of(&refine, node, keyword) && leads_to(tree, &refine, node)? {
+            return Ok(Some(refine));
+        }
+    }
+    Ok(None)
+}
+
+// Whether a statement is a `refine` of a node of this one's name, and has a property.
+fn is_refine_of(refine: &Site<'_, '_>, node: &Site<'_, '_>, keyword: &str) -> bool {
+    refine.is("refine")
+        && last_step(refine.argument()) == node.argument()
+        && refine.child(keyword).is_some()
+}
+
+// Whether the path of a `refine` leads to a node.
+fn leads_to<'s, 'a>(
+    tree: &mut Tree<'s, 'a>,
+    refine: &Site<'s, 'a>,
+    node: &Site<'s, 'a>,
+) -> Result<bool, AllocError> {
+    match way_of(tree, refine)? {
+        Way::To(target) => Ok(target.number == node.number),
+        _ => Ok(false),
     }
 }
 

@@ -44,18 +44,6 @@ pub(crate) enum Steps {
     Data,
 }
 
-// The `augment` statements whose nodes a node can have: those whose path ends with its name.
-fn augments_of<'t, 's, 'a>(
-    tree: &'t Tree<'s, 'a>,
-    node: &Site<'s, 'a>,
-) -> NamedAugments<'t, 's, 'a> {
-    if node.is_root() || node.is("grouping") {
-        tree.no_augments()
-    } else {
-        tree.augments_named(node.argument())
-    }
-}
-
 // A search for the nodes of a node, or for the first one of a name.
 #[derive(Drop)]
 struct Search<'t, 's, 'a> {
@@ -133,12 +121,22 @@ impl<'s, 'a> Search<'_, 's, 'a> {
     }
 }
 
+// What is searched for the nodes of a node.
+#[derive(Clone, Copy, PartialEq, Eq)]
+enum Reach {
+    /// Its own block only.
+    Block,
+    /// Also the blocks of the augments whose path ends with its name.
+    Augments,
+}
+
 // The nodes below a node, or the first one of this name.
 fn find_nodes<'s, 'a>(
     tree: &mut Tree<'s, 'a>,
     node: &Site<'s, 'a>,
     steps: Steps,
     name: Option<&str>,
+    reach: Reach,
 ) -> Result<Vec<Site<'s, 'a>>, AllocError> {
     let mut blocks = Vec::new(tree.alloc());
     blocks.push(*node)?;
@@ -148,7 +146,10 @@ fn find_nodes<'s, 'a>(
         name,
         nodes: Vec::new(tree.alloc()),
         blocks,
-        augments: augments_of(tree, node),
+        augments: match reach {
+            Reach::Block => tree.no_augments(),
+            Reach::Augments => tree.augments_of(node),
+        },
         looks: tree.looks(),
     };
     let (nodes, looks) = search.run()?;
@@ -163,7 +164,20 @@ pub(crate) fn nodes_below<'s, 'a>(
     node: &Site<'s, 'a>,
     steps: Steps,
 ) -> Result<Vec<Site<'s, 'a>>, AllocError> {
-    find_nodes(tree, node, steps, None)
+    find_nodes(tree, node, steps, None, Reach::Augments)
+}
+
+/// The node of a name in the block of a node, of an `augment` or of a module, or in a grouping that
+/// is used there.
+pub(crate) fn node_in_block<'s, 'a>(
+    tree: &mut Tree<'s, 'a>,
+    block: &Site<'s, 'a>,
+    steps: Steps,
+    name: &str,
+) -> Result<Option<Site<'s, 'a>>, AllocError> {
+    tree.look(LOOKS_OF_STEP);
+    let nodes = find_nodes(tree, block, steps, Some(name), Reach::Block)?;
+    Ok(nodes.first().copied())
 }
 
 // The block whose nodes are those of the block in which this statement is.
@@ -201,7 +215,7 @@ pub(crate) enum Way<'s, 'a> {
 }
 
 /// How many steps of a path are followed.
-const MOST_STEPS: usize = 64;
+pub(crate) const MOST_STEPS: usize = 64;
 
 /// Follows the names of a path from a node.
 pub(crate) fn follow<'s, 'a>(
@@ -239,7 +253,7 @@ pub(crate) fn node_below<'s, 'a>(
     if let Some(below) = tree.known_node(node, steps, name) {
         return Ok(below);
     }
-    let nodes = find_nodes(tree, node, steps, Some(name))?;
+    let nodes = find_nodes(tree, node, steps, Some(name), Reach::Augments)?;
     let below = nodes.first().copied();
     if !tree.is_spent() {
         tree.keep(node, steps, name, below)?;

@@ -1,6 +1,7 @@
 //! Paths of leafrefs.
 use crate::lists::has_value;
 use crate::nodes::{Steps, Way, follow, root_of, say_no_node};
+use crate::step_modules::say_foreign_step;
 use crate::tree::Tree;
 use crate::unprefixed_paths::say_prefixed;
 use std::alloc::{AllocError, Global};
@@ -79,12 +80,18 @@ pub fn tell_path<'a>(telling: &mut Message<'a>, leaf: &Site<'_, 'a>) -> Result<(
     }
     telling.say(".");
     let mut tree = Tree::around(telling.alloc(), leaf)?;
+    let is_absolute = path.argument().starts_with('/');
     let way = way_of(&mut tree, leaf, &path)?;
     match way {
         Way::Until(node, name) => say_no_node(telling, &mut tree, &node, name, Steps::Data)?,
-        _ => say_way(telling, &tree, leaf, &way),
+        _ => {
+            if is_absolute && say_foreign_step(telling, &mut tree, &path, Steps::Data)? {
+                return Ok(());
+            }
+            say_way(telling, &tree, leaf, &way);
+        }
     }
-    if path.argument().starts_with('/') {
+    if is_absolute {
         say_prefixed(telling, &mut tree, &path, path.argument(), Steps::Data)
     } else {
         say_climb(telling, &mut tree, leaf, path.argument())

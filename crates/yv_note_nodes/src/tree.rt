@@ -123,9 +123,23 @@ impl<'s, 'a> Tree<'s, 'a> {
         }
     }
 
-    /// The `augment` statements whose path ends with a name, the last one first.
-    pub(crate) fn augments_named(&self, name: &'a str) -> NamedAugments<'_, 's, 'a> {
-        self.augments.of_name(self.entries, name)
+    /// The `augment` statements whose nodes a node can have: those whose path ends with its name,
+    /// the last one first.
+    pub(crate) fn augments_of(&self, node: &Site<'s, 'a>) -> NamedAugments<'_, 's, 'a> {
+        if node.is_root() || node.is("grouping") {
+            self.no_augments()
+        } else {
+            self.augments.of_name(self.entries, node.argument())
+        }
+    }
+
+    /// The same, no more than so many.
+    pub(crate) fn augments_at(
+        &self,
+        node: &Site<'s, 'a>,
+        most: usize,
+    ) -> Result<Vec<Site<'s, 'a>>, AllocError> {
+        self.augments_of(node).take(most).collect(self.alloc)
     }
 
     /// None of the `augment` statements.

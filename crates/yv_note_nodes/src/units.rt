@@ -140,7 +140,7 @@ fn say_count(telling: &mut Message<'_>, count: &Count, limit: u32) {
     telling.count(" They expand to ", count.total, or_more(count.total));
     telling.count(", and the limit is ", limit as u64, "");
     telling.say(if count.total > HIGHEST_LIMIT {
-        "; the highest that --max-nodes takes is 1,000,000."
+        "; the highest that --max-nodes allows is 1,000,000."
     } else {
         "; --max-nodes sets another one."
     });

@@ -1,2 +1,3 @@
 pub mod ClearTexts
 pub mod NoteExtension
+pub mod OtherLines

@@ -1,5 +1,5 @@
 //! The cause of a refusal at a statement.
-use crate::found_files::{say_unrequired, tell_missing_file, tell_second_file};
+use crate::found_files::{bare_module, say_bare_module, tell_missing_file, tell_second_file};
 use std::alloc::AllocError;
 use yv_job::Job;
 use yv_link_scopes::Rows;
@@ -132,18 +132,31 @@ impl<'a> Refused<'_, '_, 'a, '_> {
 
     // The same, of the target of an `augment`.
     fn tell_target(&self, telling: &mut Message<'a>) -> Result<(), AllocError> {
-        tell_augment_target(telling, &self.site)?;
-        say_unrequired(telling, &self.site, self.site.argument(), self.job);
-        Ok(())
+        let site = &self.site;
+        match bare_module(site, site.argument(), self.job) {
+            Some(module) => {
+                telling.sentence(self.code);
+                say_bare_module(telling, module, self.job);
+                Ok(())
+            }
+            None => tell_augment_target(telling, site),
+        }
     }
 
     // The same, of the path of a leafref.
     fn tell_leafref(&self, telling: &mut Message<'a>) -> Result<(), AllocError> {
-        tell_path(telling, &self.site)?;
-        let path = self.site.child("type").and_then(|kind| kind.child("path"));
-        if let Some(path) = path {
-            say_unrequired(telling, &path, path.argument(), self.job);
+        let site = &self.site;
+        let Some(path) = site.child("type").and_then(|kind| kind.child("path")) else {
+            return tell_path(telling, site);
+        };
+        match bare_module(&path, path.argument(), self.job) {
+            Some(module) => {
+                telling.subject("The path of ", " is wrong: ");
+                telling.quote("", path.argument(), ".");
+                say_bare_module(telling, module, self.job);
+                Ok(())
+            }
+            None => tell_path(telling, site),
         }
-        Ok(())
     }
 }

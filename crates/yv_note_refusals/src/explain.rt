@@ -53,8 +53,8 @@ fn push_told(
     }
 }
 
-// The sentence on a refusal, as the notes make it.
-fn sentence(
+/// The sentence on a refusal, as the notes make it.
+pub(crate) fn sentence(
     alloc: Global,
     inputs: &[Input],
     job: &Job,

@@ -1,7 +1,7 @@
 //! What a search of folders has to do with a refusal.
 use yv_job::Job;
 use yv_link_scopes::prefix_of;
-use yv_note_names::{tell_missing, tell_second_module};
+use yv_note_names::{say_nearest_file, tell_missing, tell_second_module};
 use yv_note_statements::{Message, Site, Sites};
 
 // Of a path with more steps, the others aren't looked at.
@@ -26,6 +26,7 @@ pub(crate) fn tell_missing_file<'a>(telling: &mut Message<'a>, site: &Site<'_, '
         telling.part(folder.as_str());
     }
     telling.say(".");
+    say_nearest_file(telling, site);
 }
 
 // Adds that the file that was found for a module or submodule is not that.
@@ -57,7 +58,7 @@ pub(crate) fn tell_second_file<'a>(telling: &mut Message<'a>, site: &Site<'_, 'a
         .files
         .iter()
         .take(number)
-        .any(|other| other.as_str() == file)
+        .any(|other| is_same_path(other.as_str(), file))
     {
         telling.subject("The file of ", ", ");
         telling.part(file);
@@ -67,6 +68,11 @@ pub(crate) fn tell_second_file<'a>(telling: &mut Message<'a>, site: &Site<'_, 'a
     }
 }
 
+// Whether two paths differ in `./` at their front at most.
+fn is_same_path(one: &str, other: &str) -> bool {
+    one.strip_prefix("./").unwrap_or(one) == other.strip_prefix("./").unwrap_or(other)
+}
+
 // The root of the file of this number.
 fn root_of<'s, 'a>(site: &Site<'s, 'a>, file: usize) -> Option<Site<'s, 'a>> {
     Sites::all(site.entries)
@@ -74,29 +80,35 @@ fn root_of<'s, 'a>(site: &Site<'s, 'a>, file: usize) -> Option<Site<'s, 'a>> {
         .find(|root| root.entry.file as usize == file)
 }
 
-/// Adds that a module into which a path leads isn't implemented, since its file was found and
-/// nothing requires it.
-pub(crate) fn say_unrequired<'a>(
-    telling: &mut Message<'a>,
-    site: &Site<'_, 'a>,
-    path: &'a str,
-    job: &'a Job,
-) {
-    for step in path.split('/').take(MOST_STEPS) {
-        let Some(module) = prefix_of(step.trim()).and_then(|prefix| module_of_prefix(site, prefix))
-        else {
-            continue;
-        };
-        if let Some(file) = job.unrequired_file(module) {
+/// The first module into which a path leads and that is only imported, so that it has no nodes.
+pub(crate) fn bare_module<'a>(site: &Site<'_, 'a>, path: &str, job: &Job) -> Option<&'a str> {
+    let imports = &job.selection.import_only;
+    path.split('/')
+        .take(MOST_STEPS)
+        .filter_map(|step| {
+            prefix_of(step.trim()).and_then(|prefix| module_of_prefix(site, prefix))
+        })
+        .find(|module| imports.iter().any(|name| name.as_str() == *module))
+}
+
+/// Adds why a module has no nodes: it was named as one that is only imported, or its file was found
+/// and nothing requires it.
+pub(crate) fn say_bare_module<'a>(telling: &mut Message<'a>, module: &'a str, job: &'a Job) {
+    match job.unrequired_file(module) {
+        Some(file) => {
             telling.say(" ");
             telling.part(file);
             telling.quote(
                 " was found by --path and nothing requires ",
                 module,
-                "; name the file to implement it.",
+                ", so it has no nodes; name the file to implement it.",
             );
-            return;
         }
+        None => telling.quote(
+            " ",
+            module,
+            " is only imported (--import-only), so it has no nodes.",
+        ),
     }
 }
 

@@ -1,4 +1,5 @@
 //! What the form of arguments is, and which statements are not supported.
+use crate::blanks::say_blank;
 use crate::tokens::CURLY;
 use yv_note_statements::{Message, Site, is_among};
 use yv_note_text::has_curly_quote;
@@ -20,7 +21,7 @@ fn form_of(keyword: &str) -> &'static str {
         "input" | "output" => " is not wanted: this statement has no argument.",
         "enum" => " is not the name of an enum: it is not empty, and has no blank at either end.",
         "yang-version" => " is neither `1` nor `1.1`.",
-        "status" => " is none of `current`, `deprecated` and `obsolete`.",
+        "status" => " is not a status: it must be one of `current`, `deprecated` and `obsolete`.",
         "ordered-by" => " is neither `system` nor `user`.",
         "modifier" => " is not `invert-match`.",
         "min-elements" | "position" => " is not a number from 0 to 4294967295.",
@@ -48,7 +49,7 @@ pub fn tell_argument<'a>(telling: &mut Message<'a>, site: &Site<'_, 'a>) {
     match site.entry.argument {
         Some(argument) => {
             telling.subject("", form_of(site.keyword()));
-            if has_curly_quote(argument.as_bytes()) {
+            if !say_blank(telling, argument) && has_curly_quote(argument.as_bytes()) {
                 telling.say(CURLY);
             }
         }
@@ -56,14 +57,34 @@ pub fn tell_argument<'a>(telling: &mut Message<'a>, site: &Site<'_, 'a>) {
     }
 }
 
+/// Whether the argument of statements of this keyword is a name without a prefix.
+pub(crate) fn is_named(keyword: &str) -> bool {
+    is_among(keyword, NAMED)
+}
+
 /// Adds why a statement is not supported.
 pub fn tell_unsupported<'a>(telling: &mut Message<'a>, site: &Site<'_, 'a>) {
-    if site.is("path") {
-        telling.subject(
-            "",
-            " has a predicate or a function, which this profile leaves out.",
-        );
-    } else {
-        telling.subject("", " is left out by this profile.");
+    match site.keyword() {
+        "must" | "when" => {
+            telling.subject(
+                "yangcheck has no XPath, so it refuses ",
+                " rather than ignore it. Remove it",
+            );
+        }
+        "path" => telling.subject(
+            "yangcheck has no XPath, so it refuses the predicates and functions of ",
+            " rather than ignore them. Remove them",
+        ),
+        "type" => {
+            telling.subject(
+                "yangcheck does not support the type ",
+                ". Write another type",
+            );
+        }
+        _ => telling.subject(
+            "yangcheck does not support ",
+            ", so it refuses it rather than ignore it. Remove it",
+        ),
     }
+    telling.say(", or check these modules with another tool (docs/PROFILE.md).");
 }

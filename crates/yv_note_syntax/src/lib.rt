@@ -2,6 +2,8 @@
 #![tactic(auto)]
 
 mod arguments;
+mod blanks;
+mod file_forms;
 mod outline;
 mod substatements;
 mod syntax;

@@ -1,11 +1,13 @@
 //! Why no statement goes on at a place of a file.
+use crate::arguments::is_named;
+use crate::blanks::say_blank;
 use crate::outline::{Head, Kind, Outline, Token, word};
 use crate::substatements::is_keyword;
 use crate::syntax_note::text_of;
 use crate::tokens::CURLY;
 use std::alloc::{AllocError, Global};
-use yv_note_statements::Message;
-use yv_note_text::has_curly_quote;
+use yv_note_statements::{Message, is_among};
+use yv_note_text::{has_curly_quote, is_blank};
 
 // A place of a file: what was read before it, and what is at it.
 #[derive(Drop)]
@@ -14,6 +16,12 @@ struct Place<'a> {
     outline: Outline<'a>,
     rest: &'a [u8],
 }
+
+// The statements whose argument is a text for people.
+static TEXTS: &str = "organization contact description reference error-message presence units";
+
+// That there is no sign between a keyword and its argument.
+const EQUALS: &str = "YANG has no `=`: write the keyword, a blank and the argument.";
 
 /// Adds why no statement goes on after the front of a file.
 pub(crate) fn tell_syntax<'a>(
@@ -143,7 +151,9 @@ impl<'a> Place<'a> {
             b'"' | b'\'' => {
                 telling.say("A statement begins with a keyword, and a keyword is not in quotes.");
             }
-            b'<' => telling.say("This is no YANG: a file in XML (YIN) has to be converted first."),
+            b'<' => telling.say(
+                "This is XML, not YANG: a module in YIN has to be converted first.",
+            ),
             _ => self.tell_no_keyword(telling),
         }
     }
@@ -155,10 +165,16 @@ impl<'a> Place<'a> {
             text_of(self.word()),
             " is not a keyword: that is a name, or a prefix, a colon and a name.",
         );
+        if say_blank(telling, text_of(self.word())) {
+            return;
+        }
         if has_curly_quote(self.word()) {
             telling.say(CURLY);
         } else if self.rest.starts_with(b"#") {
             telling.say(" Comments are `// ..` and `/* .. */`.");
+        } else if self.word().iter().any(|byte| *byte == b'=') {
+            telling.say(" ");
+            telling.say(EQUALS);
         }
     }
 
@@ -190,20 +206,39 @@ impl<'a> Place<'a> {
             Some(token) if token.kind == Kind::Quoted => {
                 self.tell_after_quoted(telling, head, &token, is_quoted);
             }
-            Some(token) if self.is_several(&token) => {
-                self.say_head(
-                    telling,
-                    "The argument of ",
-                    head,
-                    " has several words, so it needs quotes; or a `;` is missing.",
-                );
+            Some(token) if matches!(token.bytes, [b'=']) || self.word().starts_with(b"=") => {
+                telling.say(EQUALS);
+            }
+            Some(token) if self.is_several(head, &token) => {
+                self.tell_several(telling, head);
                 self.say_curly(telling, &token);
             }
             _ => self.say_head(telling, "A `;` or a block is missing after ", head, "."),
         }
     }
 
-    // Adds that quotes of typography aren't quotes, if this token or the text at the place has one.
+    // Adds that an argument has several words.
+    fn tell_several(&self, telling: &mut Message<'a>, head: &Head<'a>) {
+        let keyword = text_of(head.keyword);
+        if is_named(keyword) {
+            self.say_head(telling, "A second word follows ", head, "");
+            telling.say(", and a name has no blanks; or a `;` is missing.");
+            return;
+        }
+        self.say_head(
+            telling,
+            "The argument of ",
+            head,
+            " has several words, so it needs quotes",
+        );
+        telling.say(if is_among(keyword, TEXTS) {
+            "."
+        } else {
+            "; or a `;` is missing."
+        });
+    }
+
+    // Adds that typographic quotes aren't quotes, if this token or the text at the place has one.
     fn say_curly(&self, telling: &mut Message<'a>, token: &Token<'a>) {
         if has_curly_quote(token.bytes) || has_curly_quote(self.word()) {
             telling.say(CURLY);
@@ -211,11 +246,20 @@ impl<'a> Place<'a> {
     }
 
     // Whether the text at the place seems to be another word of an argument that ends with this
-    // one.
-    fn is_several(&self, token: &Token<'a>) -> bool {
+    // one: on the same line any text after one of the words of a text, and else what is no
+    // statement.
+    fn is_several(&self, head: &Head<'a>, token: &Token<'a>) -> bool {
         token.kind == Kind::Word
             && token.last_line == self.outline.line()
-            && !is_keyword(text_of(self.word()))
+            && (is_among(text_of(head.keyword), TEXTS) || !self.is_statement())
+    }
+
+    // Whether a statement seems to begin at the place: with a keyword, and an argument after it.
+    fn is_statement(&self) -> bool {
+        let word = self.word();
+        let behind = self.rest.get(word.len()..).unwrap_or(&[]);
+        let next = behind.iter().find(|byte| !is_blank(**byte));
+        is_keyword(text_of(word)) && !matches!(next, Some(b';' | b'{' | b'}'))
     }
 
     // Adds why a text can't follow an argument in quotes.

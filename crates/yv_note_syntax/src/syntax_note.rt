@@ -2,6 +2,7 @@
 ghost use Rattle.std.specs.Prelude.{OnOk, string_bytes};
 ghost use Rattle.yv_note_text.specs.Quotes.{Extends};
 
+use crate::file_forms::{form_of_letters, other_form};
 use crate::syntax::tell_syntax;
 use crate::tokens::{tell_escape, tell_token};
 use std::alloc::{AllocError, Global};
@@ -57,7 +58,8 @@ fn tell_unread<'a>(
         code => telling.sentence(code),
     }
     telling.say(match refusal.code {
-        Code::NotUtf8 => " Save the file as UTF-8.",
+        Code::NotUtf8 => other_form(bytes),
+        Code::BadCharacter => form_of_letters(bytes),
         Code::TooLarge => " Split the module.",
         _ => "",
     });

@@ -66,9 +66,9 @@ fn tell_open_quote(telling: &mut Message<'_>, quote: u8, after: &[u8]) {
     }
 }
 
-/// That quotes of typography are not quotes.
+/// That typographic quotes are not quotes.
 pub(crate) const CURLY: &str =
-    " Quotes are `\"` and `'`: the quotes of typography that are here mean nothing.";
+    " Write `\"` or `'`: the typographic quotes here are not quotes in YANG.";
 
 // The first line of a text.
 fn first_line(bytes: &[u8]) -> &[u8] {

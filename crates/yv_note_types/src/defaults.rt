@@ -133,7 +133,7 @@ fn tell_values<'a>(
         telling.count(
             "",
             defaults.len() as u64,
-            " defaults, and at most 1,024 are taken.",
+            " defaults, and at most 1,024 are supported.",
         );
         return Ok(());
     }

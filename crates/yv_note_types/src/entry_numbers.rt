@@ -92,7 +92,7 @@ fn base_with<'s, 'a>(chain: &[Site<'s, 'a>], keyword: &str, except: usize) -> Op
 // Adds what is wrong with an item among those before it.
 fn say_in_type<'a>(telling: &mut Message<'a>, items: &[Site<'_, 'a>], site: &Site<'_, 'a>) {
     if let Some(other) = item_named(items, site.argument(), site.number) {
-        telling.point(" is there already, at ", &other, ".");
+        telling.point(" is already defined, at ", &other, ".");
         return;
     }
     let number = number_after(site, highest_before(items, site.number));

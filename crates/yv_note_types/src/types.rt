@@ -148,7 +148,7 @@ fn say_need<'a>(telling: &mut Message<'a>, site: &Site<'_, 'a>, built_in: &'a st
         }
         _ if built_in == "leafref" => telling.subject(
             "The type ",
-            " is a leafref, which can't be a member of a union here.",
+            " is a leafref in a union. RFC 7950 allows it, but yangcheck does not support it (docs/PROFILE.md).",
         ),
         _ => telling.sentence(Code::BadType),
     }

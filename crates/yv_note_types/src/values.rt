@@ -52,8 +52,12 @@ fn say_range<'a>(telling: &mut Message<'a>, chain: &[Site<'_, 'a>], built_in: &'
     match nearest_with(chain, "range") {
         Some(site) => {
             if let Some(range) = site.child("range") {
-                telling.quote(", which takes ", range.argument(), "");
-                telling.point(" by the range at ", &range, ".");
+                telling.quote(
+                    ", which expects numbers in the range ",
+                    range.argument(),
+                    "",
+                );
+                telling.point(" at ", &range, ".");
             }
         }
         None => say_limits(telling, built_in),
@@ -64,7 +68,7 @@ fn say_range<'a>(telling: &mut Message<'a>, chain: &[Site<'_, 'a>], built_in: &'
 fn say_limits<'a>(telling: &mut Message<'a>, built_in: &str) {
     match limits_of(built_in) {
         Some((least, greatest)) => {
-            telling.quote(", which takes ", least, "");
+            telling.quote(", which expects numbers from ", least, "");
             telling.quote(" to ", greatest, ".");
         }
         None => telling.say("."),
@@ -165,7 +169,7 @@ pub(crate) fn say_values<'a>(
         "string" | "binary" => {
             telling.quote(" Its type is ", first.argument(), "");
             telling.say(if first.argument() == "binary" {
-                ", which takes texts in base64"
+                ", which expects text in base64"
             } else {
                 ""
             });
@@ -194,7 +198,7 @@ fn say_named<'a>(
             let word = unknown_bit(telling.alloc(), chain, default.argument())?;
             match word {
                 Some(word) => telling.quote(" There is no bit ", word, "."),
-                None => telling.say(" A bit is there twice."),
+                None => telling.say(" A bit is named twice."),
             }
             telling.say(" Its bits are ");
             say_names(telling, &names, default, word.unwrap_or(""));

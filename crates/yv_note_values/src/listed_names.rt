@@ -32,24 +32,25 @@ struct Near<'t> {
 /// Adds the names of an enumeration as its values, of many the first 8.
 pub(crate) fn push_enums(text: &mut String, names: &[RcStr]) -> Result<(), AllocError> {
     if names.is_empty() {
-        return text.push_str("no value, since `if-feature` leaves out all its names");
+        return text.push_str("no value, since `if-feature` removes all of its names");
     }
-    push_list(text, names)
+    push_list(text, names, Joint::Or)
 }
 
 /// Adds how the names of bits make a value, and these names, of many the first 8.
 pub(crate) fn push_bits(text: &mut String, names: &[RcStr]) -> Result<(), AllocError> {
     if names.is_empty() {
-        return text.push_str("an empty string, since `if-feature` leaves out all its bits");
+        return text.push_str("an empty string, since `if-feature` removes all of its bits");
     }
-    text.push_str("a string of names with blanks between, each at most once: ")?;
-    push_list(text, names)
+    text.push_str("a string of distinct names from ")?;
+    push_list(text, names, Joint::And)?;
+    text.push_str(", separated by spaces")
 }
 
 // Adds names in quotes, of many the first 8.
-fn push_list(text: &mut String, names: &[RcStr]) -> Result<(), AllocError> {
+fn push_list(text: &mut String, names: &[RcStr], joint: Joint) -> Result<(), AllocError> {
     for (place, name) in names.iter().enumerate() {
-        if !push_between(text, place, names.len(), Joint::Or)? {
+        if !push_between(text, place, names.len(), joint)? {
             break;
         }
         push_quoted(text, name.as_str())?;

@@ -1,7 +1,11 @@
 //! What is said of a value that no type of its node reads.
+use crate::failed_pattern::{failed_pattern, push_failure};
 use crate::listed_names::{push_bits, push_enums, push_guess, push_identities};
 use crate::numbers::{Scale, push_count, push_lengths, push_or, push_spans};
+use crate::type_chain::TypeChain;
+use crate::union_members::{have_typedef, push_members};
 use crate::values::push_written;
+use crate::yang_files::{FileStatement, YangFiles};
 use serde_json::{Number, Value};
 use std::alloc::{AllocError, Global};
 use yv_nodes::Node;
@@ -33,20 +37,82 @@ impl<'v> Written<'v> {
             },
         }
     }
+
+    // The text, where the value is one.
+    fn string(&self) -> Option<&'v str> {
+        match self.value {
+            Some(Value::String(written)) => Some(written.as_str()),
+            _ => None,
+        }
+    }
 }
 
-/// Adds the name of a node's type, what it takes in place of a value, that value, and what may be
-/// meant by it.
-pub fn push_type(text: &mut String, node: &Node, value: Option<&Value>) -> Result<(), AllocError> {
-    text.push_str("the type ")?;
+/// Adds what the type of a node expects in place of a value, that value, and what may be meant by
+/// it. Where a string fails a pattern, and the files are there, it adds that pattern and its place.
+pub fn push_type(
+    text: &mut String,
+    node: &Node,
+    value: Option<&Value>,
+    files: Option<&YangFiles<'_>>,
+) -> Result<(), AllocError> {
+    let alloc = *text.allocator();
+    let written = Written::new(value);
+    let chain = TypeChain::read(alloc, files, node)?;
+    if let Some((site, files)) = failure(alloc, node, &written, &chain, files)? {
+        return push_failure(text, &files, &site, written.string().unwrap_or(""));
+    }
     push_quoted(text, node.type_text())?;
-    text.push_str(" takes ")?;
-    push_types(text, node.types(), &Written::new(value))?;
+    text.push_str(if have_values(alloc, node.types())? {
+        " expects "
+    } else {
+        " accepts "
+    })?;
+    push_expected(text, node, &chain, &written)?;
     push_instead(text, node.types(), value)?;
     push_guess(text, node.types(), value)
 }
 
-// Adds the value that types don't take, if there is one that they take.
+// The pattern that a value fails, where it is a string whose length and characters fit its type.
+fn failure<'d>(
+    alloc: Global,
+    node: &Node,
+    written: &Written<'_>,
+    chain: &TypeChain<'d>,
+    files: Option<&YangFiles<'d>>,
+) -> Result<Option<(FileStatement<'d>, YangFiles<'d>)>, AllocError> {
+    match (node.types(), written.string(), files) {
+        ([PlainType::Text(plain)], Some(string), Some(files)) if has_fit_form(plain, written) => {
+            let site = failed_pattern(alloc, chain, string)?;
+            Ok(site.map(|site| (site, *files)))
+        }
+        _ => Ok(None),
+    }
+}
+
+// Whether a string has the length and the characters that a type allows.
+fn has_fit_form(plain: &TextType, written: &Written<'_>) -> bool {
+    written.is_legal
+        && written
+            .length
+            .is_some_and(|length| plain.lengths.holds(Integer::Natural(length)))
+}
+
+// Adds what the types of a node expect: of a union with typedefs their names.
+fn push_expected(
+    text: &mut String,
+    node: &Node,
+    chain: &TypeChain<'_>,
+    written: &Written<'_>,
+) -> Result<(), AllocError> {
+    let members = chain.members(*text.allocator())?;
+    if have_typedef(&members) {
+        push_members(text, &members)
+    } else {
+        push_types(text, node.types(), written)
+    }
+}
+
+// Adds the value that types don't expect, if there is one that they do.
 fn push_instead(
     text: &mut String,
     types: &[PlainType],
@@ -80,7 +146,7 @@ fn has_values(alloc: Global, plain: &PlainType) -> Result<bool, AllocError> {
     }
 }
 
-// Adds what types take in place of a value, of many the first 4.
+// Adds what types expect in place of a value, of many the first 4.
 fn push_types(
     text: &mut String,
     types: &[PlainType],
@@ -95,7 +161,7 @@ fn push_types(
     Ok(())
 }
 
-// Adds what a type takes (RFC 7951, section 6).
+// Adds what a type expects (RFC 7951, section 6).
 fn push_plain(
     text: &mut String,
     plain: &PlainType,
@@ -109,7 +175,7 @@ fn push_plain(
         PlainType::Enumeration(names) => push_enums(text, names.as_slice()),
         PlainType::Bits(names) => push_bits(text, names.as_slice()),
         PlainType::Binary(lengths) => {
-            text.push_str("base64 in quotes")?;
+            text.push_str("a base64 string")?;
             push_size(text, lengths, "octet", "octets")
         }
         PlainType::Identity(members) => push_identities(text, members),
@@ -122,13 +188,13 @@ fn push_whole(
     whole: &WholeType,
     written: &Written<'_>,
 ) -> Result<(), AllocError> {
-    text.push_str("a whole number")?;
-    text.push_str(if whole.is_text {
-        " in quotes"
+    if whole.is_text {
+        text.push_str("a quoted whole number")?;
     } else {
-        unlike_a_whole_number(written.value)
-    })?;
-    text.push_str(" in the range ")?;
+        text.push_str("a whole number")?;
+        text.push_str(unlike_a_whole_number(written.value))?;
+    }
+    text.push_str(" in ")?;
     push_spans(text, whole.spans.spans(), Scale::Places(0))
 }
 
@@ -138,7 +204,7 @@ fn unlike_a_whole_number(value: Option<&Value>) -> &'static str {
     match value {
         Some(Value::Number(number)) if is_whole(number) => "",
         Some(Value::Number(number)) if is_past_64_bits(number) => " of at most 64 bits",
-        Some(Value::Number(_)) => " without a point or an exponent",
+        Some(Value::Number(_)) => " without a decimal point or exponent",
         _ => " without quotes",
     }
 }
@@ -162,13 +228,18 @@ const PAST_GREATEST: f64 = 18_446_744_073_709_551_616.0;
 const LEAST: f64 = -9_223_372_036_854_775_808.0;
 
 fn push_decimal(text: &mut String, decimal: &DecimalType) -> Result<(), AllocError> {
-    text.push_str("a number in quotes with at most ")?;
-    push_count(text, u64::from(decimal.digits), "digit", "digits")?;
-    text.push_str(" after the point in the range ")?;
+    text.push_str("a quoted number in ")?;
     push_spans(
         text,
         decimal.spans.spans(),
         Scale::Places(decimal.digits as usize),
+    )?;
+    text.push_str(" with at most ")?;
+    push_count(
+        text,
+        u64::from(decimal.digits),
+        "decimal place",
+        "decimal places",
     )
 }
 
@@ -180,11 +251,11 @@ fn push_text(text: &mut String, plain: &TextType, written: &Written<'_>) -> Resu
             push_size(text, &plain.lengths, "character", "characters")
         }
         Some(_) if !written.is_legal => {
-            text.push_str("a string without control characters and noncharacters")
+            text.push_str("a string without control characters or noncharacters")
         }
-        Some(_) => text.push_str("a string that matches all patterns of the type"),
+        Some(_) => text.push_str("a string that matches all of its patterns"),
         None => {
-            text.push_str("a string in quotes")?;
+            text.push_str("a quoted string")?;
             push_size(text, &plain.lengths, "character", "characters")
         }
     }

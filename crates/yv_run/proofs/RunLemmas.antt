@@ -52,37 +52,37 @@ module _ (old new : Option (List ℕ)) (ended : RunEnd) where
 
   -- and what was asked of a schema is written, where the files give one
   pub runs_built : (unread rest : Option (List ℕ)) (task : Task) (files : List File) (s : Rows) → FilesCompile task.choice task.limit files (HasSchema s)
-      → RunsSchema task.asked task.output task.kind s ended unread rest old new → RunsWithNote task files ended unread rest old new
+      → RunsSchema task.explain task.asked task.output task.kind s ended unread rest old new → RunsWithNote task files ended unread rest old new
   runs_built unread rest task files s compiles runs = record {
     runs = record { given = runs.given; gives = runs.gives; compiled = HasSchema s; compiles = compiles; consumed = runs.consumed; writes = runs.writes };
     noted = runs.noted;
   }
 
   -- the number of nodes is that of any document
-  pub runs_count : (known : Option (List ℕ)) (asked : CommandAsked) (o : OutputOptions) (k : Kind) (s : Rows) → asked ≡ Compiles → Writes (count_printed o s) ended.status old new
-      → HasNote (λ note. note ≡ None) ended → RunsSchema asked o k s ended known known old new
-  runs_count known asked o k s is writes noted =
+  pub runs_count : (known : Option (List ℕ)) (most : ℕ) (asked : CommandAsked) (o : OutputOptions) (k : Kind) (s : Rows) → asked ≡ Compiles → Writes (count_printed o s) ended.status old new
+      → HasNote (λ note. note ≡ None) ended → RunsSchema most asked o k s ended known known old new
+  runs_count known most asked o k s is writes noted =
       let d = some_given known in
-      let runs : RunsSchema Compiles o k s ended known known old new =
+      let runs : RunsSchema most Compiles o k s ended known known old new =
       record { given = d.0; gives = d.1; consumed = Consumes-nil known; writes = writes; noted = noted } in
-      subst (λ (a : CommandAsked). RunsSchema a o k s ended known known old new) (sym is) runs
+      subst (λ (a : CommandAsked). RunsSchema most a o k s ended known known old new) (sym is) runs
 
   -- and so is a diagram
-  pub runs_diagram : (known : Option (List ℕ)) (asked : CommandAsked) (name : List ℕ) (o : OutputOptions) (k : Kind) (s : Rows) → asked ≡ Draws name
-      → Writes (diagram_printed s name) ended.status old new → HasNote (NotesDiagram s name) ended → RunsSchema asked o k s ended known known old new
-  runs_diagram known asked name o k s is writes noted =
+  pub runs_diagram : (known : Option (List ℕ)) (most : ℕ) (asked : CommandAsked) (name : List ℕ) (o : OutputOptions) (k : Kind) (s : Rows) → asked ≡ Draws name
+      → Writes (diagram_printed s name) ended.status old new → HasNote (NotesDiagram s name) ended → RunsSchema most asked o k s ended known known old new
+  runs_diagram known most asked name o k s is writes noted =
       let d = some_given known in
-      let runs : RunsSchema (Draws name) o k s ended known known old new =
+      let runs : RunsSchema most (Draws name) o k s ended known known old new =
       record { given = d.0; gives = d.1; consumed = Consumes-nil known; writes = writes; noted = noted } in
-      subst (λ (a : CommandAsked). RunsSchema a o k s ended known known old new) (sym is) runs
+      subst (λ (a : CommandAsked). RunsSchema most a o k s ended known known old new) (sym is) runs
 
   -- what is said of a document is said where one is read
-  pub runs_document : (unread rest : Option (List ℕ)) (asked : CommandAsked) (o : OutputOptions) (k : Kind) (s : Rows) → ReadsData asked → RunsData o.measures k s ended unread rest old new
-      → RunsSchema asked o k s ended unread rest old new
-  runs_document unread rest Compiles o k s reads runs = absurd reads
-  runs_document unread rest (Draws name) o k s reads runs = absurd reads
-  runs_document unread rest (Checks file) o k s reads runs =
-      record { given = runs.given; gives = runs.gives; consumed = runs.consumed; writes = runs.writes; noted = runs.noted }
+  pub runs_document : (unread rest : Option (List ℕ)) (most : ℕ) (asked : CommandAsked) (o : OutputOptions) (k : Kind) (s : Rows) → (name : List ℕ) → asked ≡ Checks name → RunsData most name o.measures k s ended unread rest old new
+      → RunsSchema most asked o k s ended unread rest old new
+  runs_document unread rest most asked o k s name is checks =
+      let runs : RunsSchema most (Checks name) o k s ended unread rest old new =
+      record { given = checks.given; gives = checks.gives; consumed = checks.consumed; writes = checks.writes; noted = checks.noted } in
+      subst (λ (a : CommandAsked). RunsSchema most a o k s ended unread rest old new) (sym is) runs
 
 -- a run without its note
 pub without_note : (task : Task) (files : List File) (ended : RunEnd) (unread rest old new : Option (List ℕ)) → IsStopped ended.status ⊎ RunsWithNote task files ended unread rest old new
@@ -95,10 +95,10 @@ pub writes_same : (status : Status) (old new : Option (List ℕ)) (p q : Page) �
 writes_same status old new p q e writes = subst (λ (x : Page). Writes x status old new) e writes
 
 -- the note on what was found of some bytes is the one on these
-pub notes_data : {A E : Type 0} (bytes_of : A → List ℕ) (k : Kind) (s : Rows) (given : List ℕ) (found : DocumentText) (fs : List Flaw) (r : Result (Option A) E)
-    → found ≡ document_text given → fs ≡ faults_in k s (document_text given) → IfOk r (λ o. NotesReading found fs given (option_map bytes_of o))
-    → IfOk r (λ o. NotesData k s given (option_map bytes_of o))
-notes_data bytes_of k s given found fs r is same noted =
-    let whole : IfOk r (λ o. NotesReading found (faults_in k s (document_text given)) given (option_map bytes_of o)) =
-    subst (λ (xs : List Flaw). IfOk r (λ o. NotesReading found xs given (option_map bytes_of o))) same noted in
-    subst (λ (x : DocumentText). IfOk r (λ o. NotesReading x (faults_in k s (document_text given)) given (option_map bytes_of o))) is whole
+pub notes_data : {A E : Type 0} (bytes_of : A → List ℕ) (most : ℕ) (name : List ℕ) (k : Kind) (s : Rows) (given : List ℕ) (found : DocumentText) (fs : List Flaw) (r : Result (Option A) E)
+    → found ≡ document_text given → fs ≡ faults_in k s (document_text given) → IfOk r (λ o. NotesReading most name found fs given (option_map bytes_of o))
+    → IfOk r (λ o. NotesData most name k s given (option_map bytes_of o))
+notes_data bytes_of most name k s given found fs r is same noted =
+    let whole : IfOk r (λ o. NotesReading most name found (faults_in k s (document_text given)) given (option_map bytes_of o)) =
+    subst (λ (xs : List Flaw). IfOk r (λ o. NotesReading most name found xs given (option_map bytes_of o))) same noted in
+    subst (λ (x : DocumentText). IfOk r (λ o. NotesReading most name x (faults_in k s (document_text given)) given (option_map bytes_of o))) is whole

@@ -18,19 +18,19 @@ abbrev pub HasNote : (Option (List ℕ) → Type 0) → RunEnd → Type 0
 HasNote IsNote ended = IfOk ended.note (λ note. IsNote (option_map string_bytes note))
 
 -- what is said of some bytes was written, which the reader gave, and which are gone from it
-pub record RunsData (measures : Bool) (k : Kind) (s : Rows) (ended : RunEnd)
+pub record RunsData (most : ℕ) (name : List ℕ) (measures : Bool) (k : Kind) (s : Rows) (ended : RunEnd)
     (unread rest old new : Option (List ℕ)) : Type 0 where
   pub given : List ℕ
   pub gives : Gives unread given
   pub consumed : Consumes unread rest given
   pub writes : Writes (data_printed measures k s given) ended.status old new
-  pub noted : HasNote (NotesData k s given) ended
+  pub noted : HasNote (NotesData most name k s given) ended
 
 -- what was asked of a schema was written
-pub record RunsSchema (asked : CommandAsked) (o : OutputOptions) (k : Kind) (s : Rows)
+pub record RunsSchema (most : ℕ) (asked : CommandAsked) (o : OutputOptions) (k : Kind) (s : Rows)
     (ended : RunEnd) (unread rest old new : Option (List ℕ)) : Type 0 where
   pub given : List ℕ
   pub gives : Gives unread given
   pub consumed : Consumes unread rest (schema_read asked given)
   pub writes : Writes (schema_printed asked o k s given) ended.status old new
-  pub noted : HasNote (NotesSchema asked k s given) ended
+  pub noted : HasNote (NotesSchema most asked k s given) ended

@@ -18,7 +18,7 @@ use Rattle.yv_job.specs.declared.job.OutputForm.TheVariants as form
 use Rattle.yv_job.specs.declared.job.OutputOptions.{OutputOptions}
 use Rattle.yv_data_faults.specs.Flaw.{Flaw}
 use Rattle.yv_validate.specs.Faults.{faults}
-use Rattle.yv_json_lines.specs.Column.{column}
+use Rattle.yv_base_positions.specs.Column.{column}
 use Rattle.yv_json_lines.specs.Values.{count_value, json_line, refusal_value}
 use Rattle.yv_json_lines.specs.declared.document.ValidationCost.{ValidationCost}
 use Rattle.yv_documents.specs.VerdictText.{checked_text, with_end}

@@ -19,10 +19,12 @@ faults_of (Diagram text) = []
 faults_of (Faults list end) = list.items
 faults_of (Compiled r) = []
 
--- the note on these bytes as a document of a kind: none where it is valid
-abbrev pub NotesData : Kind → Rows → (given : List ℕ) → (note : Option (List ℕ)) → Type 0
-NotesData k s given note =
-    NotesReading (document_text given) (faults_in k s (document_text given)) given note
+-- the note on these bytes, in the file of this name, as a document of a kind: it has lines on so
+-- many faults at most
+abbrev pub NotesData : (most : ℕ) → (name : List ℕ) → Kind → Rows → (given : List ℕ)
+    → (note : Option (List ℕ)) → Type 0
+NotesData most name k s given note =
+    NotesReading most name (document_text given) (faults_in k s (document_text given)) given note
 
 -- the note that there is no diagram, and none where there is one
 abbrev pub NotesDrawn : (diagram : Option (List ℕ)) → (note : Option (List ℕ)) → Type 0

@@ -14,7 +14,7 @@ use std::alloc::{AllocError, Global};
 use std::io::{Read, Write};
 use yv_base_streams::{Counted, Input, InputFault, read_up_to};
 use yv_job::{Command, Job, OutputOptions};
-use yv_note_refusals::explanation;
+use yv_note_refusals::{explanation, other_refusals};
 use yv_schema::Schema;
 use yv_text_statement::Refusal;
 
@@ -53,7 +53,7 @@ pub(crate) fn write_refusal<W: Write>(
     })
 }
 
-// What helps a person to fix a file that is refused.
+// What helps a person to fix the files that are refused.
 fn refusal_note(
     alloc: Global,
     job: &Job,
@@ -64,7 +64,10 @@ fn refusal_note(
         (λ note. IsSomeAnd (option_map string_bytes note)
         (TellsRefusal (map file_of inputs.now) refusal.now)) }
 {
-    Ok(Some(explanation(alloc, inputs, job, refusal)?))
+    let mut text = explanation(alloc, inputs, job, refusal)?;
+    let others = other_refusals(alloc, inputs, job, refusal)?;
+    text.push_str(others.as_str())?;
+    Ok(Some(text))
 }
 
 /// Writes what was asked of the schema.
@@ -72,6 +75,7 @@ fn refusal_note(
 pub(crate) fn write_answer<R: Read, W: Write>(
     alloc: Global,
     job: &Job,
+    inputs: &[Input],
     schema: Schema,
     reader: &mut Counted<R>,
     writer: &mut Counted<W>,
@@ -79,7 +83,8 @@ pub(crate) fn write_answer<R: Read, W: Write>(
     requires reader { IsFresh reader.old }
     requires writer { IsFresh writer.old }
     ensures runs { IfOk result
-        (λ e. RunsSchema (asked_of job.now.command) job.now.output job.now.kind schema e
+        (λ e. RunsSchema job.now.explain (asked_of job.now.command) job.now.output job.now.kind
+        schema e
         (R.remaining (stream_inner reader.old))
         (R.remaining (stream_inner reader.new)) (W.contents (stream_inner writer.old))
         (W.contents (stream_inner writer.new))) }
@@ -98,7 +103,9 @@ pub(crate) fn write_answer<R: Read, W: Write>(
     match &job.command {
         Command::Compile => write_count(schema, job.output, writer),
         Command::Tree(name) => write_diagram(alloc, job, schema, name.as_str(), writer),
-        Command::Validate(_) => validate_document(alloc, job, schema, reader, writer),
+        Command::Validate(name) => {
+            validate_document(alloc, job, inputs, schema, name.as_str(), reader, writer)
+        }
     }
 }
 
@@ -161,20 +168,21 @@ fn write_diagram<W: Write>(
     })
 }
 
-// Reads a document, and writes what is said of it.
+// Reads the document of the file of this name, and writes what is said of it.
 fn validate_document<R: Read, W: Write>(
     alloc: Global,
     job: &Job,
+    inputs: &[Input],
     schema: Schema,
+    name: &str,
     reader: &mut Counted<R>,
     writer: &mut Counted<W>,
 ) -> Result<RunEnd, Halt>
     requires reader { IsFresh reader.old }
     requires writer { IsFresh writer.old }
     ensures runs { IfOk result
-        (λ e. RunsData job.now.output.measures job.now.kind schema e
-        (R.remaining (stream_inner reader.old))
-        (R.remaining (stream_inner reader.new))
+        (λ e. RunsData job.now.explain name.now job.now.output.measures job.now.kind schema e
+        (R.remaining (stream_inner reader.old)) (R.remaining (stream_inner reader.new))
         (W.contents (stream_inner writer.old)) (W.contents (stream_inner writer.new))) }
     ensures ends { IfOk result (λ e. IsStopped e.status → ⊥) }
     ensures write_fault { IfOk result
@@ -188,17 +196,19 @@ fn validate_document<R: Read, W: Write>(
     ensures never_built { IsErrOf result Halt.PatternBuild → ⊥ }
 {
     match read_up_to(alloc, DATA_BYTES, reader) {
-        Ok(bytes) => write_findings(alloc, job, schema, bytes.as_slice(), writer),
+        Ok(bytes) => write_findings(alloc, job, inputs, schema, name, bytes.as_slice(), writer),
         Err(InputFault::Read) => Err(Halt::Read),
         Err(InputFault::NoMemory) => Err(Halt::NoMemory),
     }
 }
 
-// Writes what is said of a document of these bytes.
+// Writes what is said of a document of these bytes, in the file of this name.
 fn write_findings<W: Write>(
     alloc: Global,
     job: &Job,
+    inputs: &[Input],
     schema: Schema,
+    name: &str,
     bytes: &[u8],
     writer: &mut Counted<W>,
 ) -> Result<RunEnd, Halt>
@@ -206,7 +216,8 @@ fn write_findings<W: Write>(
     ensures writes { IfOk result
         (λ e. Writes (data_printed job.now.output.measures job.now.kind schema bytes.now) e.status
         (W.contents (stream_inner writer.old)) (W.contents (stream_inner writer.new))) }
-    ensures notes { IfOk result (HasNote (NotesData job.now.kind schema bytes.now)) }
+    ensures notes { IfOk result
+        (HasNote (NotesData job.now.explain name.now job.now.kind schema bytes.now)) }
     ensures ends { IfOk result (λ e. IsStopped e.status → ⊥) }
     ensures write_fault { IfOk result
         (λ e. e.status ≡ Status.WriteFault ↔ (has_failed writer.new ≡ true)) }
@@ -216,7 +227,7 @@ fn write_findings<W: Write>(
 {
     let answer = of_data(alloc, &schema, bytes, job.kind, job.output.measures)?;
     let status = write_output(&answer.output, writer);
-    let note = answer.note(alloc, job, &schema, bytes);
+    let note = answer.note(alloc, job, inputs, &schema, name, bytes);
     Ok(RunEnd {
         status,
         note,

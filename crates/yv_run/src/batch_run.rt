@@ -112,7 +112,7 @@ fn run_batch<D: Documents, N: NoteSink, W: Write>(
         → HavePattern (selected_of job.now.selection) job.now.limit (map file_of inputs.now) }
 {
     match compile_files(alloc, inputs, &job.selection, job.limit) {
-        Ok(schema) => answer_documents(alloc, job, schema, documents, notes, writer),
+        Ok(schema) => answer_documents(alloc, job, inputs, schema, documents, notes, writer),
         Err(Stop::Fault(refusal)) => write_refusal(alloc, job, inputs, &refusal, writer),
         Err(Stop::PatternBuild) => Err(Halt::PatternBuild),
         Err(Stop::NoMemory) => Err(Halt::NoMemory),
@@ -123,6 +123,7 @@ fn run_batch<D: Documents, N: NoteSink, W: Write>(
 fn answer_documents<D: Documents, N: NoteSink, W: Write>(
     alloc: Global,
     job: &Job,
+    inputs: &[Input],
     schema: Schema,
     documents: &mut D,
     notes: &mut N,
@@ -143,7 +144,7 @@ fn answer_documents<D: Documents, N: NoteSink, W: Write>(
     ensures no_memory { IfErr result (λ h. h ≡ Halt.NoMemory) }
 {
     let end = {
-        let mut answer = DocumentAnswer::new(alloc, &schema, job, notes)?;
+        let mut answer = DocumentAnswer::new(alloc, &schema, job, inputs, notes)?;
         answer_all(alloc, documents, &mut answer, writer)
     };
     Ok(RunEnd {

@@ -9,27 +9,41 @@ use crate::modules::modules_note;
 use crate::print::{Body, Output};
 use crate::status::Verdict;
 use std::alloc::{AllocError, Global};
-use yv_documents::document_note;
+use yv_base_streams::Input;
+use yv_documents::{DocumentSource, NoteBasis, document_note};
 use yv_job::Job;
 use yv_schema::Schema;
 use yv_validate::Fault;
 
 impl CheckResult {
-    /// Why the document can't be read, of which these are the bytes, or sentences on its first
-    /// faults. None for a valid document.
-    pub fn note(
-        &self,
+    /// Why the document can't be read, of which these are the bytes, or lines on its repeated
+    /// members and its first faults, with places in the file of this name.
+    pub fn note<'n>(
+        &'n self,
         alloc: Global,
-        job: &Job,
-        schema: &Schema,
-        bytes: &[u8],
+        job: &'n Job,
+        inputs: &'n [Input],
+        schema: &'n Schema,
+        name: &'n str,
+        bytes: &'n [u8],
     ) -> Result<Option<String>, AllocError>
         ensures { document_view self.now.document ≡ document_text bytes.now
-            → IfOk result (λ note. NotesReading (document_view self.now.document)
+            → IfOk result
+            (λ note. NotesReading job.now.explain name.now (document_view self.now.document)
             (faults_of self.now.output.body) bytes.now (option_map string_bytes note)) }
     {
+        let basis = NoteBasis {
+            job,
+            inputs,
+            schema,
+        };
+        let source = DocumentSource {
+            name: name.as_bytes(),
+            line: None,
+            bytes,
+        };
         let faults = self.output.body.faults();
-        document_note(alloc, job, schema, &self.document, faults, bytes)
+        document_note(alloc, &basis, &source, &self.document, faults)
     }
 }
 

@@ -6,9 +6,10 @@ ghost use Rattle.yv_run.specs.Output.{body_text, bytes_of_file, count_printed, d
 
 use crate::status::Verdict;
 use std::alloc::{AllocError, Global};
+use yv_base_positions::column_of;
 use yv_base_streams::Input;
 use yv_job::{OutputForm, OutputOptions};
-use yv_json_lines::{Position, column_of};
+use yv_json_lines::Position;
 use yv_schema::Schema;
 use yv_schema_tables::Measures;
 use yv_text_statement::Refusal;

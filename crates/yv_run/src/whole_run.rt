@@ -277,7 +277,7 @@ fn run_job<R: Read, W: Write>(
         → HavePattern (selected_of job.now.selection) job.now.limit (map file_of inputs.now) }
 {
     match compile_files(alloc, inputs, &job.selection, job.limit) {
-        Ok(schema) => write_answer(alloc, job, schema, reader, writer),
+        Ok(schema) => write_answer(alloc, job, inputs, schema, reader, writer),
         Err(Stop::Fault(refusal)) => write_refusal(alloc, job, inputs, &refusal, writer),
         Err(Stop::PatternBuild) => Err(Halt::PatternBuild),
         Err(Stop::NoMemory) => Err(Halt::NoMemory),

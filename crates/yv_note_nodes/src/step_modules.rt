@@ -1,0 +1,165 @@
+//! Steps of a path whose prefix is that of another module than the node's.
+use crate::nodes::{MOST_STEPS, Steps, node_in_block, root_of};
+use crate::tree::Tree;
+use std::alloc::AllocError;
+use yv_link_scopes::{local, prefix_of};
+use yv_note_statements::{Message, Site, declaration, prefix_of_module};
+
+/// How many augments of a node are searched.
+const MOST_AUGMENTS: usize = 64;
+
+// A node of the schema, and the module whose namespace has its name.
+#[derive(Clone, Copy)]
+struct Reached<'s, 'a> {
+    node: Site<'s, 'a>,
+    module: Site<'s, 'a>,
+    /// Whether an `augment` adds it to the node above.
+    is_added: bool,
+}
+
+impl<'s, 'a> Reached<'s, 'a> {
+    // Whether a step that means this module, or any, can lead here.
+    fn is_of(&self, module: Option<Site<'s, 'a>>) -> bool {
+        module.is_none_or(|module| module.number == self.module.number)
+    }
+}
+
+/// Adds which step of an absolute path has a prefix that is not that of the node's module, and how
+/// the step is written. Whether there is such a step.
+pub(crate) fn say_foreign_step<'s, 'a>(
+    telling: &mut Message<'a>,
+    tree: &mut Tree<'s, 'a>,
+    site: &Site<'s, 'a>,
+    steps: Steps,
+) -> Result<bool, AllocError> {
+    let path = site.argument();
+    let Some(root) = root_of(site, path) else {
+        return Ok(false);
+    };
+    let mut at = Reached {
+        node: root,
+        module: root,
+        is_added: false,
+    };
+    for step in path.split('/').take(MOST_STEPS) {
+        if step.is_empty() {
+            continue;
+        }
+        let module = module_meant(site, step);
+        match node_reached(tree, &at, local(step), module, steps)? {
+            Some(next) if next.is_of(module) => at = next,
+            Some(next) => {
+                say_step(telling, site, &at.node, step, &next);
+                return Ok(true);
+            }
+            None => return Ok(false),
+        }
+    }
+    Ok(false)
+}
+
+// The module that a step of a path means. A step without a prefix means that of the file, or in a
+// grouping that of each `uses`, which is any here.
+fn module_meant<'s, 'a>(site: &Site<'s, 'a>, step: &str) -> Option<Site<'s, 'a>> {
+    match prefix_of(step) {
+        Some(prefix) => declaration(site, prefix)?.meaning(),
+        None if site.is("augment") => site.module(),
+        None => None,
+    }
+}
+
+// The node of a name below another one: of the module that is meant, if there is one.
+fn node_reached<'s, 'a>(
+    tree: &mut Tree<'s, 'a>,
+    at: &Reached<'s, 'a>,
+    name: &'a str,
+    module: Option<Site<'s, 'a>>,
+    steps: Steps,
+) -> Result<Option<Reached<'s, 'a>>, AllocError> {
+    let mut first = None;
+    if let Some(node) = node_in_block(tree, &at.node, steps, name)? {
+        let own = Reached {
+            node,
+            module: at.module,
+            is_added: false,
+        };
+        if own.is_of(module) {
+            return Ok(Some(own));
+        }
+        first = Some(own);
+    }
+    match node_added(tree, &at.node, name, module, steps)? {
+        Some(added) if first.is_none() || added.is_of(module) => Ok(Some(added)),
+        _ => Ok(first),
+    }
+}
+
+// The same of the nodes that augments add.
+fn node_added<'s, 'a>(
+    tree: &mut Tree<'s, 'a>,
+    node: &Site<'s, 'a>,
+    name: &'a str,
+    module: Option<Site<'s, 'a>>,
+    steps: Steps,
+) -> Result<Option<Reached<'s, 'a>>, AllocError> {
+    let mut first = None;
+    for augment in tree.augments_at(node, MOST_AUGMENTS)?.iter() {
+        let Some(added) = node_of_augment(tree, augment, name, steps)? else {
+            continue;
+        };
+        if added.is_of(module) {
+            return Ok(Some(added));
+        }
+        first = first.or(Some(added));
+    }
+    Ok(first)
+}
+
+// The node of a name that an `augment` adds.
+fn node_of_augment<'s, 'a>(
+    tree: &mut Tree<'s, 'a>,
+    augment: &Site<'s, 'a>,
+    name: &'a str,
+    steps: Steps,
+) -> Result<Option<Reached<'s, 'a>>, AllocError> {
+    let Some(module) = augment.module() else {
+        return Ok(None);
+    };
+    match node_in_block(tree, augment, steps, name)? {
+        Some(node) => Ok(Some(Reached {
+            node,
+            module,
+            is_added: true,
+        })),
+        None => Ok(None),
+    }
+}
+
+// Adds that a node has none below it as this step says, and how the step to this one is written.
+fn say_step<'a>(
+    telling: &mut Message<'a>,
+    site: &Site<'_, 'a>,
+    above: &Site<'_, 'a>,
+    step: &'a str,
+    reached: &Reached<'_, 'a>,
+) {
+    telling.quote(" There is no node ", step, "");
+    telling.statement_at(" in ", above, ".");
+    let node = &reached.node;
+    let end = if reached.is_added {
+        " adds it"
+    } else {
+        " defines it"
+    };
+    match prefix_of_module(site, &reached.module) {
+        Some(prefix) => {
+            telling.quote_prefixed(" Write ", prefix, local(step), ": ");
+            telling.point("", node, end);
+            telling.say(".");
+        }
+        None => {
+            telling.quote(" The module ", reached.module.argument(), end);
+            telling.point(" at ", node, ": import it.");
+        }
+    }
+}
