@@ -22,7 +22,7 @@ const MISSING_STATE: &str =
 /// Adds what is wrong at a fault whose path isn't empty, and what to do.
 pub(crate) fn push_advice(
     text: &mut String,
-    spot: &Spot<'_>,
+    spot: &Spot<'_, '_>,
     name: &MemberName<'_>,
     fault: &Fault,
 ) -> Result<(), AllocError> {
@@ -47,7 +47,7 @@ pub(crate) fn push_advice(
 }
 
 // Adds what shape a node is written in.
-fn push_shape(text: &mut String, spot: &Spot<'_>) -> Result<(), AllocError> {
+fn push_shape(text: &mut String, spot: &Spot<'_, '_>) -> Result<(), AllocError> {
     if spot.item.is_some() {
         return text.push_str("each entry needs to be an object in braces");
     }
@@ -63,7 +63,7 @@ fn push_shape(text: &mut String, spot: &Spot<'_>) -> Result<(), AllocError> {
 }
 
 // Adds what values a node has.
-fn push_value(text: &mut String, spot: &Spot<'_>) -> Result<(), AllocError> {
+fn push_value(text: &mut String, spot: &Spot<'_, '_>) -> Result<(), AllocError> {
     match spot.node {
         Some(id) => push_expected(text, spot, id, spot.value),
         None => text.push_str("its type has other values"),
@@ -71,7 +71,7 @@ fn push_value(text: &mut String, spot: &Spot<'_>) -> Result<(), AllocError> {
 }
 
 // Adds that a node must be there, and what values it has.
-fn push_mandatory(text: &mut String, spot: &Spot<'_>) -> Result<(), AllocError> {
+fn push_mandatory(text: &mut String, spot: &Spot<'_, '_>) -> Result<(), AllocError> {
     text.push_str("it is missing, and the schema requires it")?;
     match spot.node {
         Some(id) if is_leaf(spot.schema, id) => {
@@ -89,7 +89,7 @@ fn is_leaf(schema: &Schema, id: NodeId) -> bool {
 // Adds what the type of a node expects in place of a value: of a leafref that of its target.
 fn push_expected(
     text: &mut String,
-    spot: &Spot<'_>,
+    spot: &Spot<'_, '_>,
     id: NodeId,
     value: Option<&Value>,
 ) -> Result<(), AllocError> {
@@ -105,7 +105,7 @@ fn push_expected(
 }
 
 // Adds how many entries there must be at least, and how many there are.
-fn push_few(text: &mut String, spot: &Spot<'_>) -> Result<(), AllocError> {
+fn push_few(text: &mut String, spot: &Spot<'_, '_>) -> Result<(), AllocError> {
     let least = spot.schema_node().map_or(1, |node| node.min());
     text.push_str("the schema requires at least ")?;
     push_count(text, u64::from(least), "entry", "entries")?;
@@ -120,7 +120,7 @@ fn push_few(text: &mut String, spot: &Spot<'_>) -> Result<(), AllocError> {
 }
 
 // Adds how many entries there may be, and how many there are.
-fn push_many(text: &mut String, spot: &Spot<'_>) -> Result<(), AllocError> {
+fn push_many(text: &mut String, spot: &Spot<'_, '_>) -> Result<(), AllocError> {
     let most = spot
         .schema_node()
         .and_then(|node| node.max())

@@ -10,13 +10,12 @@ use yv_job::Job;
 use yv_nodes::NodeId;
 use yv_note_values::YangFiles;
 use yv_schema_tables::Schema;
-use yv_source::Texts;
 use yv_text_statement::{Kind, Statement};
 use yv_values::PlainType;
 
 /// An advisor on the faults of one document: what the advice is made of.
-#[derive(Drop)]
-pub struct Advisor<'d> {
+#[derive(Clone, Copy)]
+pub struct Advisor<'d, 's> {
     pub schema: &'d Schema,
     pub document: &'d Value,
     /// The job that checks the document.
@@ -24,17 +23,17 @@ pub struct Advisor<'d> {
     /// The files of the modules.
     pub inputs: &'d [Input],
     /// The statements of these files, one of each, where they were read again.
-    pub(crate) statements: Option<Vec<Statement<'d>>>,
+    pub(crate) statements: Option<&'s [Statement<'d>]>,
 }
 
-impl<'d> Advisor<'d> {
-    /// An advisor that has not read the statements of the modules again.
+impl<'d, 's> Advisor<'d, 's> {
+    /// An advisor without the statements of the modules.
     pub fn new(
         schema: &'d Schema,
         document: &'d Value,
         job: &'d Job,
         inputs: &'d [Input],
-    ) -> Advisor<'d> {
+    ) -> Advisor<'d, 's> {
         Advisor {
             schema,
             document,
@@ -44,20 +43,19 @@ impl<'d> Advisor<'d> {
         }
     }
 
-    /// Reads the statements of the modules again, if advice on one of these faults needs them.
-    pub fn read_statements(&mut self, alloc: Global, faults: &[&Fault]) -> Result<(), AllocError> {
-        if !faults.iter().any(|fault| self.wants_statements(fault)) {
-            return Ok(());
+    /// This advisor with the statements of the modules' files, one of each, in the same order.
+    pub fn with_statements<'t>(&self, statements: &'t [Statement<'d>]) -> Advisor<'d, 't> {
+        Advisor {
+            schema: self.schema,
+            document: self.document,
+            job: self.job,
+            inputs: self.inputs,
+            statements: Some(statements),
         }
-        let texts = Texts::read(alloc, self.inputs)?;
-        if let Ok(statements) = texts.statements(alloc) {
-            self.statements = Some(statements);
-        }
-        Ok(())
     }
 
     /// What is wrong at a fault, and what to do.
-    pub fn advice(&'d self, alloc: Global, fault: &Fault) -> Result<String, AllocError> {
+    pub fn advice(&self, alloc: Global, fault: &Fault) -> Result<String, AllocError> {
         let path = fault.path.steps().to_vec(alloc)?;
         let mut text = String::new(alloc);
         match path.last() {
@@ -72,7 +70,7 @@ impl<'d> Advisor<'d> {
 
     /// The keys of the innermost list entry around a fault, with their values; empty where there is
     /// none.
-    pub fn keys(&'d self, alloc: Global, fault: &Fault) -> Result<String, AllocError> {
+    pub fn keys(&self, alloc: Global, fault: &Fault) -> Result<String, AllocError> {
         let path = fault.path.steps().to_vec(alloc)?;
         let mut text = String::new(alloc);
         push_keys(alloc, &mut text, self, path.as_slice())?;
@@ -80,16 +78,16 @@ impl<'d> Advisor<'d> {
     }
 
     /// The files of the modules, where their statements were read again.
-    pub(crate) fn files(&'d self) -> Option<YangFiles<'d>> {
-        match &self.statements {
-            Some(statements) => Some(YangFiles::new(self.inputs, statements.as_slice())),
+    pub(crate) fn files(&self) -> Option<YangFiles<'s>> {
+        match self.statements {
+            Some(statements) => Some(YangFiles::new(self.inputs, statements)),
             None => None,
         }
     }
 
-    // Whether advice on a fault needs the statements of the modules: for a string, which may fail
-    // a pattern, for a union, whose types have names, and for a member that the schema lacks.
-    fn wants_statements(&self, fault: &Fault) -> bool {
+    /// Whether advice on a fault needs the statements of the modules: for a string, which may fail
+    /// a pattern, for a union, whose types have names, and for a member that the schema lacks.
+    pub fn wants_statements(&self, fault: &Fault) -> bool {
         match fault.kind {
             FaultKind::Unknown => true,
             FaultKind::Value | FaultKind::Mandatory => self.has_named_types(fault.path.node()),

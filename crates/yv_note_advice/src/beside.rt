@@ -11,7 +11,7 @@ const MOST_NODES: usize = 1000;
 
 /// The first 1,000 nodes below the node around a place, and after them those in choices and cases,
 /// which are in the same object.
-pub(crate) fn beside(alloc: Global, spot: &Spot<'_>) -> Result<Vec<NodeId>, AllocError> {
+pub(crate) fn beside(alloc: Global, spot: &Spot<'_, '_>) -> Result<Vec<NodeId>, AllocError> {
     let schema = spot.schema;
     let mut nodes = Vec::new(alloc);
     add(&mut nodes, children_at(schema, spot.around))?;
@@ -27,7 +27,7 @@ pub(crate) fn beside(alloc: Global, spot: &Spot<'_>) -> Result<Vec<NodeId>, Allo
 }
 
 /// The data nodes among them: those that a member of the object can write.
-pub(crate) fn data_beside(alloc: Global, spot: &Spot<'_>) -> Result<Vec<NodeId>, AllocError> {
+pub(crate) fn data_beside(alloc: Global, spot: &Spot<'_, '_>) -> Result<Vec<NodeId>, AllocError> {
     let nodes = beside(alloc, spot)?;
     nodes
         .iter()
@@ -58,7 +58,7 @@ fn is_passed(schema: &Schema, id: NodeId) -> bool {
 /// The choice of a name that is in the object around a place.
 pub(crate) fn choice_of(
     alloc: Global,
-    spot: &Spot<'_>,
+    spot: &Spot<'_, '_>,
     name: &MemberName<'_>,
 ) -> Result<Option<NodeId>, AllocError> {
     let nodes = beside(alloc, spot)?;

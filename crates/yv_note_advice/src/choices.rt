@@ -20,7 +20,7 @@ const MOST_CASES: usize = 1000;
 /// Adds that one of the cases of a choice must exist.
 pub(crate) fn push_missing_choice(
     text: &mut String,
-    spot: &Spot<'_>,
+    spot: &Spot<'_, '_>,
     name: &MemberName<'_>,
 ) -> Result<(), AllocError> {
     let choice = choice_of(*text.allocator(), spot, name)?;
@@ -35,7 +35,7 @@ pub(crate) fn push_missing_choice(
 /// Adds which cases of a choice exist.
 pub(crate) fn push_choice(
     text: &mut String,
-    spot: &Spot<'_>,
+    spot: &Spot<'_, '_>,
     name: &MemberName<'_>,
 ) -> Result<(), AllocError> {
     let alloc = *text.allocator();
@@ -53,7 +53,7 @@ pub(crate) fn push_choice(
 // The cases of a choice of which an object has nodes.
 fn cases_at(
     alloc: Global,
-    spot: &Spot<'_>,
+    spot: &Spot<'_, '_>,
     choice: Option<NodeId>,
 ) -> Result<Vec<NodeId>, AllocError> {
     let schema = spot.schema;

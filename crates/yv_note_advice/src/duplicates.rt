@@ -12,7 +12,7 @@ use yv_schema_tables::Schema;
 /// Adds which earlier entry has the keys of this one, or which earlier item its value.
 pub(crate) fn push_duplicate(
     text: &mut String,
-    spot: &Spot<'_>,
+    spot: &Spot<'_, '_>,
     fault: &Fault,
 ) -> Result<(), AllocError> {
     match spot.schema_node() {
@@ -30,7 +30,7 @@ pub(crate) fn push_duplicate(
 /// Adds which earlier entry has the values of this one for a `unique` statement.
 pub(crate) fn push_unique(
     text: &mut String,
-    spot: &Spot<'_>,
+    spot: &Spot<'_, '_>,
     fault: &Fault,
 ) -> Result<(), AllocError> {
     push_earlier(text, "entry", fault.earlier)?;
@@ -41,7 +41,7 @@ pub(crate) fn push_unique(
 }
 
 /// Adds which keys an entry has.
-pub(crate) fn push_key_names(text: &mut String, spot: &Spot<'_>) -> Result<(), AllocError> {
+pub(crate) fn push_key_names(text: &mut String, spot: &Spot<'_, '_>) -> Result<(), AllocError> {
     let keys = keys_at(spot.schema, spot.around);
     if keys.len() == 1 {
         text.push_str("it is missing: each entry needs the key ")?;

@@ -22,7 +22,7 @@ struct Feature<'d> {
 /// feature isn't supported. Returns whether it is so.
 pub(crate) fn push_feature(
     text: &mut String,
-    spot: &Spot<'_>,
+    spot: &Spot<'_, '_>,
     member: &str,
 ) -> Result<bool, AllocError> {
     let alloc = *text.allocator();

@@ -15,10 +15,10 @@ const MOST_KEYS: usize = 4;
 
 /// Adds the keys of the innermost list entry on a path, as `name "eth0", number 3`. It adds nothing
 /// where no entry is on the path, and where one of the keys has no value that can be shown.
-pub(crate) fn push_keys<'d>(
+pub(crate) fn push_keys(
     alloc: Global,
     text: &mut String,
-    advisor: &'d Advisor<'d>,
+    advisor: &Advisor<'_, '_>,
     path: &[Part<'_>],
 ) -> Result<(), AllocError> {
     let Some(entry) = innermost_entry(alloc, advisor, path)? else {
@@ -38,11 +38,11 @@ pub(crate) fn push_keys<'d>(
 }
 
 // The innermost list entry on a path that the document has.
-fn innermost_entry<'d>(
+fn innermost_entry<'d, 's>(
     alloc: Global,
-    advisor: &'d Advisor<'d>,
+    advisor: &Advisor<'d, 's>,
     path: &[Part<'_>],
-) -> Result<Option<Spot<'d>>, AllocError> {
+) -> Result<Option<Spot<'d, 's>>, AllocError> {
     let mut spot = Spot::top(advisor);
     let mut entry = None;
     for step in path {
@@ -55,7 +55,7 @@ fn innermost_entry<'d>(
 }
 
 // Whether a place is that of a list entry.
-fn is_entry(spot: &Spot<'_>) -> bool {
+fn is_entry(spot: &Spot<'_, '_>) -> bool {
     let is_list = spot
         .schema_node()
         .is_some_and(|node| matches!(node.kind(), NodeKind::List));
@@ -66,7 +66,7 @@ fn is_entry(spot: &Spot<'_>) -> bool {
 fn push_key(
     alloc: Global,
     text: &mut String,
-    entry: &Spot<'_>,
+    entry: &Spot<'_, '_>,
     key: NodeId,
 ) -> Result<bool, AllocError> {
     let Some(node) = node_at(entry.schema, Some(key)) else {

@@ -18,9 +18,9 @@ pub(crate) fn is_implemented(schema: &Schema, name: &str) -> bool {
 
 /// Adds why a module isn't implemented: nothing requires its file, it is imported only, the name is
 /// that of a submodule, or no file defines it.
-pub(crate) fn push_no_module<'d>(
+pub(crate) fn push_no_module(
     text: &mut String,
-    advisor: &'d Advisor<'d>,
+    advisor: &Advisor<'_, '_>,
     module: &str,
 ) -> Result<(), AllocError> {
     if let Some(file) = advisor.job.unrequired_file(module) {
@@ -40,8 +40,8 @@ pub(crate) fn push_no_module<'d>(
 }
 
 // Whether a file defines a module. That is not known where the files weren't read again.
-fn is_given(advisor: &Advisor<'_>, module: &str) -> bool {
-    match &advisor.statements {
+fn is_given(advisor: &Advisor<'_, '_>, module: &str) -> bool {
+    match advisor.statements {
         Some(roots) => roots.iter().any(|root| root.is(Keyword::Module)
             && root.argument() == Some(module)),
         None => true,
@@ -49,8 +49,8 @@ fn is_given(advisor: &Advisor<'_>, module: &str) -> bool {
 }
 
 // The root of the file of a submodule.
-fn submodule_named<'d>(advisor: &'d Advisor<'d>, name: &str) -> Option<&'d Statement<'d>> {
-    match &advisor.statements {
+fn submodule_named<'s>(advisor: &Advisor<'_, 's>, name: &str) -> Option<&'s Statement<'s>> {
+    match advisor.statements {
         Some(roots) => roots.iter().find(|root| root.is(Keyword::Submodule)
             && root.argument() == Some(name)),
         None => None,

@@ -13,7 +13,7 @@ use yv_note_values::push_written;
 /// Adds which node has no such value in the document, and what may be meant by the value.
 pub(crate) fn push_reference(
     text: &mut String,
-    spot: &Spot<'_>,
+    spot: &Spot<'_, '_>,
     fault: &Fault,
 ) -> Result<(), AllocError> {
     let alloc = *text.allocator();
@@ -25,13 +25,13 @@ pub(crate) fn push_reference(
     text.push_str("no ")?;
     push_target_path(text, spot.schema, &target)?;
     push_sought(text, spot.value)?;
-    let base = Spot::find(alloc, spot.advisor, target.base)?;
+    let base = Spot::find(alloc, &spot.advisor, target.base)?;
     let values = values_at(alloc, spot.schema, base.value, target.steps)?;
     push_remedy(text, spot, link, &values)
 }
 
 // The path of the leafref at a place.
-fn link_at<'d>(spot: &Spot<'d>) -> Option<&'d Link> {
+fn link_at<'d>(spot: &Spot<'d, '_>) -> Option<&'d Link> {
     spot.schema.reference(spot.node?)
 }
 
@@ -49,7 +49,7 @@ fn push_sought(text: &mut String, value: Option<&Value>) -> Result<(), AllocErro
 // Adds which of the values that are there may be meant, or else what to do.
 fn push_remedy(
     text: &mut String,
-    spot: &Spot<'_>,
+    spot: &Spot<'_, '_>,
     link: &Link,
     values: &[&Value],
 ) -> Result<(), AllocError> {
@@ -83,7 +83,11 @@ fn near<'d>(sought: &str, value: &'d Value) -> Option<NearText<'d>> {
 
 // Adds that the target may be in a member of the top that lacks its module's name, if it is so, and
 // returns whether it is.
-fn push_unknown_top(text: &mut String, spot: &Spot<'_>, link: &Link) -> Result<bool, AllocError> {
+fn push_unknown_top(
+    text: &mut String,
+    spot: &Spot<'_, '_>,
+    link: &Link,
+) -> Result<bool, AllocError> {
     let Some(top) = node_at(spot.schema, link.steps.first().copied()) else {
         return Ok(false);
     };

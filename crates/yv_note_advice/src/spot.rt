@@ -15,9 +15,9 @@ const MOST_LINKS: usize = 64;
 
 /// A place that a path leads to.
 #[derive(Clone, Copy)]
-pub(crate) struct Spot<'d> {
+pub(crate) struct Spot<'d, 's> {
     pub(crate) schema: &'d Schema,
-    pub(crate) advisor: &'d Advisor<'d>,
+    pub(crate) advisor: Advisor<'d, 's>,
     /// The node around it: the root for a member of the top. None where the path has left the
     /// schema.
     pub(crate) around: Option<NodeId>,
@@ -33,12 +33,12 @@ pub(crate) struct Spot<'d> {
     pub(crate) item: Option<u64>,
 }
 
-impl<'d> Spot<'d> {
+impl<'d, 's> Spot<'d, 's> {
     /// The place of the document.
-    pub(crate) fn top(advisor: &'d Advisor<'d>) -> Spot<'d> {
+    pub(crate) fn top(advisor: &Advisor<'d, 's>) -> Spot<'d, 's> {
         Spot {
             schema: advisor.schema,
-            advisor,
+            advisor: *advisor,
             around: None,
             object: None,
             node: Some(Schema::ROOT),
@@ -51,9 +51,9 @@ impl<'d> Spot<'d> {
     /// The place that a path leads to. It takes time linear in the path's names.
     pub(crate) fn find(
         alloc: Global,
-        advisor: &'d Advisor<'d>,
+        advisor: &Advisor<'d, 's>,
         path: &[Part<'_>],
-    ) -> Result<Spot<'d>, AllocError> {
+    ) -> Result<Spot<'d, 's>, AllocError> {
         let mut spot = Spot::top(advisor);
         for step in path {
             spot = spot.below(alloc, step)?;
@@ -62,7 +62,7 @@ impl<'d> Spot<'d> {
     }
 
     /// The place that one step leads to from here.
-    pub(crate) fn below(&self, alloc: Global, step: &Part<'_>) -> Result<Spot<'d>, AllocError> {
+    pub(crate) fn below(&self, alloc: Global, step: &Part<'_>) -> Result<Spot<'d, 's>, AllocError> {
         let member = step.member(alloc)?;
         let written = member_of(self.value, member.as_str());
         Ok(Spot {

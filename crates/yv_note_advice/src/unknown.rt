@@ -24,7 +24,7 @@ struct Candidate {
 /// Adds what is wrong with a member that names no data node of an object.
 pub(crate) fn push_unknown(
     text: &mut String,
-    spot: &Spot<'_>,
+    spot: &Spot<'_, '_>,
     member: &str,
 ) -> Result<(), AllocError> {
     let alloc = *text.allocator();
@@ -44,14 +44,14 @@ pub(crate) fn push_unknown(
 }
 
 // Adds why no node of the schema is meant, where that is seen, and returns whether it is.
-fn push_cause(text: &mut String, spot: &Spot<'_>, member: &str) -> Result<bool, AllocError> {
+fn push_cause(text: &mut String, spot: &Spot<'_, '_>, member: &str) -> Result<bool, AllocError> {
     if is_wrapper(spot, member) {
         text.push_str("this is a wrapper; give the document that is inside it")?;
         return Ok(true);
     }
     match prefix_of(member) {
         Some(module) if !is_implemented(spot.schema, module) => {
-            push_no_module(text, spot.advisor, module)?;
+            push_no_module(text, &spot.advisor, module)?;
             Ok(true)
         }
         _ => push_feature(text, spot, member),
@@ -62,7 +62,7 @@ fn push_cause(text: &mut String, spot: &Spot<'_>, member: &str) -> Result<bool, 
 // or a case.
 fn other_kind<'d>(
     alloc: Global,
-    spot: &Spot<'d>,
+    spot: &Spot<'d, '_>,
     name: &str,
 ) -> Result<Option<&'d Node>, AllocError> {
     let nodes = beside(alloc, spot)?;
@@ -99,7 +99,7 @@ fn is_same(near: Option<Candidate>) -> bool {
 }
 
 // Whether a member of the top is one in which other tools wrap a document.
-fn is_wrapper(spot: &Spot<'_>, member: &str) -> bool {
+fn is_wrapper(spot: &Spot<'_, '_>, member: &str) -> bool {
     spot.around == Some(Schema::ROOT)
         && (member == "data" || member == "ietf-netconf:data" || member.starts_with(RESTCONF))
 }
