@@ -78,7 +78,7 @@ impl<'d, 's> Advisor<'d, 's> {
     }
 
     /// The files of the modules, where their statements were read again.
-    pub(crate) fn files(&self) -> Option<YangFiles<'s>> {
+    pub(crate) fn files(&self) -> Option<YangFiles<'d, 's>> {
         match self.statements {
             Some(statements) => Some(YangFiles::new(self.inputs, statements)),
             None => None,

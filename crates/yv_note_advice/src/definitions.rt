@@ -15,25 +15,25 @@ const MOST_DEPTH: usize = 64;
 
 // A statement, and the place among all of the one in whose block it is.
 #[derive(Clone, Copy)]
-struct Definition<'d> {
-    site: FileStatement<'d>,
+struct Definition<'d, 's> {
+    site: FileStatement<'d, 's>,
     around: Option<usize>,
 }
 
 /// The data definitions of a module, its groupings and its augments, those of a block together: at
 /// most 10,000.
 #[derive(Drop)]
-pub(crate) struct Definitions<'d> {
-    all: Vec<Definition<'d>>,
+pub(crate) struct Definitions<'d, 's> {
+    all: Vec<Definition<'d, 's>>,
 }
 
-impl<'d> Definitions<'d> {
+impl<'d, 's> Definitions<'d, 's> {
     /// Those of the files of a module.
     pub(crate) fn read(
         alloc: Global,
-        files: &YangFiles<'d>,
+        files: &YangFiles<'d, 's>,
         module: &str,
-    ) -> Result<Definitions<'d>, AllocError> {
+    ) -> Result<Definitions<'d, 's>, AllocError> {
         let mut definitions = Definitions {
             all: Vec::new(alloc),
         };
@@ -53,7 +53,7 @@ impl<'d> Definitions<'d> {
     }
 
     // Adds those in the block of the one at this place, as long as there are fewer than 10,000.
-    fn push_block(&mut self, block: FileStatement<'d>, place: usize) -> Result<(), AllocError> {
+    fn push_block(&mut self, block: FileStatement<'d, 's>, place: usize) -> Result<(), AllocError> {
         for child in block.statement.children() {
             if self.all.len() >= MOST_STATEMENTS {
                 return Ok(());
@@ -77,7 +77,7 @@ impl<'d> Definitions<'d> {
         alloc: Global,
         name: &str,
         parent: Option<&str>,
-    ) -> Result<Vec<FileStatement<'d>>, AllocError> {
+    ) -> Result<Vec<FileStatement<'d, 's>>, AllocError> {
         let mut conditions = Vec::new(alloc);
         for definition in self.all.iter() {
             if conditions.len() >= MOST_CONDITIONS {
@@ -93,13 +93,13 @@ impl<'d> Definitions<'d> {
     }
 
     // The definition around one.
-    fn around(&self, definition: &Definition<'d>) -> Option<Definition<'d>> {
+    fn around(&self, definition: &Definition<'d, 's>) -> Option<Definition<'d, 's>> {
         self.all.get(definition.around?).copied()
     }
 
     // Whether a definition may be that of a node right below one of this name, or the root: the
     // uses of a grouping aren't followed.
-    fn may_be_below(&self, definition: &Definition<'d>, parent: Option<&str>) -> bool {
+    fn may_be_below(&self, definition: &Definition<'d, 's>, parent: Option<&str>) -> bool {
         let mut next = self.around(definition);
         for _ in 0..MOST_DEPTH {
             match next {
@@ -114,8 +114,8 @@ impl<'d> Definitions<'d> {
     // Adds the `if-feature` statements on a definition and on those around it.
     fn push_conditions(
         &self,
-        conditions: &mut Vec<FileStatement<'d>>,
-        definition: &Definition<'d>,
+        conditions: &mut Vec<FileStatement<'d, 's>>,
+        definition: &Definition<'d, 's>,
     ) -> Result<(), AllocError> {
         let mut next = Some(*definition);
         for _ in 0..MOST_DEPTH {
@@ -131,9 +131,9 @@ impl<'d> Definitions<'d> {
 
 // Adds the `if-feature` statements right in the block of another, as long as there are fewer than
 // 16.
-fn push_if_features<'d>(
-    conditions: &mut Vec<FileStatement<'d>>,
-    block: FileStatement<'d>,
+fn push_if_features<'d, 's>(
+    conditions: &mut Vec<FileStatement<'d, 's>>,
+    block: FileStatement<'d, 's>,
 ) -> Result<(), AllocError> {
     let room = MOST_CONDITIONS.saturating_sub(conditions.len());
     let children = block.statement.children().iter();

@@ -13,9 +13,9 @@ const MOST_WORDS: usize = 16;
 
 // A feature, by the name of its module and its own.
 #[derive(Clone, Copy)]
-struct Feature<'d> {
-    module: &'d str,
-    name: &'d str,
+struct Feature<'s> {
+    module: &'s str,
+    name: &'s str,
 }
 
 /// Adds which feature the node of a member depends on, where the module has such a node, and that
@@ -49,7 +49,7 @@ pub(crate) fn push_feature(
 // Adds that a member needs a feature, and where that is defined.
 fn push_need(
     text: &mut String,
-    files: &YangFiles<'_>,
+    files: &YangFiles<'_, '_>,
     member: &str,
     feature: &Feature<'_>,
 ) -> Result<(), AllocError> {
@@ -66,11 +66,11 @@ fn push_need(
 
 // The first feature that isn't supported and is named by one of these `if-feature` statements that
 // doesn't hold.
-fn missing_feature<'d>(
-    files: &YangFiles<'d>,
+fn missing_feature<'d, 's>(
+    files: &YangFiles<'d, 's>,
     selection: &Selection,
-    conditions: &[FileStatement<'d>],
-) -> Option<Feature<'d>> {
+    conditions: &[FileStatement<'d, 's>],
+) -> Option<Feature<'s>> {
     for site in conditions {
         if !holds(files, selection, site)
             && let Some(feature) = first_missing(files, selection, site)
@@ -82,7 +82,7 @@ fn missing_feature<'d>(
 }
 
 // Whether the expression of an `if-feature` holds.
-fn holds<'d>(files: &YangFiles<'d>, selection: &Selection, site: &FileStatement<'d>) -> bool {
+fn holds(files: &YangFiles<'_, '_>, selection: &Selection, site: &FileStatement<'_, '_>) -> bool {
     let mut evaluator = Evaluator::new();
     for word in Words::new(name_of(site.statement)).take(MOST_WORDS) {
         let is_on = match feature_of(files, site, word) {
@@ -95,11 +95,11 @@ fn holds<'d>(files: &YangFiles<'d>, selection: &Selection, site: &FileStatement<
 }
 
 // The first feature of an expression that isn't supported.
-fn first_missing<'d>(
-    files: &YangFiles<'d>,
+fn first_missing<'d, 's>(
+    files: &YangFiles<'d, 's>,
     selection: &Selection,
-    site: &FileStatement<'d>,
-) -> Option<Feature<'d>> {
+    site: &FileStatement<'d, 's>,
+) -> Option<Feature<'s>> {
     for word in Words::new(name_of(site.statement)).take(MOST_WORDS) {
         if let Some(feature) = feature_of(files, site, word)
             && !selection.is_supported(feature.module, feature.name)
@@ -111,11 +111,11 @@ fn first_missing<'d>(
 }
 
 // The feature that a word of an expression names.
-fn feature_of<'d>(
-    files: &YangFiles<'d>,
-    site: &FileStatement<'_>,
-    word: Word<'d>,
-) -> Option<Feature<'d>> {
+fn feature_of<'s>(
+    files: &YangFiles<'_, 's>,
+    site: &FileStatement<'_, '_>,
+    word: Word<'s>,
+) -> Option<Feature<'s>> {
     let Word::Name(name) = word else {
         return None;
     };

@@ -49,7 +49,7 @@ fn is_given(advisor: &Advisor<'_, '_>, module: &str) -> bool {
 }
 
 // The root of the file of a submodule.
-fn submodule_named<'s>(advisor: &Advisor<'_, 's>, name: &str) -> Option<&'s Statement<'s>> {
+fn submodule_named<'d, 's>(advisor: &Advisor<'d, 's>, name: &str) -> Option<&'s Statement<'d>> {
     match advisor.statements {
         Some(roots) => roots.iter().find(|root| root.is(Keyword::Submodule)
             && root.argument() == Some(name)),
@@ -58,7 +58,7 @@ fn submodule_named<'s>(advisor: &Advisor<'_, 's>, name: &str) -> Option<&'s Stat
 }
 
 // Adds that a name is that of a submodule.
-fn push_submodule<'d>(text: &mut String, root: &'d Statement<'d>) -> Result<(), AllocError> {
+fn push_submodule(text: &mut String, root: &Statement<'_>) -> Result<(), AllocError> {
     push_quoted(text, name_of(root))?;
     text.push_str(" is a submodule; write the name of its module, ")?;
     push_quoted(text, module_of(root).unwrap_or(""))

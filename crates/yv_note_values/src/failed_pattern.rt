@@ -9,11 +9,11 @@ use yv_values::Patterns;
 
 /// The first pattern of a chain of types that a string fails, the type that all others narrow
 /// coming first.
-pub(crate) fn failed_pattern<'d>(
+pub(crate) fn failed_pattern<'d, 's>(
     alloc: Global,
-    chain: &TypeChain<'d>,
+    chain: &TypeChain<'d, 's>,
     written: &str,
-) -> Result<Option<FileStatement<'d>>, AllocError> {
+) -> Result<Option<FileStatement<'d, 's>>, AllocError> {
     let mut patterns = Patterns::new(alloc);
     let sites = chain.patterns(alloc)?;
     for site in sites.iter() {
@@ -50,8 +50,8 @@ fn is_inverted(statement: &Statement<'_>) -> bool {
 /// Adds that a string fails a pattern, and where that is.
 pub(crate) fn push_failure(
     text: &mut String,
-    files: &YangFiles<'_>,
-    site: &FileStatement<'_>,
+    files: &YangFiles<'_, '_>,
+    site: &FileStatement<'_, '_>,
     written: &str,
 ) -> Result<(), AllocError> {
     push_quoted(text, written)?;

@@ -15,15 +15,15 @@ const MOST_PATTERNS: usize = 16;
 // A `type` statement: the number of its file, the statements in whose blocks it is, from the
 // outermost on, and itself.
 #[derive(Drop)]
-struct TypeUse<'d> {
+struct TypeUse<'d, 's> {
     file: usize,
-    blocks: Vec<&'d Statement<'d>>,
-    statement: &'d Statement<'d>,
+    blocks: Vec<&'s Statement<'d>>,
+    statement: &'s Statement<'d>,
 }
 
-impl<'d> TypeUse<'d> {
+impl<'d, 's> TypeUse<'d, 's> {
     // The type of the statement that ends a way.
-    fn in_last(file: usize, blocks: Vec<&'d Statement<'d>>) -> Option<TypeUse<'d>> {
+    fn in_last(file: usize, blocks: Vec<&'s Statement<'d>>) -> Option<TypeUse<'d, 's>> {
         let last = *blocks.last()?;
         let statement = last
             .children()
@@ -40,8 +40,8 @@ impl<'d> TypeUse<'d> {
     fn base(
         &self,
         alloc: Global,
-        files: &YangFiles<'d>,
-    ) -> Result<Option<TypeUse<'d>>, AllocError> {
+        files: &YangFiles<'d, 's>,
+    ) -> Result<Option<TypeUse<'d, 's>>, AllocError> {
         let name = name_of(self.statement);
         if is_built_in(name) {
             return Ok(None);
@@ -66,9 +66,9 @@ impl<'d> TypeUse<'d> {
     fn blocks_to(
         &self,
         alloc: Global,
-        files: &YangFiles<'d>,
+        files: &YangFiles<'d, 's>,
         name: &str,
-    ) -> Result<Option<Vec<&'d Statement<'d>>>, AllocError> {
+    ) -> Result<Option<Vec<&'s Statement<'d>>>, AllocError> {
         let own = files.module_named(self.file, None);
         if files.module_named(self.file, prefix_of(name)) != own {
             return Ok(None);
@@ -87,7 +87,7 @@ impl<'d> TypeUse<'d> {
     }
 
     // The typedef of a name in the block around this type that is so deep.
-    fn typedef_at(&self, depth: usize, name: &str) -> Option<&'d Statement<'d>> {
+    fn typedef_at(&self, depth: usize, name: &str) -> Option<&'s Statement<'d>> {
         let block = *self.blocks.get(depth)?;
         definition_in(block, Keyword::Typedef, name)
     }
@@ -95,17 +95,17 @@ impl<'d> TypeUse<'d> {
 
 /// The chain of a type: its `type` statement, that of the typedef which it names, and so on.
 #[derive(Drop)]
-pub(crate) struct TypeChain<'d> {
-    uses: Vec<FileStatement<'d>>,
+pub(crate) struct TypeChain<'d, 's> {
+    uses: Vec<FileStatement<'d, 's>>,
 }
 
-impl<'d> TypeChain<'d> {
+impl<'d, 's> TypeChain<'d, 's> {
     /// The chain of a node's type. It is empty where there are no files, or no such statement.
     pub(crate) fn read(
         alloc: Global,
-        files: Option<&YangFiles<'d>>,
+        files: Option<&YangFiles<'d, 's>>,
         node: &Node,
-    ) -> Result<TypeChain<'d>, AllocError> {
+    ) -> Result<TypeChain<'d, 's>, AllocError> {
         let mut uses = Vec::new(alloc);
         let Some(files) = files else {
             return Ok(TypeChain { uses });
@@ -127,7 +127,7 @@ impl<'d> TypeChain<'d> {
     }
 
     /// Its `pattern` statements, those of the type that all others narrow first: at most 16.
-    pub(crate) fn patterns(&self, alloc: Global) -> Result<Vec<FileStatement<'d>>, AllocError> {
+    pub(crate) fn patterns(&self, alloc: Global) -> Result<Vec<FileStatement<'d, 's>>, AllocError> {
         let mut patterns = Vec::new(alloc);
         for site in self.uses.iter().rev() {
             push_patterns(&mut patterns, site)?;
@@ -136,7 +136,7 @@ impl<'d> TypeChain<'d> {
     }
 
     /// The member types of the union that it ends in.
-    pub(crate) fn members(&self, alloc: Global) -> Result<Vec<&'d Statement<'d>>, AllocError> {
+    pub(crate) fn members(&self, alloc: Global) -> Result<Vec<&'s Statement<'d>>, AllocError> {
         match self.uses.last() {
             Some(site) if name_of(site.statement) == "union" => site
                 .statement
@@ -150,9 +150,9 @@ impl<'d> TypeChain<'d> {
 }
 
 // Adds the `pattern` statements of a type statement, as long as there are fewer than 16.
-fn push_patterns<'d>(
-    patterns: &mut Vec<FileStatement<'d>>,
-    site: &FileStatement<'d>,
+fn push_patterns<'d, 's>(
+    patterns: &mut Vec<FileStatement<'d, 's>>,
+    site: &FileStatement<'d, 's>,
 ) -> Result<(), AllocError> {
     for child in site.statement.children() {
         if patterns.len() >= MOST_PATTERNS {

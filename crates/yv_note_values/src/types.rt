@@ -53,7 +53,7 @@ pub fn push_type(
     text: &mut String,
     node: &Node,
     value: Option<&Value>,
-    files: Option<&YangFiles<'_>>,
+    files: Option<&YangFiles<'_, '_>>,
 ) -> Result<(), AllocError> {
     let alloc = *text.allocator();
     let written = Written::new(value);
@@ -73,13 +73,13 @@ pub fn push_type(
 }
 
 // The pattern that a value fails, where it is a string whose length and characters fit its type.
-fn failure<'d>(
+fn failure<'d, 's>(
     alloc: Global,
     node: &Node,
     written: &Written<'_>,
-    chain: &TypeChain<'d>,
-    files: Option<&YangFiles<'d>>,
-) -> Result<Option<(FileStatement<'d>, YangFiles<'d>)>, AllocError> {
+    chain: &TypeChain<'d, 's>,
+    files: Option<&YangFiles<'d, 's>>,
+) -> Result<Option<(FileStatement<'d, 's>, YangFiles<'d, 's>)>, AllocError> {
     match (node.types(), written.string(), files) {
         ([PlainType::Text(plain)], Some(string), Some(files)) if has_fit_form(plain, written) => {
             let site = failed_pattern(alloc, chain, string)?;
@@ -101,7 +101,7 @@ fn has_fit_form(plain: &TextType, written: &Written<'_>) -> bool {
 fn push_expected(
     text: &mut String,
     node: &Node,
-    chain: &TypeChain<'_>,
+    chain: &TypeChain<'_, '_>,
     written: &Written<'_>,
 ) -> Result<(), AllocError> {
     let members = chain.members(*text.allocator())?;

@@ -11,11 +11,11 @@ const MOST_NAMES: usize = 9;
 
 // What is said of a member type.
 #[derive(Clone, Copy)]
-enum Choice<'d> {
+enum Choice<'s> {
     // A value of an enumeration.
-    Name(&'d str),
+    Name(&'s str),
     // A value of a type of this name.
-    Type(&'d str),
+    Type(&'s str),
 }
 
 /// Whether one of these types is named by a typedef, so that names say more than values do.
@@ -25,9 +25,9 @@ pub(crate) fn have_typedef(members: &[&Statement<'_>]) -> bool {
 
 /// Adds what the member types of a union are called, and the names that enumerations among them
 /// list: the first 8.
-pub(crate) fn push_members<'d>(
+pub(crate) fn push_members(
     text: &mut String,
-    members: &[&'d Statement<'d>],
+    members: &[&Statement<'_>],
 ) -> Result<(), AllocError> {
     let alloc = *text.allocator();
     let choices = choices_of(alloc, members)?;
@@ -40,10 +40,10 @@ pub(crate) fn push_members<'d>(
     Ok(())
 }
 
-fn choices_of<'d>(
+fn choices_of<'s>(
     alloc: Global,
-    members: &[&'d Statement<'d>],
-) -> Result<Vec<Choice<'d>>, AllocError> {
+    members: &[&'s Statement<'_>],
+) -> Result<Vec<Choice<'s>>, AllocError> {
     let mut choices = Vec::new(alloc);
     for member in members.iter().take(MOST_NAMES) {
         if name_of(*member) == "enumeration" {
@@ -56,9 +56,9 @@ fn choices_of<'d>(
 }
 
 // Adds the names that an enumeration lists.
-fn push_names<'d>(
-    choices: &mut Vec<Choice<'d>>,
-    enumeration: &'d Statement<'d>,
+fn push_names<'s>(
+    choices: &mut Vec<Choice<'s>>,
+    enumeration: &'s Statement<'_>,
 ) -> Result<(), AllocError> {
     let names = enumeration
         .children()

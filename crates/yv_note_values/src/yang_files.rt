@@ -15,26 +15,26 @@ const MOST_DEPTH: usize = 64;
 
 /// The files of the modules: what they are called, and the statements that they spell.
 #[derive(Clone, Copy)]
-pub struct YangFiles<'d> {
+pub struct YangFiles<'d, 's> {
     inputs: &'d [Input],
-    statements: &'d [Statement<'d>],
+    statements: &'s [Statement<'d>],
 }
 
 /// The site of a statement: the number of its file, and the statement.
 #[derive(Clone, Copy)]
-pub struct FileStatement<'d> {
+pub struct FileStatement<'d, 's> {
     pub file: usize,
-    pub statement: &'d Statement<'d>,
+    pub statement: &'s Statement<'d>,
 }
 
-impl<'d> YangFiles<'d> {
+impl<'d, 's> YangFiles<'d, 's> {
     /// These files, and the statement of each, in the same order.
-    pub fn new(inputs: &'d [Input], statements: &'d [Statement<'d>]) -> YangFiles<'d> {
+    pub fn new(inputs: &'d [Input], statements: &'s [Statement<'d>]) -> YangFiles<'d, 's> {
         YangFiles { inputs, statements }
     }
 
     /// The statements of the files, one of each.
-    pub fn roots(&self) -> &'d [Statement<'d>] {
+    pub fn roots(&self) -> &'s [Statement<'d>] {
         self.statements
     }
 
@@ -45,7 +45,7 @@ impl<'d> YangFiles<'d> {
         alloc: Global,
         file: usize,
         offset: u64,
-    ) -> Result<Vec<&'d Statement<'d>>, AllocError> {
+    ) -> Result<Vec<&'s Statement<'d>>, AllocError> {
         let mut way = Vec::new(alloc);
         let mut next = self.statements.get(file);
         for _ in 0..MOST_DEPTH {
@@ -62,7 +62,7 @@ impl<'d> YangFiles<'d> {
     }
 
     /// The name of the module that a prefix means in a file; without a prefix, of the file's own.
-    pub fn module_named(&self, file: usize, prefix: Option<&str>) -> Option<&'d str> {
+    pub fn module_named(&self, file: usize, prefix: Option<&str>) -> Option<&'s str> {
         let root = self.statements.get(file)?;
         match prefix {
             None => module_of(root),
@@ -82,7 +82,7 @@ impl<'d> YangFiles<'d> {
         module: &str,
         keyword: Keyword,
         name: &str,
-    ) -> Option<FileStatement<'d>> {
+    ) -> Option<FileStatement<'d, 's>> {
         for (file, root) in self.statements.iter().enumerate() {
             if module_of(root) == Some(module) {
                 if let Some(statement) = definition_in(root, keyword, name) {
@@ -99,7 +99,7 @@ impl<'d> YangFiles<'d> {
         file: usize,
         keyword: Keyword,
         name: &str,
-    ) -> Option<FileStatement<'d>> {
+    ) -> Option<FileStatement<'d, 's>> {
         let module = self.module_named(file, prefix_of(name))?;
         self.top_definition(module, keyword, local(name))
     }
@@ -108,7 +108,7 @@ impl<'d> YangFiles<'d> {
     pub fn push_place(
         &self,
         text: &mut String,
-        site: &FileStatement<'_>,
+        site: &FileStatement<'_, '_>,
     ) -> Result<(), AllocError> {
         let Some(input) = self.inputs.get(site.file) else {
             return Ok(());
@@ -122,13 +122,13 @@ impl<'d> YangFiles<'d> {
 }
 
 // The last of some statements that begins at an offset or before it.
-fn last_before<'d>(statements: &'d [Statement<'d>], offset: u64) -> Option<&'d Statement<'d>> {
+fn last_before<'d, 's>(statements: &'s [Statement<'d>], offset: u64) -> Option<&'s Statement<'d>> {
     let count = statements.partition_point(|statement| statement.offset() <= offset);
     statements.get(count.checked_sub(1)?)
 }
 
 /// The name of the module to which the file of a root belongs.
-pub fn module_of<'d>(root: &'d Statement<'d>) -> Option<&'d str> {
+pub fn module_of<'s>(root: &'s Statement<'_>) -> Option<&'s str> {
     if root.is(Keyword::Module) {
         return root.argument();
     }
@@ -153,10 +153,10 @@ fn declares(statement: &Statement<'_>, prefix: &str) -> bool {
 }
 
 /// The definition of a keyword and a name right in the block of a statement.
-pub fn definition_in<'d>(
-    block: &'d Statement<'d>,
+pub fn definition_in<'d, 's>(
+    block: &'s Statement<'d>,
     keyword: Keyword,
     name: &str,
-) -> Option<&'d Statement<'d>> {
+) -> Option<&'s Statement<'d>> {
     block.children().iter().find(|child| child.is(keyword) && child.argument() == Some(name))
 }
