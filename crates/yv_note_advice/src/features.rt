@@ -82,7 +82,11 @@ fn missing_feature<'d, 's>(
 }
 
 // Whether the expression of an `if-feature` holds.
-fn holds(files: &YangFiles<'_, '_>, selection: &Selection, site: &FileStatement<'_, '_>) -> bool {
+fn holds<'s>(
+    files: &YangFiles<'_, 's>,
+    selection: &Selection,
+    site: &FileStatement<'_, 's>,
+) -> bool {
     let mut evaluator = Evaluator::new();
     for word in Words::new(name_of(site.statement)).take(MOST_WORDS) {
         let is_on = match feature_of(files, site, word) {
