@@ -19,6 +19,7 @@ use yv_base_streams::{Counted, Input};
 use yv_batch::{Documents, Sources};
 use yv_folders::ErrorReader;
 use yv_job::{Command, Job, JobFault, Request, read_request};
+use yv_note_selection::selection_lines;
 use yv_note_text::push_shown;
 use yv_run::{NoteSink, RunEnd, Status, run_all, run_with_note};
 
@@ -124,10 +125,27 @@ fn do_request<R: Files + io::Input + Print + Eprint + AllocGlobal + Clone + Drop
     };
     let files = files.as_slice();
     match plan_of(rt.alloc(), request, files) {
-        Ok(Plan::Run(job)) => end_run(rt, run_files(rt, &job, files)),
-        Ok(Plan::RunAll(job, batch)) => run_batch(rt, &job, batch, files),
+        Ok(Plan::Run(job)) => {
+            let exit = end_run(rt, run_files(rt, &job, files));
+            show_selection(rt, &job, files);
+            exit
+        }
+        Ok(Plan::RunAll(job, batch)) => {
+            let exit = run_batch(rt, &job, batch, files);
+            show_selection(rt, &job, files);
+            exit
+        }
         Ok(Plan::Print(text)) => print_text(rt, text.as_str()),
         Err(_) => print_stop(rt, Status::NoMemory),
+    }
+}
+
+// Prints which names of the selection mean nothing.
+fn show_selection<R: Eprint + AllocGlobal>(rt: &R, job: &Job, inputs: &[Input]) {
+    if let Ok(lines) = selection_lines(rt.alloc(), job, inputs)
+        && !lines.is_empty()
+    {
+        let _ = rt.eprint(lines.as_str());
     }
 }
 

@@ -29,7 +29,7 @@ pub(crate) fn module_names<'s>(
     Ok(names)
 }
 
-/// The names of a module's features: those in its own file, and in those of its submodules.
+/// The names of a module's features, sorted: those in its own file, and in those of its submodules.
 pub(crate) fn feature_names<'s>(
     alloc: Global,
     roots: &'s [Statement<'_>],
@@ -41,6 +41,7 @@ pub(crate) fn feature_names<'s>(
             push_features(&mut names, root)?;
         }
     }
+    names.sort_unstable();
     Ok(names)
 }
 

@@ -69,7 +69,7 @@ fn push_support(
     let alloc = *sentences.allocator();
     let known = feature_names(alloc, roots, module)?;
     for feature in features {
-        if sentences.len() < MOST_LINES && !is_among(&known, feature.as_str()) {
+        if sentences.len() < MOST_LINES && known.binary_search(&feature.as_str()).is_err() {
             sentences.push(no_feature(alloc, module, feature.as_str(), &known)?)?;
         }
     }
@@ -86,10 +86,6 @@ fn push_import(
         Some(_) => Ok(()),
         None => push_no_module(sentences, roots, IMPORT_ONLY, name),
     }
-}
-
-fn is_among(names: &[&str], name: &str) -> bool {
-    names.iter().any(|known| *known == name)
 }
 
 // Adds that no file defines a module, as long as there are fewer than 20 sentences.
