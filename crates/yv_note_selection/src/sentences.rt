@@ -56,7 +56,8 @@ fn sentences_on(
     Ok(sentences)
 }
 
-// Adds sentences on a module of `--support`, or on its features, as long as there are fewer than 20.
+// Adds sentences on a module of `--support`, or on its features, as long as there are fewer than
+// 20.
 fn push_support(
     sentences: &mut Vec<String>,
     roots: &[Statement<'_>],
