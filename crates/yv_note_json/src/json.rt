@@ -6,7 +6,7 @@ use crate::json_reason::reason_at;
 use crate::other_format::{MODULE, encoding_line, is_module};
 use serde_json::{Error, Value};
 use std::alloc::{AllocError, Global};
-use yv_note_text::excerpt;
+use yv_note_text::{excerpt, is_blank};
 
 // The place of a line and a column of these bytes, both counted from 1; their end, where there is
 // no such place.
@@ -65,21 +65,64 @@ fn not_text(alloc: Global, bytes: &[u8], valid: usize) -> Result<String, AllocEr
 fn json_message(alloc: Global, bytes: &[u8], error: &Error) -> Result<String, AllocError>
     ensures { IfOk result (λ text. ShowsReason bytes.now (string_bytes text)) }
 {
+    if error.is_eof() {
+        return end_message(alloc, bytes, error);
+    }
     let place = offset_of(bytes, error.line(), error.column());
     let mut why = excerpt(alloc, bytes, place)?;
     let message = format!(in alloc; "{error}")?;
     let reason = if message.as_str().starts_with("number") {
-        "a number has a size below 1.8e308"
+        "the number is too large: its size must be below 1.8e308"
     } else if is_module(bytes) {
         MODULE
-    } else if error.is_eof() {
-        reason_at(alloc, bytes, bytes.len())?
     } else {
         reason_at(alloc, bytes, place)?
     };
     let line = format!(in alloc; "data: {message}: {reason}\n")?;
     why.push_str(line.as_str())?;
     Ok(why)
+}
+
+// That a text ends where it is not complete.
+fn end_message(alloc: Global, bytes: &[u8], error: &Error) -> Result<String, AllocError>
+    ensures { IfOk result (λ text. ShowsReason bytes.now (string_bytes text)) }
+{
+    let (line, column) = end_place(bytes, error);
+    let mut why = excerpt(alloc, bytes, offset_of(bytes, line, column))?;
+    let reason = reason_at(alloc, bytes, bytes.len())?;
+    let said = end_line(alloc, line, column, reason)?;
+    why.push_str(said.as_str())?;
+    Ok(why)
+}
+
+// The line and the column that are shown of a text that is not complete: those of the error, unless
+// they are among the blanks at the end. Then they are those of what is before these blanks.
+fn end_place(bytes: &[u8], error: &Error) -> (usize, usize) {
+    let text = before_blanks(bytes);
+    if offset_of(bytes, error.line(), error.column()) < text.len() {
+        return (error.line(), error.column());
+    }
+    let line = line_feeds(text).saturating_add(1);
+    (line, text.len().saturating_sub(start_of(text, line)))
+}
+
+// A text without the blanks at its end.
+fn before_blanks(bytes: &[u8]) -> &[u8] {
+    match bytes.iter().rposition(|byte| !is_blank(*byte)) {
+        Some(last) => bytes.get(..=last).unwrap_or(bytes),
+        None => &[],
+    }
+}
+
+fn line_feeds(bytes: &[u8]) -> usize {
+    bytes.iter().filter(|byte| **byte == b'\n').count()
+}
+
+// The line on a place and on a reason why it is not JSON, in the words of `serde_json`.
+fn end_line(alloc: Global, line: usize, column: usize, reason: &str) -> Result<String, AllocError> {
+    let mut text = format!(in alloc; "data: invalid JSON at line {line}")?;
+    text.push_str(format!(in alloc; " column {column}: {reason}\n")?.as_str())?;
+    Ok(text)
 }
 
 /// How many bytes a document has at most, and how many members and items.

@@ -7,7 +7,7 @@ pub(crate) fn number_reason(rest: &[u8], before: &Before) -> &'static str {
         return if before.ends_value() {
             "a colon is missing before this"
         } else {
-            "a name is in double quotes"
+            "a name must be in double quotes"
         };
     }
     if before.ends_value() {
@@ -15,11 +15,12 @@ pub(crate) fn number_reason(rest: &[u8], before: &Before) -> &'static str {
     }
     match rest {
         [b'-', b'-' | b' ', ..] => YAML,
-        [b'+', ..] => "a number has no `+` in front",
-        [b'.', ..] | [b'-', b'.', ..] => "a number has a digit before its point",
-        [b'0', b'0'..=b'9', ..] | [b'-', b'0', b'0'..=b'9', ..] => "a number has no zeros in front",
+        [b'+', ..] => "a number can't begin with `+`",
+        [b'.', ..] | [b'-', b'.', ..] => "a number needs a digit before its decimal point",
+        [b'0', b'0'..=b'9', ..] | [b'-', b'0', b'0'..=b'9', ..] =>
+            "a number can't have leading zeros",
         [b'0', b'x' | b'X', ..] | [b'-', b'0', b'x' | b'X', ..] => {
-            "a number is written with decimal digits, not with `0x`"
+            "a number must be decimal, not hexadecimal"
         }
         _ => unread_reason(rest),
     }
@@ -37,16 +38,17 @@ fn unread_reason(rest: &[u8]) -> &'static str {
     DIGITS
 }
 
-const DIGITS: &str = "this is not a number of JSON: digits are missing";
+const DIGITS: &str = "this is not a JSON number: digits are missing";
 
 // The reason, by this byte and the one before it.
 fn reason_after(last: u8, byte: u8) -> &'static str {
     match byte {
-        b'_' | b'\'' => "a number has nothing but digits, a point and an exponent",
-        b';' => "commas, and not `;`, are between members and between items",
-        _ if last == b'.' => "a digit is missing after the point",
-        _ if last == b'-' => "a digit is missing after the minus",
-        _ if byte.is_ascii_alphabetic() => "this is not a number; a text is in double quotes",
+        b'_' | b'\'' => "a number can only have digits, a decimal point and an exponent",
+        b';' => "members and items are separated by commas, not by `;`",
+        _ if last == b'.' => "a digit is missing after the decimal point",
+        _ if last == b'-' => "a digit is missing after the minus sign",
+        _ if byte.is_ascii_alphabetic() =>
+            "this is not a number; a string must be in double quotes",
         _ => DIGITS,
     }
 }

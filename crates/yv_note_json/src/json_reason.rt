@@ -18,7 +18,7 @@ pub(crate) struct Before {
     /// The last byte that isn't blank.
     last: Option<u8>,
     open: Vec<Bracket>,
-    /// Whether a text is not closed.
+    /// Whether a string is not closed.
     is_text: bool,
     /// Whether the innermost object has a colon since its last comma.
     has_colon: bool,
@@ -126,7 +126,7 @@ pub(crate) fn reason_at(
     let before = Before::of(alloc, front)?;
     Ok(match rest.first() {
         None if before.last.is_none() => "the document is empty",
-        None if before.is_text => "a text is not closed",
+        None if before.is_text => "a string is not closed",
         None => "the document ends here and is not complete",
         Some(_) if before.open.len() > MOST_DEPTH => "objects and arrays nest deeper than 127",
         Some(_) if before.open.is_empty() && before.ends_value() => {
@@ -149,7 +149,7 @@ fn parts_at(bytes: &[u8], place: usize) -> (&[u8], &[u8]) {
 fn reason_of(byte: u8, rest: &[u8], before: &Before) -> &'static str {
     match byte {
         b'"' => string_reason(rest, before),
-        b'\'' | b'`' => "texts and names are in double quotes, not in single quotes",
+        b'\'' | b'`' => "strings and names must be in double quotes, not in single quotes",
         b'/' | b'#' => "JSON has no comments",
         b'}' | b']' => bracket_reason(byte, before),
         b',' if before.needs_colon() && before.is_after(b'"') => {
@@ -198,7 +198,7 @@ fn string_reason(rest: &[u8], before: &Before) -> &'static str {
     for byte in rest.iter().skip(1) {
         if is_escaped {
             if !is_escape(*byte) {
-                return "a backslash in a text comes only before one of \" \\ / b f n r t u";
+                return "in a string, a backslash can only come before one of \" \\ / b f n r t u";
             }
             is_escaped = false;
         } else if *byte == b'\\' {
@@ -206,21 +206,21 @@ fn string_reason(rest: &[u8], before: &Before) -> &'static str {
         } else if *byte == b'"' {
             return whole_text_reason(before);
         } else if *byte < 32 {
-            return "a text can't contain a tab, a line feed or another control character: write it as an escape like \\t or \\n";
+            return "a string can't contain a tab, a line feed or another control character: write it as an escape like \\t or \\n";
         }
     }
-    "this text is not closed"
+    "this string is not closed"
 }
 
 fn whole_text_reason(before: &Before) -> &'static str {
     if before.needs_colon() && before.is_after(b'"') {
-        "a colon is missing before this text"
+        "a colon is missing before this string"
     } else if before.ends_value() {
-        "a comma is missing before this text"
+        "a comma is missing before this string"
     } else if before.lacks_value && before.is_after(b',') {
         "the name before the comma has no colon and no value"
     } else {
-        "an escape \\u in this text needs four hexadecimal digits, and the two halves of a surrogate pair go together"
+        "an escape \\u in this string needs four hexadecimal digits, and the two halves of a surrogate pair go together"
     }
 }
 
@@ -236,15 +236,15 @@ fn sign_reason(byte: u8, rest: &[u8], before: &Before) -> &'static str {
     match byte {
         0 => "this is a NUL byte: save the document as UTF-8",
         1..=31 | 127 => "a control character can't be between values",
-        b'=' if before.needs_colon() => "a colon, and not `=`, is between a name and its value",
-        b';' => "commas, and not `;`, are between members and between items",
+        b'=' if before.needs_colon() => "a name and its value are separated by a colon, not by `=`",
+        b';' => "members and items are separated by commas, not by `;`",
         b'<' => "this looks like XML, and the document has to be JSON",
         b'(' | b')' => "JSON has no parentheses",
         0xEF if rest.starts_with(&[0xEF, 0xBB, 0xBF]) => {
             "JSON has no byte order mark: save the document without one"
         }
         0xE2 if has_curly_quote(rest.get(..3).unwrap_or(rest)) => {
-            "texts and names are in the quotes `\"`, not in those of typography"
+            "strings and names must be in straight quotes, as `\"`, not in curly ones"
         }
         _ if before.last.is_none() && begins_yaml(rest) => YAML,
         _ => word_reason(rest, before),
@@ -278,9 +278,9 @@ fn word_reason(rest: &[u8], before: &Before) -> &'static str {
         return "JSON has `null` for this";
     }
     match before.last {
-        Some(b'{') | Some(b',') => "a name or a text is in double quotes",
+        Some(b'{') | Some(b',') => "a name or a string must be in double quotes",
         _ if before.ends_value() => "a comma is missing before this, or a quote",
-        _ => "a text is in double quotes",
+        _ => "a string must be in double quotes",
     }
 }
 
