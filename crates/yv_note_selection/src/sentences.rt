@@ -109,7 +109,8 @@ fn push_no_module(
             push_known(&mut text, &module_names(alloc, roots)?)?;
         }
     }
-    sentences.push(text)
+    sentences.push(text)?;
+    Ok(())
 }
 
 // Adds that a name is that of a submodule.
