@@ -43,7 +43,7 @@ fn front_lines(sentences: &[String]) -> &[String]
 }
 
 // A line for each of these sentences.
-#[tactic(auto, using(crate::proofs::SentenceLines::one_more, crate::proofs::SentenceLines::no_line))]
+#[tactic(auto, using(crate::proofs::SentenceLines::no_line))]
 fn lines_on(alloc: Global, sentences: &[String]) -> Result<String, AllocError>
     ensures { IfOk result (λ text. HoldsLines (length sentences.now) (string_bytes text)) }
 {
