@@ -146,7 +146,11 @@ impl<'a> Refused<'_, '_, 'a, '_> {
     // The same, of the path of a leafref.
     fn tell_leafref(&self, telling: &mut Message<'a>) -> Result<(), AllocError> {
         let site = &self.site;
-        let Some(path) = site.child("type").and_then(|kind| kind.child("path")) else {
+        let path = match site.child("type") {
+            Some(kind) => kind.child("path"),
+            None => None,
+        };
+        let Some(path) = path else {
             return tell_path(telling, site);
         };
         match bare_module(&path, path.argument(), self.job) {
