@@ -1,0 +1,6 @@
+pub mod TokenLemmas
+pub mod Paths
+pub mod PlaceLemmas
+pub mod WalkPlaces
+pub mod FaultPlaces
+pub mod Pointers
