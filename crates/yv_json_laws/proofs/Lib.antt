@@ -1,5 +1,4 @@
 pub mod TokenLemmas
-pub mod Paths
 pub mod PlaceLemmas
 pub mod WalkPlaces
 pub mod FaultPlaces

@@ -1,15 +1,15 @@
 -- What the tokens of a pointer are, and what they stand for.
-use Rattle.std.proofs.Common.{◌≡◌, ◌∙◌, ℕ, ◌+◌, ◌/◌, ◌%◌, ◌^◌, ◌<◌, ◌≤◌, ◌==◌, ◌&&◌, ◌||◌, inl, inr, not, List, [], ◌∷◌, ◌++◌, Bool, true, false, cond, refl, sym, ap, subst, append-nil, arith}
-use Rattle.std.specs.Prelude.{decimal, option_and_then}
+use Rattle.std.proofs.Common.{◌≡◌, ◌∙◌, ℕ, ◌+◌, ◌/◌, ◌%◌, ◌^◌, ◌<◌, ◌≤◌, ◌==◌, ◌&&◌, ◌||◌, inl, inr, not, List, [], ◌∷◌, ◌++◌, Bool, true, false, cond, refl, sym, ap, arith}
+use Rattle.std.specs.Prelude.{decimal}
 use Rattle.std.specs.Char.{is_ascii_digit}
 use Rattle.std.specs.List.{flat_map, list_all}
 use Rattle.std.proofs.lemmas.Bool.{and_parts, cases_lt, cond-false, cond-true}
 use Rattle.std.proofs.lemmas.Bool.Decides.{nat_tests}
 use Rattle.std.proofs.lemmas.Fmt.{decimal_by_steps, decimal_is_IsNumeral}
-use Rattle.serde_json.specs.Data.{Data, Items, Members}
+use Rattle.serde_json.specs.Data.{Items, Members}
 use Rattle.serde_json.specs.Find.{get_item, get_member}
 use Rattle.yv_json_lines.specs.Pointer.{pointer_name}
-use Rattle.yv_json_laws.specs.Resolution.{escapes, is_escaped, is_index, item_at, member_at, name_of, named_in, without_escape, tokens, value_at, value_by, with_byte}
+use Rattle.yv_json_laws.specs.Resolution.{escapes, is_escaped, is_index, item_at, member_at, name_of, without_escape, tokens, with_byte}
 
 -- ---- where a token ends
 
@@ -19,25 +19,14 @@ HasNoSlash [] = Unit {0}
 HasNoSlash (b ∷ bs) = ((b == 47) ≡ false) × HasNoSlash bs
 
 -- nothing, or `/` and more
-abbrev pub IsRest : List ℕ → Type 0
-IsRest [] = Unit {0}
-IsRest (b ∷ bs) = b ≡ 47
+abbrev pub IsPointer : List ℕ → Type 0
+IsPointer [] = Unit {0}
+IsPointer (b ∷ bs) = b ≡ 47
 
-last_token : (t : List ℕ) → HasNoSlash t → tokens t ≡ t ∷ []
+-- it is one token
+pub last_token : (t : List ℕ) → HasNoSlash t → tokens t ≡ t ∷ []
 last_token [] h = refl
 last_token (b ∷ bs) h = cond-false _ _ _ h.0 ∙ ap (with_byte b) (last_token bs h.1)
-
-first_token : (t rest : List ℕ) → HasNoSlash t → tokens (t ++ 47 ∷ rest) ≡ t ∷ tokens rest
-first_token [] rest h = refl
-first_token (b ∷ bs) rest h = cond-false _ _ _ h.0 ∙ ap (with_byte b) (first_token bs rest h.1)
-
--- the rest of a pointer leads on from what its first token names
-pub value_at_token : (t rest : List ℕ) (d : Data) → HasNoSlash t → IsRest rest
-    → value_at (47 ∷ (t ++ rest)) d ≡ option_and_then (value_at rest) (named_in t d)
-value_at_token t [] d h r = ap (λ (ts : List (List ℕ)). value_by ts d) (ap tokens (append-nil t) ∙ last_token t h)
-value_at_token t (b ∷ bs) d h r =
-    subst (λ (x : ℕ). value_at (47 ∷ (t ++ x ∷ bs)) d ≡ option_and_then (value_at (x ∷ bs)) (named_in t d)) (sym r)
-    (ap (λ (ts : List (List ℕ)). value_by ts d) (first_token t bs h))
 
 -- ---- the token of a name
 

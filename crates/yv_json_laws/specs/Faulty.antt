@@ -2,8 +2,10 @@
 use Rattle.std.specs.Prelude.{Bool, true, false, Option, Some}
 use Rattle.serde_json.specs.Data.{Data}
 use Rattle.yv_data_leafrefs.specs.Meetings.{found_of, Meeting, stand, at_value, at_end, at_node}
+use Rattle.yv_data_leafrefs.specs.Place.{step_name}
 use Rattle.yv_data_faults.specs.declared.fault.FaultKind.{FaultKind}
 use Rattle.yv_data_faults.specs.declared.fault.FaultKind.TheVariants.{Unknown, Shape, Value, MissingKey, Duplicate, Unique, Mandatory, Min, Max, Choice, Reference, State}
+use Rattle.yv_json_lines.specs.Pointer.{is_choice_at}
 
 -- what is written where something is met; for a node there may be nothing
 abbrev pub found_at : Meeting → Option Data
@@ -28,18 +30,7 @@ may_be_missing Choice = false
 may_be_missing Reference = false
 may_be_missing State = false
 
--- a fault of this kind is about what is written where it is met, if anything is: not about a member
--- in that, about a choice, which is never written, or only about what is missing
-abbrev pub is_about_written : FaultKind → Bool
-is_about_written Unknown = false
-is_about_written Shape = true
-is_about_written Value = true
-is_about_written MissingKey = false
-is_about_written Duplicate = true
-is_about_written Unique = true
-is_about_written Mandatory = false
-is_about_written Min = true
-is_about_written Max = true
-is_about_written Choice = false
-is_about_written Reference = true
-is_about_written State = true
+-- a fault of this kind that is met here is at a choice, by the name that its node has in a path
+abbrev pub is_at_choice : FaultKind → Meeting → Bool
+is_at_choice kind (at_node m) = is_choice_at kind (step_name m.label)
+is_at_choice kind _ = false

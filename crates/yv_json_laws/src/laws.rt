@@ -1,5 +1,5 @@
 //! Laws about the definitions only. These functions do nothing: the contract of each is the law.
-ghost use Rattle.std.specs.Prelude.{◌≡◌, ◌<◌, ◌^◌, ℕ, Contains, IsSome, List, Some, false, true};
+ghost use Rattle.std.specs.Prelude.{◌≡◌, ◌≢◌, ◌<◌, ◌^◌, ℕ, Contains, IfSome, IsSome, List, Some, false, true};
 ghost use Rattle.serde_json.specs.{Data.{Data, Members, object}, Find.{get_member}};
 ghost use Rattle.yv_text_statement.specs.declared.document_kind.Kind.{Kind};
 ghost use Rattle.yv_nodes.specs.{Link.{link_in}, Rows.{Rows}};
@@ -9,22 +9,22 @@ ghost use Rattle.yv_data_leafrefs.specs.{Meetings.{Meeting, Node, Stand, Written
 ghost use Rattle.yv_data_faults.specs.{Flaw.{Flaw}, declared.fault.FaultKind.TheVariants.{Choice, Reference, Unknown}};
 ghost use Rattle.yv_validate.specs.{Faults.{faults, faults_at}, Size.{size}};
 ghost use Rattle.yv_json_lines.specs.Pointer.{pointer_text};
-ghost use Rattle.yv_json_laws.specs.{Faulty.{found_at, is_about_written, may_be_missing}, Resolution.{value_at}};
+ghost use Rattle.yv_json_laws.specs.{Faulty.{found_at, is_at_choice, may_be_missing}, Resolution.{value_at}};
 
 /// The JSON pointer of a fault, taken apart as RFC 6901 says, leads to the faulty value of the
-/// document. Faults of what is missing are left out, since no value is there. A document has fewer
-/// than 2 ^ 64 members and items, as each has that fits a memory.
+/// document, and that of a fault of what is missing leads nowhere. A document has fewer than 2 ^ 64
+/// members and items here, as each has that fits a memory.
 pub fn pointers_lead_there()
     // The pointer leads to a value, unless faults of the kind may be of what is missing.
     ensures there { (k : Kind) (s : Rows) (d : Data) (f : Flaw) → size d < 2 ^ 64
         → Contains (faults k s d) f → may_be_missing f.kind ≡ false
         → IsSome (value_at (pointer_text f.kind f.path) d) }
-    // If a fault is about what is written where it is met, the pointer leads to that. So it does
-    // for too few entries, where the list is written.
-    ensures found { (k : Kind) (s : Rows) (d v : Data) (m : Meeting) (f : Flaw) → size d < 2 ^ 64
+    // It leads to what is written where the fault is met, and nowhere if nothing is, unless the
+    // fault is of a member in that or at a choice.
+    ensures found { (k : Kind) (s : Rows) (d : Data) (m : Meeting) (f : Flaw) → size d < 2 ^ 64
         → Contains (all_met k s d) m → Contains (faults_at k s m) f
-        → is_about_written f.kind ≡ true → found_at m ≡ Some v
-        → value_at (pointer_text f.kind f.path) d ≡ Some v }
+        → f.kind ≢ Unknown → is_at_choice f.kind m ≡ false
+        → value_at (pointer_text f.kind f.path) d ≡ found_at m }
     // A member that names no node is there, and the pointer of its fault leads to its value.
     ensures unknown { (k : Kind) (s : Rows) (d : Data) (m : Stand) (ms : Members) (name : List ℕ)
         → size d < 2 ^ 64 → Contains (all_met k s d) (stand m) → m.found ≡ object ms
@@ -35,6 +35,11 @@ pub fn pointers_lead_there()
     ensures choice { (k : Kind) (s : Rows) (d : Data) (m : Node) (f : Flaw) → size d < 2 ^ 64
         → Contains (all_met k s d) (at_node m) → Contains (faults_at k s (at_node m)) f
         → f.kind ≡ Choice → value_at (pointer_text f.kind f.path) d ≡ Some (object m.members) }
+    // At a choice, also one that is missing, it leads to the object around it, if to anything.
+    ensures parent { (k : Kind) (s : Rows) (d : Data) (m : Node) (f : Flaw) → size d < 2 ^ 64
+        → Contains (all_met k s d) (at_node m) → Contains (faults_at k s (at_node m)) f
+        → is_at_choice f.kind (at_node m) ≡ true
+        → IfSome (value_at (pointer_text f.kind f.path) d) (λ v. v ≡ object m.members) }
     // If a reference reaches nothing, the pointer leads to the value of the leafref.
     ensures reference { (k : Kind) (s : Rows) (d : Data) (m : WrittenValue) (path : List Place)
         → size d < 2 ^ 64 → Contains (all_met k s d) (at_value m)
