@@ -1,5 +1,5 @@
 //! Laws about the definitions only. These functions do nothing: the contract of each is the law.
-ghost use Rattle.std.specs.Prelude.{◌≡◌, ◌≢◌, ◌<◌, ◌^◌, ℕ, Contains, IfSome, IsSome, List, Some, false, true};
+ghost use Rattle.std.specs.Prelude.{◌≡◌, ◌≢◌, ◌<◌, ◌^◌, ℕ, Contains, IfSome, IsSome, List, None, Some, codes, false, map, true};
 ghost use Rattle.serde_json.specs.{Data.{Data, Members, object}, Find.{get_member}};
 ghost use Rattle.yv_text_statement.specs.declared.document_kind.Kind.{Kind};
 ghost use Rattle.yv_nodes.specs.{Link.{link_in}, Rows.{Rows}};
@@ -9,7 +9,17 @@ ghost use Rattle.yv_data_leafrefs.specs.{Meetings.{Meeting, Node, Stand, Written
 ghost use Rattle.yv_data_faults.specs.{Flaw.{Flaw}, declared.fault.FaultKind.TheVariants.{Choice, Reference, Unknown}};
 ghost use Rattle.yv_validate.specs.{Faults.{faults, faults_at}, Size.{size}};
 ghost use Rattle.yv_json_lines.specs.Pointer.{pointer_text};
-ghost use Rattle.yv_json_laws.specs.{Faulty.{found_at, is_at_choice, may_be_missing}, Resolution.{value_at}};
+ghost use Rattle.yv_json_laws.specs.{Example.{document, other_texts, pointers, values}, Faulty.{found_at, is_at_choice, may_be_missing}, Resolution.{name_of, value_at}};
+
+/// Pointers are taken apart as in the examples of RFC 6901 (sections 4 and 5).
+pub fn pointers_lead_as_in_rfc_6901()
+    // The pointers of the example lead to what it says.
+    ensures values { map (λ p. value_at p document) pointers ≡ map (λ v. Some v) values }
+    // Texts that aren't pointers lead nowhere in its document, and neither do pointers to nothing.
+    ensures others { map (λ p. value_at p document) other_texts ≡ map (λ p. None) other_texts }
+    // The token `~01` means the name `~1`, and not `/`.
+    ensures order { name_of (codes "~01") ≡ codes "~1" }
+{}
 
 /// The JSON pointer of a fault, taken apart as RFC 6901 says, leads to the faulty value of the
 /// document, and that of a fault of what is missing leads nowhere. A document has fewer than 2 ^ 64
