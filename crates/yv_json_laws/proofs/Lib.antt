@@ -1,0 +1,5 @@
+pub mod TokenLemmas
+pub mod PlaceLemmas
+pub mod WalkPlaces
+pub mod FaultPlaces
+pub mod Pointers

@@ -1,0 +1,3 @@
+pub mod Resolution
+pub mod Example
+pub mod Faulty
