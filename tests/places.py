@@ -9,6 +9,8 @@ import re
 TOKEN = re.compile(rb'"(?:[^"\\]|\\.)*"|[^][{}:,\s"]+|[][{}:,]')
 LIST = re.compile(r'\blist\s+([\w.-]+)\s*\{\s*key\s+"?([^";{}]+?)"?\s*;')
 MOST_REPEATS, MOST_NOTES, MOST_KEYS, MOST_SHOWN = 10, 20, 4, 72
+# How lines on names that no file defines begin.
+SELECTION = ("--support: ", "--import-only: ")
 HINT = re.compile(r"(\d+) of (\d+) faults are missing state data; if the document is configuration alone, use --kind config")
 
 
@@ -221,5 +223,6 @@ class Expectation:
             self.lines.pop()
 
     def end(self):
-        """What is wrong. All lines must have been taken."""
-        return [*self.breaches, *(f"  standard error has {line!r} besides" for line in self.lines[::-1])]
+        """What is wrong. All lines must have been taken, but for those on names of the selection, which come last."""
+        left = [line for line in self.lines[::-1] if not line.startswith(SELECTION)]
+        return [*self.breaches, *(f"  standard error has {line!r} besides" for line in left)]
