@@ -1,0 +1,15 @@
+pub mod Statements
+pub mod Places
+pub mod Versions
+pub mod Groups
+pub mod Dates
+pub mod FileNames
+pub mod Newer
+pub mod Arguments
+pub mod Used
+pub mod Definitions
+pub mod Rules
+pub mod RuleNames
+pub mod InnerRules
+pub mod Asked
+pub mod Findings
