@@ -2,9 +2,15 @@
 //! that no error tells of.
 #![tactic(auto)]
 
+mod arguments;
+mod dates;
+mod file_names;
 mod finding;
+mod groups;
+mod newer;
 mod rule;
 mod rules;
+mod statements;
 
 pub use finding::Finding;
 pub use rule::{RULES, Rule};
