@@ -1,3 +1,5 @@
 pub mod Cuts
+pub mod EarlierStatements
 pub mod Numbers
 pub mod Pieces
+pub mod VersionTable

@@ -11,5 +11,7 @@ pub mod Definitions
 pub mod Rules
 pub mod RuleNames
 pub mod InnerRules
+pub mod InnerPlaces
+pub mod InnerVersions
 pub mod Asked
 pub mod Findings

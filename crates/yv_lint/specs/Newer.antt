@@ -62,6 +62,16 @@ abbrev pub is_newer_default : Place → Bool
 is_newer_default p = has_keyword word.LeafList p.parent
     || (has_keyword word.Refine p.parent && has_one word.Default p.before)
 
+-- a condition is an expression, or of a statement that had none
+abbrev pub is_newer_condition : Place → Bool
+is_newer_condition p =
+    is_expression (tree_name p.statement) || takes_if_feature (keyword_at p.parent)
+
+-- `empty` is a member of a union
+abbrev pub is_newer_type : Place → Bool
+is_newer_type p =
+    has_keyword word.Type p.parent && bytes_eq (tree_name p.statement) (codes "empty")
+
 -- a statement at a place is of a form that is new, by its keyword
 abbrev pub is_newer_form : Keyword → Place → Bool
 is_newer_form word.Action p = true
@@ -69,8 +79,7 @@ is_newer_form word.Anydata p = true
 is_newer_form word.Modifier p = true
 is_newer_form word.Notification p = not (is_module (keyword_at p.parent))
 is_newer_form word.Choice p = has_keyword word.Choice p.parent
-is_newer_form word.IfFeature p =
-    is_expression (tree_name p.statement) || takes_if_feature (keyword_at p.parent)
+is_newer_form word.IfFeature p = is_newer_condition p
 is_newer_form word.Description p = is_link (keyword_at p.parent)
 is_newer_form word.Reference p = is_link (keyword_at p.parent)
 is_newer_form word.Must p = takes_must (keyword_at p.parent)
@@ -78,8 +87,7 @@ is_newer_form word.Base p = has_one word.Base p.before
 is_newer_form word.Enum p = restricts_names p.parent
 is_newer_form word.Bit p = restricts_names p.parent
 is_newer_form word.RequireInstance p = is_type (codes "leafref") p.parent
-is_newer_form word.Type p =
-    has_keyword word.Type p.parent && bytes_eq (tree_name p.statement) (codes "empty")
+is_newer_form word.Type p = is_newer_type p
 is_newer_form word.Default p = is_newer_default p
 is_newer_form _ p = false
 

@@ -8,9 +8,11 @@ mod file_names;
 mod finding;
 mod groups;
 mod newer;
+mod place;
 mod rule;
 mod rules;
 mod statements;
+mod versions;
 
 pub use finding::Finding;
 pub use rule::{RULES, Rule};
