@@ -19,7 +19,7 @@ cut_more xs from i d le lt =
 pub part_more : (xs : List ℕ) (part : List ℕ) (i : ℕ) → i < length xs → last_part_after part (drop i xs) ≡ cond (nat_eq (get_or xs i 0) 47) (last_part_after [] (drop (i + 1) xs)) (last_part_after (part ++ get_or xs i 0 ∷ []) (drop (i + 1) xs))
 part_more xs part i lt = ap (last_part_after part) (drop_more xs i 0 lt)
 
-none_of : (xs : List ℕ) (n : ℕ) → cut n n xs ≡ []
+pub none_of : (xs : List ℕ) (n : ℕ) → cut n n xs ≡ []
 none_of xs n = let e : n - n ≡ 0 = omega arith in rw e refl
 
 -- a part begins after a slash

@@ -13,5 +13,6 @@ pub mod RuleNames
 pub mod InnerRules
 pub mod InnerPlaces
 pub mod InnerVersions
+pub mod InnerUsed
 pub mod Asked
 pub mod Findings

@@ -38,23 +38,24 @@ takes_names word.Must = true
 takes_names word.When = true
 takes_names _ = false
 
--- the prefix of an extension's keyword
+-- the prefix of a keyword, if it has one: then it is an extension's
 abbrev pub keyword_prefix : List ℕ → List (List ℕ)
-keyword_prefix keyword = if is_extended keyword then option_to_list (prefix_of keyword) else []
+keyword_prefix keyword = option_to_list (prefix_of keyword)
 
--- the prefixes that an argument uses, inside an extension's statement or not
-abbrev pub argument_prefixes : (inside : Bool) → Head → List (List ℕ)
-argument_prefixes inside h =
-    if (inside || is_extended h.keyword) || takes_names (keyword_of h.keyword)
-    then prefixes_in (name_of h) else []
+-- the prefixes that an argument uses, within an extension's statement or not
+abbrev pub argument_prefixes : (within : Bool) → Head → List (List ℕ)
+argument_prefixes within h =
+    if within || takes_names (keyword_of h.keyword) then prefixes_in (name_of h) else []
 
--- the prefixes that the statements of a block use, and all below them
-abbrev pub used_in : (inside : Bool) → Forest → List (List ℕ)
-used_in inside End = []
-used_in inside (Then h c o) =
-    (keyword_prefix h.keyword ++ argument_prefixes inside h)
-    ++ (used_in (inside || is_extended h.keyword) c ++ used_in inside o)
+-- the prefixes that the statements of a block use, and all below them; an extension's statement is
+-- within itself
+abbrev pub used_in : (within : Bool) → Forest → List (List ℕ)
+used_in within End = []
+used_in within (Then h c o) =
+    let below : Bool = within || is_extended h.keyword in
+    (keyword_prefix h.keyword ++ argument_prefixes below h)
+    ++ (used_in below c ++ used_in within o)
 
 -- the prefixes that a file uses
 abbrev pub used_prefixes : Tree → List (List ℕ)
-used_prefixes root = used_in false root.children
+used_prefixes root = used_in false (Then root.head root.children End)

@@ -9,6 +9,7 @@ mod finding;
 mod groups;
 mod newer;
 mod place;
+mod prefixes;
 mod rule;
 mod rules;
 mod statements;
