@@ -14,5 +14,6 @@ pub mod InnerRules
 pub mod InnerPlaces
 pub mod InnerVersions
 pub mod InnerUsed
+pub mod InnerUses
 pub mod Asked
 pub mod Findings

@@ -13,6 +13,8 @@ mod prefixes;
 mod rule;
 mod rules;
 mod statements;
+mod use_set;
+mod uses;
 mod versions;
 
 pub use finding::Finding;
