@@ -1,5 +1,6 @@
 pub mod Cuts
 pub mod EarlierStatements
+pub mod KnownUses
 pub mod NumberedUses
 pub mod Numbers
 pub mod Pieces
