@@ -6,7 +6,7 @@ use Rattle.yv_text_statement.specs.Tree.{Tree}
 use Rattle.yv_text_statement.specs.declared.keyword.Keyword.{Keyword}
 use Rattle.yv_text_statement.specs.declared.keyword.Keyword.TheVariants as word
 use Rattle.yv_link_scopes.specs.Files.{tree_name}
-use Rattle.yv_lint.specs.Statements.{keyword_at, child}
+use Rattle.yv_lint.specs.Statements.{keyword_at, has_keyword, child}
 
 -- an even number of backslashes (92) comes first
 abbrev pub begins_evenly : List ℕ → Bool
@@ -27,6 +27,10 @@ begins_with_caret (b ∷ bs) = b == 94
 -- characters in them (RFC 7950, section 9.4.5)
 abbrev pub is_anchored : List ℕ → Bool
 is_anchored text = begins_with_caret text || begins_with_dollar (reverse text)
+
+-- a statement is a pattern that seems to be anchored
+abbrev pub has_anchor : Tree → Bool
+has_anchor t = has_keyword word.Pattern t && is_anchored (tree_name t)
 
 -- the number of 32 bits that an argument writes, if it writes one
 abbrev pub number_of : List ℕ → Option ℕ

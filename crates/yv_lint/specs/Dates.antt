@@ -46,7 +46,13 @@ is_not_before date (Some r) = not (is_earlier date (tree_name r))
 
 -- a revision's date isn't before that of the revision before it
 abbrev pub is_unsorted : Place → Bool
-is_unsorted p = is_not_before (tree_name p.statement) (last_revision p.before)
+is_unsorted p =
+    has_keyword word.Revision p.statement
+    && is_not_before (tree_name p.statement) (last_revision p.before)
+
+-- a revision's date is no day of the calendar
+abbrev pub is_no_day : Tree → Bool
+is_no_day t = has_keyword word.Revision t && not (is_day (tree_name t))
 
 -- the dates of a file's revisions
 abbrev pub dates_of : Tree → List (List ℕ)

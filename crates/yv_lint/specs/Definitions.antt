@@ -36,9 +36,12 @@ is_use k own name t =
     has_keyword k t
     && (is_own own (prefix_of (tree_name t)) && bytes_eq (local_of (tree_name t)) name)
 
+-- a statement with this keyword isn't at the top
+abbrev pub is_nested : Keyword → Place → Bool
+is_nested k p = has_keyword k p.statement && not p.is_top
+
 -- a statement that isn't at the top defines what no statement in the same block, or below, uses
 abbrev pub is_unused : (definition use_of_it : Keyword) → (own : List ℕ) → Place → Bool
 is_unused definition use_of_it own p =
-    has_keyword definition p.statement
-    && (not p.is_top
-    && not (list_any (is_use use_of_it own (tree_name p.statement)) (all_in p.parent.children)))
+    is_nested definition p
+    && not (list_any (is_use use_of_it own (tree_name p.statement)) (all_in p.parent.children))

@@ -53,3 +53,9 @@ pub record AreUses (own : List ℕ) (uses : Uses) (n : ℕ) (f : Forest) : Type 
       → slice_index_or uses.ends.items (n + j) 0 ≡ slice_index_or (ends_from n f) j 0
   pub types : Tells word.Type own uses.types n f
   pub groupings : Tells word.Uses own uses.groupings n f
+
+-- the uses in a block, whose first statement has a number and which ends at another, are known
+pub record KnowsBlock (own : List ℕ) (uses : Uses) (start end : ℕ) (block : Forest) : Type 0 where
+  pub types : Tells word.Type own uses.types start block
+  pub groupings : Tells word.Uses own uses.groupings start block
+  pub end_is : end ≡ start + count block

@@ -15,5 +15,6 @@ pub mod InnerPlaces
 pub mod InnerVersions
 pub mod InnerUsed
 pub mod InnerUses
+pub mod InnerFindings
 pub mod Asked
 pub mod Findings

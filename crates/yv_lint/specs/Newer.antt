@@ -10,6 +10,7 @@ use Rattle.yv_text_statement.specs.declared.keyword.Keyword.TheVariants as word
 use Rattle.yv_link_scopes.specs.Files.{tree_name}
 use Rattle.yv_lint.specs.Statements.{keyword_at, has_keyword, has_one}
 use Rattle.yv_lint.specs.Places.{Place}
+use Rattle.yv_lint.specs.Versions.{is_newer_file}
 
 -- the root of a file
 abbrev pub is_module : Keyword → Bool
@@ -94,3 +95,7 @@ is_newer_form _ p = false
 -- a statement at a place is one that YANG 1 doesn't have
 abbrev pub is_newer : Place → Bool
 is_newer p = is_newer_form (keyword_at p.statement) p
+
+-- a statement at a place is newer than its file, which is of version 1
+abbrev pub is_too_new : Tree → Place → Bool
+is_too_new root p = not (is_newer_file root) && is_newer p

@@ -4,17 +4,17 @@ use Rattle.yv_text_statement.specs.Tree.{Tree}
 use Rattle.yv_text_statement.specs.Words.{is_among}
 use Rattle.yv_text_statement.specs.declared.keyword.Keyword.{Keyword}
 use Rattle.yv_text_statement.specs.declared.keyword.Keyword.TheVariants as word
-use Rattle.yv_link_scopes.specs.Files.{Files, tree_name}
+use Rattle.yv_link_scopes.specs.Files.{Files}
 use Rattle.yv_lint.specs.declared.rule.Rule.{Rule}
 use Rattle.yv_lint.specs.declared.rule.Rule.TheVariants as rule
 use Rattle.yv_lint.specs.Statements.{keyword_at, has_keyword, has_child, child_name}
 use Rattle.yv_lint.specs.Places.{Place}
-use Rattle.yv_lint.specs.Versions.{is_newer_file, mixes_versions}
+use Rattle.yv_lint.specs.Versions.{mixes_versions}
 use Rattle.yv_lint.specs.Groups.{is_out_of_order}
-use Rattle.yv_lint.specs.Dates.{is_day, is_unsorted}
+use Rattle.yv_lint.specs.Dates.{is_no_day, is_unsorted}
 use Rattle.yv_lint.specs.FileNames.{is_misnamed}
-use Rattle.yv_lint.specs.Newer.{is_newer}
-use Rattle.yv_lint.specs.Arguments.{is_anchored, asks_too_many}
+use Rattle.yv_lint.specs.Newer.{is_too_new}
+use Rattle.yv_lint.specs.Arguments.{has_anchor, asks_too_many}
 use Rattle.yv_lint.specs.Used.{used_prefixes}
 use Rattle.yv_lint.specs.Definitions.{is_unused, own_prefix}
 
@@ -72,6 +72,10 @@ is_definition word.Action = true
 is_definition word.Notification = true
 is_definition _ = false
 
+-- a definition doesn't say what it is for
+abbrev pub lacks_description : Tree → Bool
+lacks_description t = is_definition (keyword_at t) && not (has_child word.Description t)
+
 -- an import whose prefix its file doesn't use
 abbrev pub is_unused_import : Tree → Tree → Bool
 is_unused_import root t =
@@ -89,15 +93,12 @@ abbrev pub stands_at : Files → Tree → Place → Rule → Bool
 stands_at files root p rule.StatementOrder = is_out_of_order p
 stands_at files root p rule.UnusedImport = is_unused_import root p.statement
 stands_at files root p rule.VersionMix = mixes_versions files root p.statement
-stands_at files root p rule.NoSuchDate =
-    has_keyword word.Revision p.statement && not (is_day (tree_name p.statement))
-stands_at files root p rule.RevisionOrder = has_keyword word.Revision p.statement && is_unsorted p
-stands_at files root p rule.Version11 = not (is_newer_file root) && is_newer p
+stands_at files root p rule.NoSuchDate = is_no_day p.statement
+stands_at files root p rule.RevisionOrder = is_unsorted p
+stands_at files root p rule.Version11 = is_too_new root p
 stands_at files root p rule.MinAboveMax = asks_too_many p.statement
 stands_at files root p rule.UnusedTypedef = is_unused word.Typedef word.Type (own_prefix root) p
 stands_at files root p rule.UnusedGrouping = is_unused word.Grouping word.Uses (own_prefix root) p
-stands_at files root p rule.PatternAnchor =
-    has_keyword word.Pattern p.statement && is_anchored (tree_name p.statement)
-stands_at files root p rule.NoDescription =
-    is_definition (keyword_at p.statement) && not (has_child word.Description p.statement)
+stands_at files root p rule.PatternAnchor = has_anchor p.statement
+stands_at files root p rule.NoDescription = lacks_description p.statement
 stands_at files root p _ = false

@@ -1,7 +1,7 @@
 //! Arguments that say something else than they seem to.
 ghost use Rattle.std.specs.{Prelude.{◌≡◌, reverse}, Option.{option_map}};
 ghost use Rattle.yv_text_if_feature.specs.Bytes.{is_digit};
-ghost use Rattle.yv_lint.specs.Arguments.{asks_too_many, begins_evenly, begins_with_caret, begins_with_dollar, has_entries, is_above, is_anchored, number_at, number_of};
+ghost use Rattle.yv_lint.specs.Arguments.{asks_too_many, begins_evenly, begins_with_caret, begins_with_dollar, has_anchor, has_entries, is_above, is_anchored, number_at, number_of};
 
 use crate::statements::child;
 use yv_link_scopes::name_of;
@@ -43,12 +43,19 @@ fn begins_with_caret(text: &[u8]) -> bool
     }
 }
 
-/// Whether a pattern begins with `^`, or ends with `$`.
-pub fn is_anchored(pattern: &str) -> bool
+// Whether a pattern begins with `^`, or ends with `$`.
+fn is_anchored(pattern: &str) -> bool
     ensures { result ≡ is_anchored pattern.now }
 {
     let text = pattern.as_bytes();
     begins_with_caret(text) || ends_with_dollar(text)
+}
+
+/// Whether a statement is a pattern that seems to be anchored.
+pub fn has_anchor(statement: &Statement<'_>) -> bool
+    ensures { result ≡ has_anchor statement.now }
+{
+    statement.is(Keyword::Pattern) && is_anchored(name_of(statement))
 }
 
 // Whether a byte is a digit.

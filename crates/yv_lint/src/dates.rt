@@ -1,7 +1,7 @@
 //! The dates of revisions.
 ghost use Rattle.std.specs.Prelude.{◌≡◌, ◌+◌, ◌-◌, ◌<◌, length};
 
-ghost use Rattle.yv_lint.specs.Dates.{dates_of, days_of, greatest, is_day, is_earlier, is_leap_year, later, two_digits};
+ghost use Rattle.yv_lint.specs.Dates.{dates_of, days_of, greatest, is_day, is_earlier, is_leap_year, is_no_day, later, two_digits};
 
 use yv_link_scopes::name_of;
 use yv_text_statement::{Keyword, Statement};
@@ -42,8 +42,8 @@ fn two_digits(text: &[u8], at: usize) -> u32
     10 * digit(text[at]) + digit(text[at + 1])
 }
 
-/// Whether a date, as `2026-01-31`, is a day of the calendar.
-pub fn is_day(date: &str) -> bool
+// Whether a date, as `2026-01-31`, is a day of the calendar.
+fn is_day(date: &str) -> bool
     ensures { result ≡ is_day date.now }
 {
     let text = date.as_bytes();
@@ -54,6 +54,13 @@ pub fn is_day(date: &str) -> bool
     let month = two_digits(text, 5);
     let day = two_digits(text, 8);
     1 <= day && day <= days_of(year, month)
+}
+
+/// Whether a statement is a revision whose date is no day of the calendar.
+pub fn is_no_day(statement: &Statement<'_>) -> bool
+    ensures { result ≡ is_no_day statement.now }
+{
+    statement.is(Keyword::Revision) && !is_day(name_of(statement))
 }
 
 /// Whether a date is before another.

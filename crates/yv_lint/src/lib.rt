@@ -4,6 +4,8 @@
 
 mod arguments;
 mod dates;
+mod definitions;
+mod file;
 mod file_names;
 mod finding;
 mod groups;
@@ -16,6 +18,7 @@ mod statements;
 mod use_set;
 mod uses;
 mod versions;
+mod walk;
 
 pub use finding::Finding;
 pub use rule::{RULES, Rule};

@@ -1,7 +1,8 @@
 //! Where a statement is.
-ghost use Rattle.std.specs.{Prelude.{◌≡◌, List, [], ◌∷◌, ◌++◌}, Option.{option_map}};
+ghost use Rattle.std.specs.{Prelude.{◌≡◌, List, [], ◌∷◌, ◌++◌, Option}, Option.{option_map}};
 ghost use Rattle.yv_text_statement.specs.Tree.{Tree};
-ghost use Rattle.yv_lint.specs.{Dates.{is_unsorted}, Groups.{is_out_of_order}, InnerPlaces.{IsEarlier, date_after, place_of}, Newer.{is_newer, is_newer_condition, is_newer_default, is_newer_type}};
+ghost use Rattle.yv_link_scopes.specs.Files.{tree_name};
+ghost use Rattle.yv_lint.specs.{Dates.{is_not_before, is_unsorted}, Groups.{is_out_of_order}, InnerPlaces.{IsEarlier, date_after, place_of}, Newer.{is_newer, is_newer_condition, is_newer_default, is_newer_type}};
 
 use crate::dates::is_earlier;
 use crate::groups::group_of;
@@ -29,6 +30,17 @@ fn date_after<'a>(date: Option<&'a str>, statement: &'a Statement<'_>) -> Option
         Some(name_of(statement))
     } else {
         date
+    }
+}
+
+// Whether a date isn't before another that may be there.
+fn is_not_before(date: &str, other: Option<&str>) -> bool
+    ensures { (r : Option Tree) → option_map tree_name r ≡ option_map (λ d. d.now) other.entry
+        → result ≡ is_not_before date.now r }
+{
+    match other {
+        None => false,
+        Some(other) => !is_earlier(date, other),
     }
 }
 
@@ -85,15 +97,13 @@ impl Place<'_, '_> {
         self.is_top && group_of(self.statement.kind()) < self.earlier.group
     }
 
-    /// Whether its date isn't before that of the revision before it.
+    /// Whether it is a revision whose date isn't before that of the revision before it.
     pub fn is_unsorted(&self) -> bool
         ensures { (before : List Tree) → IsEarlier before self.now.earlier
             → result ≡ is_unsorted (place_of before self.now) }
     {
-        match self.earlier.date {
-            None => false,
-            Some(date) => !is_earlier(name_of(self.statement), date),
-        }
+        self.statement.is(Keyword::Revision)
+            && is_not_before(name_of(self.statement), self.earlier.date)
     }
 
     // Whether it is a default of a leaf-list, or of a refine that has another one before it.

@@ -1,7 +1,8 @@
 //! The versions of YANG in which files are written.
-ghost use Rattle.std.specs.{Prelude.{◌≡◌, ℕ, List, Some, None, if◌then◌else◌, IfOk, OnOk}, Option.{option_map, option_or}, Str.{bytes_eq}};
-ghost use Rattle.yv_lint.specs.{InnerVersions.{version_in}, Versions.{is_newer_file, root_named, says_newer}};
+ghost use Rattle.std.specs.{Prelude.{◌≡◌, ℕ, List, Some, None, if◌then◌else◌, IfOk, OnOk}, Option.{option_or}, Str.{bytes_eq}};
+ghost use Rattle.yv_lint.specs.{InnerVersions.{version_in}, Versions.{differs_from, is_dated_import, is_newer_file, is_newer_version, says_newer, version_named}};
 
+use crate::statements::has_child;
 use std::alloc::{AllocError, Global};
 use std::collections::BTreeMap;
 use yv_link_scopes::name_of;
@@ -26,6 +27,30 @@ pub fn is_newer_file(root: &Statement<'_>) -> bool
     false
 }
 
+/// Whether a version that may be there is the other one.
+pub fn differs_from(is_newer: bool, other: Option<bool>) -> bool
+    ensures { result ≡ differs_from is_newer other }
+{
+    match other {
+        None => false,
+        Some(other) => is_newer != other,
+    }
+}
+
+/// Whether a version that may be there is 1.1.
+pub fn is_newer_version(other: Option<bool>) -> bool
+    ensures { result ≡ is_newer_version other }
+{
+    matches!(other, Some(true))
+}
+
+/// Whether a statement is an import that asks for a revision.
+pub fn is_dated_import(statement: &Statement<'_>) -> bool
+    ensures { result ≡ is_dated_import statement.now }
+{
+    statement.is(Keyword::Import) && has_child(statement, Keyword::RevisionDate)
+}
+
 /// For the name of each file whether it is of version 1.1.
 #[derive(Drop)]
 pub struct Versions<'a> {
@@ -36,7 +61,7 @@ impl<'a> Versions<'a> {
     /// The versions of the files with these roots.
     pub fn read(alloc: Global, roots: &'a [Statement<'_>]) -> Result<Versions<'a>, AllocError>
         ensures { IfOk result (λ versions. (name : List ℕ)
-            → version_in versions name ≡ option_map is_newer_file (root_named roots.now name)) }
+            → version_in versions name ≡ version_named roots.now name) }
     {
         let mut versions = Versions {
             map: BTreeMap::new(alloc),

@@ -1,0 +1,22 @@
+-- Only private clauses cite this: findings while they are collected.
+use Rattle.std.specs.Prelude.{◌≡◌, ◌&&◌, Bool, List, ◌++◌, map}
+use Rattle.std.specs.List.{filter, flat_map}
+use Rattle.yv_text_statement.specs.Tree.{Head}
+use Rattle.yv_lint.specs.declared.rule.Rule.{Rule}
+use Rattle.yv_lint.specs.declared.file.File.{File}
+use Rattle.yv_lint.specs.declared.finding.Finding.{Finding}
+use Rattle.yv_lint.specs.Asked.{Asked, asked_in}
+use Rattle.yv_lint.specs.Findings.{finding_at, findings_at}
+use Rattle.yv_lint.specs.Places.{Place}
+
+-- the rules among these that are asked and stand, each as a finding
+abbrev pub found : File → List Rule → (Rule → Bool) → Head → List Finding
+found f rules stands head =
+    map (finding_at f.number head)
+    (filter (λ rule. asked_in f.question.rules.now rule && stands rule) rules)
+
+-- the findings at these places of a file
+abbrev pub found_at : File → List Place → List Finding
+found_at f places =
+    flat_map
+    (findings_at (asked_in f.question.rules.now) f.question.roots.now f.number f.root.now) places
