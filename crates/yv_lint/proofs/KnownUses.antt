@@ -12,7 +12,7 @@ use Rattle.yv_lint.specs.Definitions.{all_in, is_use}
 use Rattle.yv_lint.specs.InnerUses.{AddsUses, AreUses, Tells, ends_from, has_use, use_at}
 use Rattle.yv_lint.specs.declared.use_set.UseSet.{UseSet}
 use Rattle.yv_lint.specs.declared.uses.Uses.{Uses}
-use Rattle.yv_lint.proofs.NumberedUses.{length-ends}
+use Rattle.yv_lint.proofs.NumberedUses.{ends_then, length-ends, use_then}
 use Rattle.yv_lint.proofs.UseSets.{Between}
 
 -- ### the numbers of uses
@@ -155,4 +155,29 @@ uses_known own a u m f none start types groupings g = record {
       ap (λ i. get_or u.ends.items i 0) at ∙ ap (λ xs. get_or xs j 0) (g.ends ∙ ap (λ xs. xs ++ ends_from m f) none ∙ ap (λ x. ends_from x f) start);
   types = λ name j le lt. g.types name j ∙ ap (λ b. b || use_at word.Type own name m f j) (types name j) ∙ ap (λ x. use_at word.Type own name x f j) start;
   groupings = λ name j le lt. g.groupings name j ∙ ap (λ b. b || use_at word.Uses own name m f j) (groupings name j) ∙ ap (λ x. use_at word.Uses own name x f j) start;
+}
+
+-- ### the first statement alone
+
+ends_first : (n : ℕ) (h : Head) (c o : Forest) (j : ℕ) → j < count (Then h c End) → get_or (ends_from n (Then h c o)) j 0 ≡ get_or (ends_from n (Then h c End)) j 0
+ends_first n h c o j lt =
+    ap (λ xs. get_or xs j 0) (ends_then n h c o)
+    ∙ get_or_append_left (ends_from n (Then h c End)) (ends_from (n + 1 + count c) o) 0 j (omega (arith, length-ends n (Then h c End)))
+
+tells_first : (k : Keyword) (own : List ℕ) (s : UseSet) (n : ℕ) (h : Head) (c o : Forest) → Tells k own s n (Then h c o) → Tells k own s n (Then h c End)
+tells_first k own s n h c o t = λ name j le lt.
+    t name j le (omega arith)
+    ∙ use_then k own name n h c o j
+    ∙ ap (λ b. use_at k own name n (Then h c End) j || b) (use_before k own name (n + 1 + count c) o j (omega arith))
+    ∙ or_false (use_at k own name n (Then h c End) j)
+  where
+    or_false : (b : Bool) → (b || false) ≡ b
+    or_false true = refl
+    or_false false = refl
+
+pub first_uses : {own : List ℕ} {u : Uses} {n : ℕ} {h : Head} {c o : Forest} → AreUses own u n (Then h c o) → AreUses own u n (Then h c End)
+first_uses {own} {u} {n} {h} {c} {o} a = record {
+  ends = λ j lt. a.ends j (omega arith) ∙ ends_first n h c o j lt;
+  types = tells_first word.Type own u.types n h c o a.types;
+  groupings = tells_first word.Uses own u.groupings n h c o a.groupings;
 }

@@ -1,9 +1,11 @@
 pub mod Cuts
 pub mod EarlierStatements
+pub mod FileLists
 pub mod KnownUses
 pub mod NumberedUses
 pub mod Numbers
 pub mod Pieces
+pub mod PlaceLists
 pub mod PrefixSets
 pub mod UseSets
 pub mod VersionTable

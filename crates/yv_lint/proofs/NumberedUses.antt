@@ -16,7 +16,7 @@ length-ends n (Then h c o) = omega (arith, length-append (ends_from (n + 1) c) (
 
 -- ### a statement, and then the others
 
-ends_then : (n : ℕ) (h : Head) (c o : Forest) → ends_from n (Then h c o) ≡ ends_from n (Then h c End) ++ ends_from (n + 1 + count c) o
+pub ends_then : (n : ℕ) (h : Head) (c o : Forest) → ends_from n (Then h c o) ≡ ends_from n (Then h c End) ++ ends_from (n + 1 + count c) o
 ends_then n h c o = ap (λ xs. (n + 1 + count c) ∷ (xs ++ ends_from (n + 1 + count c) o)) (sym (append-nil (ends_from (n + 1) c)))
 
 regroup : (a b c : Bool) → (a || (b || c)) ≡ ((a || (b || false)) || c)
@@ -24,7 +24,7 @@ regroup true b c = refl
 regroup false true c = refl
 regroup false false c = refl
 
-use_then : (k : Keyword) (own name : List ℕ) (n : ℕ) (h : Head) (c o : Forest) (j : ℕ) → use_at k own name n (Then h c o) j ≡ (use_at k own name n (Then h c End) j || use_at k own name (n + 1 + count c) o j)
+pub use_then : (k : Keyword) (own name : List ℕ) (n : ℕ) (h : Head) (c o : Forest) (j : ℕ) → use_at k own name n (Then h c o) j ≡ (use_at k own name n (Then h c End) j || use_at k own name (n + 1 + count c) o j)
 use_then k own name n h c o j = regroup (is_use k own name (record { head = h; children = c }) && (n == j)) (use_at k own name (n + 1) c j) (use_at k own name (n + 1 + count c) o j)
 
 after : (n c r : ℕ) → (n + 1 + c) + r ≡ n + (1 + c + r)

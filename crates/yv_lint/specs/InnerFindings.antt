@@ -13,10 +13,10 @@ use Rattle.yv_lint.specs.Places.{Place}
 abbrev pub found : File → List Rule → (Rule → Bool) → Head → List Finding
 found f rules stands head =
     map (finding_at f.number head)
-    (filter (λ rule. asked_in f.question.rules.now rule && stands rule) rules)
+    (filter (λ rule. asked_in f.question.now.rules.now rule && stands rule) rules)
 
 -- the findings at these places of a file
 abbrev pub found_at : File → List Place → List Finding
 found_at f places =
     flat_map
-    (findings_at (asked_in f.question.rules.now) f.question.roots.now f.number f.root.now) places
+    (findings_at (asked_in f.question.now.rules.now) f.question.now.roots.now f.number f.root.now) places

@@ -16,5 +16,6 @@ pub mod InnerVersions
 pub mod InnerUsed
 pub mod InnerUses
 pub mod InnerFindings
+pub mod InnerFiles
 pub mod Asked
 pub mod Findings

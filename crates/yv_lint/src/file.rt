@@ -20,24 +20,26 @@ use crate::versions::{
 };
 use std::alloc::{AllocError, Global};
 use yv_link_scopes::name_of;
-use yv_text_statement::{Keyword, Statement};
+use yv_text_statement::{Keyword, Selection, Statement};
 
-/// What is the same for all files.
-#[derive(Clone, Copy)]
-pub struct Question<'a, 'b, 'c> {
+/// What is asked, of all files alike.
+#[derive(Drop)]
+pub struct Question<'a, 'b> {
     /// The rules that are asked.
-    pub rules: &'c Rules,
+    pub rules: &'a Rules,
+    /// The modules that are implemented.
+    pub selection: &'a Selection,
     /// The roots of all files.
     pub roots: &'a [Statement<'b>],
     /// The versions of these files.
-    pub versions: &'c Versions<'a>,
-    ghost versions_so: { (name : List ℕ) → version_in versions.now name ≡ version_named roots.now name },
+    pub versions: Versions<'a>,
+    ghost versions_so: { (name : List ℕ) → version_in versions name ≡ version_named roots.now name },
 }
 
 /// A file, and what its statements are compared with.
 #[derive(Drop)]
 pub struct File<'a, 'b, 'c> {
-    question: Question<'a, 'b, 'c>,
+    question: &'c Question<'a, 'b>,
     pub(crate) number: usize,
     pub(crate) root: &'a Statement<'b>,
     is_newer: bool,
@@ -64,12 +66,12 @@ impl<'a, 'b, 'c> File<'a, 'b, 'c> {
     /// A numbered file with this root.
     pub fn read(
         alloc: Global,
-        question: Question<'a, 'b, 'c>,
+        question: &'c Question<'a, 'b>,
         number: usize,
         root: &'a Statement<'b>,
     ) -> Result<File<'a, 'b, 'c>, AllocError>
-        // It is asked the same.
-        ensures question { IfOk result (λ file. file.question ≡ question.entry) }
+        // It is asked this.
+        ensures question { IfOk result (λ file. file.question.now ≡ question.now) }
         // It has the number.
         ensures number { IfOk result (λ file. file.number ≡ number) }
         // It has the root.
@@ -99,7 +101,7 @@ impl<'a, 'b, 'c> File<'a, 'b, 'c> {
     // Whether the file is of version 1, and one that a statement names of 1.1.
     fn names_newer(&self, statement: &'a Statement<'b>) -> bool
         ensures { result ≡ (not (is_newer_file self.now.root.now)
-            && is_newer_version (version_named self.now.question.roots.now (tree_name statement.now))) }
+            && is_newer_version (version_named self.now.question.now.roots.now (tree_name statement.now))) }
     {
         !self.is_newer && is_newer_version(self.question.versions.get(name_of(statement)))
     }
@@ -107,7 +109,7 @@ impl<'a, 'b, 'c> File<'a, 'b, 'c> {
     // Whether a statement mixes versions that may not be mixed.
     fn mixes_versions(&self, statement: &'a Statement<'b>) -> bool
         ensures { result
-            ≡ mixes_versions self.now.question.roots.now self.now.root.now statement.now }
+            ≡ mixes_versions self.now.question.now.roots.now self.now.root.now statement.now }
     {
         if statement.is(Keyword::Include) {
             let other = self.question.versions.get(name_of(statement));
@@ -126,7 +128,7 @@ impl<'a, 'b, 'c> File<'a, 'b, 'c> {
 
     /// Whether a rule is asked.
     pub fn is_asked(&self, rule: Rule) -> bool
-        ensures { result ≡ asked_in self.now.question.rules.now rule }
+        ensures { result ≡ asked_in self.now.question.now.rules.now rule }
     {
         self.question.rules.has(rule)
     }
@@ -136,7 +138,7 @@ impl<'a, 'b, 'c> File<'a, 'b, 'c> {
         requires { KnowsBlock (own_prefix self.now.root.now) self.now.uses place.now.start
             place.now.end place.now.parent.now.children }
         ensures { (before : List Tree) → IsEarlier before place.now.earlier
-            → result ≡ stands_at self.now.question.roots.now self.now.root.now
+            → result ≡ stands_at self.now.question.now.roots.now self.now.root.now
             (place_of before place.now) rule }
     {
         match rule {

@@ -8,6 +8,7 @@ mod definitions;
 mod file;
 mod file_names;
 mod finding;
+mod findings;
 mod groups;
 mod newer;
 mod place;
@@ -21,5 +22,6 @@ mod versions;
 mod walk;
 
 pub use finding::Finding;
+pub use findings::lint;
 pub use rule::{RULES, Rule};
 pub use rules::Rules;

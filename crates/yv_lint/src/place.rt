@@ -57,8 +57,16 @@ impl<'a> Earlier<'a> {
         }
     }
 
-    /// With one more statement.
-    pub fn and(self, statement: &'a Statement<'_>) -> Earlier<'a>
+    /// Adds one more statement.
+    pub fn note(&mut self, statement: &'a Statement<'_>)
+        ensures { (before : List Tree) → IsEarlier before self.old
+            → IsEarlier (before ++ statement.now ∷ []) self.new }
+    {
+        *self = self.and(statement);
+    }
+
+    // With one more statement.
+    fn and(self, statement: &'a Statement<'_>) -> Earlier<'a>
         ensures { (before : List Tree) → IsEarlier before self.entry
             → IsEarlier (before ++ statement.now ∷ []) result }
     {

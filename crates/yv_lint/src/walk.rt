@@ -25,7 +25,7 @@ impl<'a, 'b, 'c> File<'a, 'b, 'c> {
             place.now.end place.now.parent.now.children }
         ensures { (before : List Tree) → IsEarlier before place.now.earlier
             → OnOk result (findings.new.items ≡ findings.old.items ++ found self.now rules.now
-            (stands_at self.now.question.roots.now self.now.root.now (place_of before place.now))
+            (stands_at self.now.question.now.roots.now self.now.root.now (place_of before place.now))
             place.now.statement.now.head) }
     {
         for rule in rules {
@@ -77,19 +77,20 @@ impl<'a, 'b, 'c> File<'a, 'b, 'c> {
         self.add_those(&RULES, place, findings)?;
         let end = self.uses.end(number);
         let mut earlier = Earlier::none();
-        let mut next = number + 1;
+        let start = number + 1;
+        let mut next = start;
         for child in parent.children() {
             let inner = Place {
                 statement: child,
                 parent,
                 is_top: false,
                 earlier,
-                start: number + 1,
+                start,
                 end,
             };
             self.add(&inner, next, findings)?;
             next = self.uses.end(next);
-            earlier = earlier.and(child);
+            earlier.note(child);
         }
         Ok(())
     }
@@ -114,7 +115,7 @@ impl<'a, 'b, 'c> File<'a, 'b, 'c> {
             };
             self.add(&inner, next, findings)?;
             next = self.uses.end(next);
-            earlier = earlier.and(child);
+            earlier.note(child);
         }
         Ok(())
     }
@@ -122,7 +123,7 @@ impl<'a, 'b, 'c> File<'a, 'b, 'c> {
     /// Adds the findings in the file, which has this path.
     pub fn add_all(&self, path: &str, findings: &mut Vec<Finding>) -> Result<(), AllocError>
         ensures { OnOk result (findings.new.items ≡ findings.old.items
-            ++ findings_in (asked_in self.now.question.rules.now) self.now.question.roots.now
+            ++ findings_in (asked_in self.now.question.now.rules.now) self.now.question.now.roots.now
             self.now.number path.now self.now.root.now) }
     {
         self.add_those_at_root(&RULES, path, findings)?;

@@ -8,9 +8,9 @@ use Rattle.yv_lint.proofs.file.File.stands.Goals as goal
 pub returns-in-UnusedTypedef : goal.returns-in-UnusedTypedef
 returns-in-UnusedTypedef c = λ before h.
     c.is_unused.ensures word.Type (own_prefix c.args.self.now.root.now) before c.requires.types c.requires.end_is
-    ∙ ap (stands_at c.args.self.now.question.roots.now c.args.self.now.root.now (place_of before c.args.place.now)) (sym c.in-UnusedTypedef.is)
+    ∙ ap (stands_at c.args.self.now.question.now.roots.now c.args.self.now.root.now (place_of before c.args.place.now)) (sym c.in-UnusedTypedef.is)
 
 pub returns-in-UnusedGrouping : goal.returns-in-UnusedGrouping
 returns-in-UnusedGrouping c = λ before h.
     c.is_unused-in-UnusedGrouping.ensures word.Uses (own_prefix c.args.self.now.root.now) before c.requires.groupings c.requires.end_is
-    ∙ ap (stands_at c.args.self.now.question.roots.now c.args.self.now.root.now (place_of before c.args.place.now)) (sym c.in-UnusedGrouping.is)
+    ∙ ap (stands_at c.args.self.now.question.now.roots.now c.args.self.now.root.now (place_of before c.args.place.now)) (sym c.in-UnusedGrouping.is)
