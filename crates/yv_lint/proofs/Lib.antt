@@ -1,3 +1,4 @@
+pub mod AscendingFindings
 pub mod Cuts
 pub mod EarlierStatements
 pub mod FileLists
@@ -7,5 +8,6 @@ pub mod Numbers
 pub mod Pieces
 pub mod PlaceLists
 pub mod PrefixSets
+pub mod SameFindings
 pub mod UseSets
 pub mod VersionTable

@@ -17,5 +17,6 @@ pub mod InnerUsed
 pub mod InnerUses
 pub mod InnerFindings
 pub mod InnerFiles
+pub mod Order
 pub mod Asked
 pub mod Findings

@@ -1,11 +1,12 @@
 -- The version of YANG in which a file is written (RFC 7950, sections 7.1.2 and 12).
-use Rattle.std.specs.Prelude.{ℕ, ◌&&◌, not, Bool, false, Option, Some, None, List, codes, if◌then◌else◌}
+use Rattle.std.specs.Prelude.{◌≡◌, ℕ, ◌&&◌, not, Bool, false, Option, Some, None, List, codes, if◌then◌else◌}
 use Rattle.std.specs.List.{find, list_any}
 use Rattle.std.specs.Option.{option_map}
 use Rattle.std.specs.Str.{bytes_eq}
 use Rattle.yv_text_statement.specs.Tree.{Tree, trees}
 use Rattle.yv_text_statement.specs.declared.keyword.Keyword.TheVariants as word
 use Rattle.yv_link_scopes.specs.Files.{Files, tree_name}
+use Rattle.yv_lint.specs.Places.{Place}
 use Rattle.yv_lint.specs.Statements.{has_child, has_keyword}
 
 -- a statement is `yang-version 1.1`
@@ -45,3 +46,8 @@ mixes_versions files root t =
     let other : Option Bool = version_named files (tree_name t) in
     if has_keyword word.Include t then differs_from (is_newer_file root) other
     else is_dated_import t && (not (is_newer_file root) && is_newer_version other)
+
+-- the file that the statement at a place names is of one version among some files and among others
+abbrev pub HaveSameVersion : Files → Files → Place → Type 0
+HaveSameVersion files others p =
+    version_named files (tree_name p.statement) ≡ version_named others (tree_name p.statement)

@@ -1,7 +1,7 @@
 //! The findings in files.
-ghost use Rattle.std.specs.Prelude.{◌≡◌, ◌++◌, map, slice_get, OnOk, IfOk};
-ghost use Rattle.yv_text_statement.specs.Selection.{selected_of};
-ghost use Rattle.yv_lint.specs.{Asked.{asked_in}, Findings.{findings, findings_of}, InnerFiles.{findings_at_number}};
+ghost use Rattle.std.specs.{Prelude.{◌≡◌, ◌++◌, map, slice_get, OnOk, IfOk}, List.{All}};
+ghost use Rattle.yv_text_statement.specs.{Selection.{selected_of}, Offsets.{IsInOrder}};
+ghost use Rattle.yv_lint.specs.{Asked.{asked_in}, Findings.{findings, findings_of}, InnerFiles.{findings_at_number}, Order.{Ascend}};
 
 use crate::definitions::module_name;
 use crate::file::{File, Question};
@@ -12,12 +12,12 @@ use std::alloc::{AllocError, Global};
 use yv_text_statement::{Selection, Statement};
 
 // Adds the findings in a numbered file, if its module is implemented.
-fn add_file<'a>(
+fn add_file<'a, 'b>(
     alloc: Global,
-    question: &Question<'a, '_>,
+    question: &Question<'a, 'b>,
     number: usize,
     path: &str,
-    root: &'a Statement<'_>,
+    root: &'a Statement<'b>,
     findings: &mut Vec<Finding>,
 ) -> Result<(), AllocError>
     ensures { OnOk result (findings.new.items ≡ findings.old.items
@@ -32,9 +32,9 @@ fn add_file<'a>(
 }
 
 // The same of the file with a number, if it is there.
-fn add_number<'a>(
+fn add_number(
     alloc: Global,
-    question: &Question<'a, '_>,
+    question: &Question<'_, '_>,
     number: usize,
     path: &str,
     findings: &mut Vec<Finding>,
@@ -65,6 +65,9 @@ pub fn lint<'a>(
     // The findings of the rules that are asked, in the order of the files and of their texts.
     ensures findings { IfOk result (λ list. list.items ≡ findings (asked_in rules.now)
         (selected_of selection.now) (map (λ path. path.now) paths.now) roots.now) }
+    // If the statements of the files are in the order of their texts, each finding comes before all
+    // that follow it: by file, then by offset, then by rule.
+    ensures ascending { IfOk result (λ list. All IsInOrder roots.now → Ascend list.items) }
 {
     let question = Question {
         rules,

@@ -10,6 +10,7 @@ mod file_names;
 mod finding;
 mod findings;
 mod groups;
+pub mod laws;
 mod newer;
 mod place;
 mod prefixes;
