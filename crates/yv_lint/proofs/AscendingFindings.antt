@@ -138,15 +138,11 @@ module _ (asked : Asked) (files : Files) (file : ℕ) (root : Tree) where
       (places_sound c t false [] (h.offset + 1) high s.first inside)
       (places_sound o p top (before ++ t ∷ []) s.mid high s.second after)
     where
-      abbrev inner : List Place
-      inner = places_in (record { head = h; children = c }) false [] c
-
-      abbrev others : List Place
-      others = places_in p top (before ++ record { head = h; children = c } ∷ []) o
-
-      by : (b : Bool) (mid : ℕ) → h.offset + 1 ≤ mid → Sound (h.offset + 1) mid (flat_map (findings_at asked files file root) inner) → Sound (h.offset + 1) high (flat_map (findings_at asked files file root) inner) → Sound mid high (flat_map (findings_at asked files file root) others) → Sound low high (flat_map (findings_at asked files file root) (cond b [] (place_at p top before (record { head = h; children = c }) ∷ inner) ++ others))
-      by true mid up first whole rest = (rest.0, in_wider file mid high low high (flat_map (findings_at asked files file root) others) (omega (arith, up, a.0)) (omega arith) rest.1)
+      by : (b : Bool) (mid : ℕ) → h.offset + 1 ≤ mid → Sound (h.offset + 1) mid (flat_map (findings_at asked files file root) (places_in (record { head = h; children = c }) false [] c)) → Sound (h.offset + 1) high (flat_map (findings_at asked files file root) (places_in (record { head = h; children = c }) false [] c)) → Sound mid high (flat_map (findings_at asked files file root) (places_in p top (before ++ record { head = h; children = c } ∷ []) o)) → Sound low high (flat_map (findings_at asked files file root) (cond b [] (place_at p top before (record { head = h; children = c }) ∷ places_in (record { head = h; children = c }) false [] c) ++ places_in p top (before ++ record { head = h; children = c } ∷ []) o))
+      by true mid up first whole rest = (rest.0, in_wider file mid high low high (flat_map (findings_at asked files file root) (places_in p top (before ++ record { head = h; children = c } ∷ []) o)) (omega (arith, up, a.0)) (omega arith) rest.1)
       by false mid up first whole rest =
+          let inner : List Place = places_in (record { head = h; children = c }) false [] c in
+          let others : List Place = places_in p top (before ++ record { head = h; children = c } ∷ []) o in
           let F : List Place → List Finding = λ ps. flat_map (findings_at asked files file root) ps in
           let own : List Finding = findings_where asked (stands_at files root (place_at p top before (record { head = h; children = c }))) file h in
           let g = where_good asked (stands_at files root (place_at p top before (record { head = h; children = c }))) file h in

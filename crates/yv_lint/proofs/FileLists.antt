@@ -1,14 +1,15 @@
 -- The findings in files, one after the other.
-use Rattle.std.proofs.Common.{◌≡◌, ℕ, suc, zero, ◌+◌, ◌<◌, ◌≤◌, List, [], ◌∷◌, ◌++◌, length, map, drop, get_or, Option, Some, None, refl, sym, ◌∙◌, ap, arith, append_assoc}
+use Rattle.std.proofs.Common.{◌≡◌, ℕ, suc, zero, ◌+◌, ◌<◌, ◌≤◌, true, cond, List, [], ◌∷◌, ◌++◌, length, map, drop, get_or, Option, Some, None, refl, sym, ◌∙◌, ap, arith, append_assoc}
 use Rattle.std.specs.List.{slice_get}
 use Rattle.std.proofs.lemmas.List.{append-nil, drop_all, drop_more}
 use denote.Ref.{Bor}
-use Rattle.yv_text_statement.specs.Selection.{ModuleChoice}
+use Rattle.yv_text_statement.specs.Selection.{ModuleChoice, is_implemented, selected_of}
 use Rattle.yv_text_statement.specs.Tree.{Tree}
-use Rattle.yv_link_scopes.specs.Files.{Files}
+use Rattle.yv_link_scopes.specs.Files.{Files, module_name}
 use Rattle.yv_lint.specs.declared.finding.Finding.{Finding}
-use Rattle.yv_lint.specs.Asked.{Asked}
-use Rattle.yv_lint.specs.Findings.{findings_from}
+use Rattle.yv_lint.specs.declared.file.Question.{Question}
+use Rattle.yv_lint.specs.Asked.{Asked, asked_in}
+use Rattle.yv_lint.specs.Findings.{findings_from, findings_in, findings_of}
 use Rattle.yv_lint.specs.InnerFiles.{findings_at_number}
 
 abbrev pub text_of : Bor (List ℕ) → List ℕ
@@ -44,3 +45,23 @@ module _ (asked : Asked) (choice : ModuleChoice) (files : Files) where
       sym (append-nil now)
       ∙ ap (λ ps. now ++ findings_from asked choice files i (map text_of ps) (drop i files)) (sym (drop_all i paths le))
       ∙ h
+
+-- a file whose module is implemented
+pub file_is : (q p : Question) (n m : ℕ) (path : List ℕ) (t root : Tree) → q ≡ p → n ≡ m → t ≡ root → is_implemented (selected_of p.selection.now) (module_name root) ≡ true → findings_in (asked_in q.rules.now) q.roots.now n path t ≡ findings_of (asked_in p.rules.now) (selected_of p.selection.now) p.roots.now m path root
+file_is q p n m path t root e f g chosen =
+    ap (λ (x : Question). findings_in (asked_in x.rules.now) x.roots.now n path t) e
+    ∙ ap (λ k. findings_in (asked_in p.rules.now) p.roots.now k path t) f
+    ∙ ap (λ (u : Tree). findings_in (asked_in p.rules.now) p.roots.now m path u) g
+    ∙ sym (ap (λ b. cond b (findings_in (asked_in p.rules.now) p.roots.now m path root) []) chosen)
+
+-- what is at a number
+pub absent : (ts : Files) (n : ℕ) → length ts ≤ n → slice_get ts n ≡ None
+absent [] zero h = refl
+absent [] (suc n) h = refl
+absent (t ∷ ts) zero h = absurd (omega arith)
+absent (t ∷ ts) (suc n) h = absent ts n (omega arith)
+
+pub present : (ts : Files) (n : ℕ) (t : Tree) → n < length ts → t ≡ get_or ts n t → slice_get ts n ≡ Some t
+present [] n t lt e = absurd (omega arith)
+present (x ∷ ts) zero t lt e = ap (λ (u : Tree). Some u) (sym e)
+present (x ∷ ts) (suc n) t lt e = present ts n t (omega arith) e
