@@ -1,5 +1,5 @@
 -- The findings in files ascend.
-use Rattle.std.proofs.Common.{◌≡◌, ℕ, suc, zero, ◌+◌, ◌<◌, ◌≤◌, ◌&&◌, ◌⊎◌, inl, inr, Bool, true, false, cond, List, [], ◌∷◌, ◌++◌, map, filter, Option, Some, None, refl, sym, ◌∙◌, ap, subst, arith}
+use Rattle.std.proofs.Common.{◌≡◌, ℕ, suc, ◌+◌, ◌<◌, ◌≤◌, ◌&&◌, inl, inr, Bool, true, false, cond, List, [], ◌∷◌, ◌++◌, map, filter, Some, refl, sym, ◌∙◌, subst, arith}
 use Rattle.std.specs.List.{slice_get, flat_map, All}
 use Rattle.std.proofs.lemmas.List.Concat.{flat_map-append}
 use Rattle.std.proofs.lemmas.List.Elements.{All-head, All-tail}
@@ -12,7 +12,7 @@ use Rattle.yv_lint.specs.declared.rule.Rule.{Rule}
 use Rattle.yv_lint.specs.declared.finding.Finding.{Finding}
 use Rattle.yv_lint.specs.Asked.{Asked}
 use Rattle.yv_lint.specs.Findings.{finding_at, findings, findings_at, findings_from, findings_in, findings_of, findings_where}
-use Rattle.yv_lint.specs.Order.{Ascend, IsBefore, IsBeforeAll, IsRuleBefore}
+use Rattle.yv_lint.specs.Order.{Ascend, IsBeforeAll}
 use Rattle.yv_lint.specs.Places.{Place, place_at, places_in, places_of}
 use Rattle.yv_lint.specs.Rules.{all_rules, stands_at, stands_at_root}
 
@@ -151,8 +151,8 @@ module _ (asked : Asked) (files : Files) (file : ℕ) (root : Tree) where
           let all : Sound low high (own ++ (F inner ++ F others)) = (
             ascend_append file h.offset (h.offset + 1) high own (F inner ++ F others) g.0 joined g.1 within,
             in_append file low high own (F inner ++ F others)
-            (in_wider file h.offset (h.offset + 1) low high own a.0 (omega (arith, b.0)) g.1)
-            (in_wider file (h.offset + 1) high low high (F inner ++ F others) (omega (arith, a.0)) (omega arith) within),
+                (in_wider file h.offset (h.offset + 1) low high own a.0 (omega (arith, b.0)) g.1)
+                (in_wider file (h.offset + 1) high low high (F inner ++ F others) (omega (arith, a.0)) (omega arith) within),
           ) in
           subst (λ xs. Sound low high (own ++ xs)) (sym (flat_map-append (findings_at asked files file root) inner others)) all
 
@@ -175,9 +175,10 @@ module _ (asked : Asked) (files : Files) (file : ℕ) (root : Tree) where
       let g = where_good asked (stands_at_root path root) file root.head in
       let s = split (root.head.offset + 1) (offsets root.children) [] h.1 in
       let inner : List Finding = flat_map (findings_at asked files file root) (places_of root) in
-      let r = places_sound root.children root true [] (root.head.offset + 1) s.mid s.first s.below in
-      (ascend_append file root.head.offset (root.head.offset + 1) s.mid own inner g.0 r.0 g.1 r.1,
-      of_append own inner (of_in root.head.offset (root.head.offset + 1) own g.1) (of_in (root.head.offset + 1) s.mid inner r.1))
+      let r = places_sound root.children root true [] (root.head.offset + 1) s.mid s.first s.below in (
+        ascend_append file root.head.offset (root.head.offset + 1) s.mid own inner g.0 r.0 g.1 r.1,
+        of_append own inner (of_in root.head.offset (root.head.offset + 1) own g.1) (of_in (root.head.offset + 1) s.mid inner r.1),
+      )
 
 -- ### in all files
 

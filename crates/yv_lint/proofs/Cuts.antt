@@ -1,8 +1,8 @@
 -- The part of a text between two places.
-use Rattle.std.proofs.Common.{◌≡◌, ℕ, ◌+◌, ◌-◌, ◌<◌, ◌≤◌, Bool, true, false, cond, List, [], ◌∷◌, ◌++◌, length, take, drop, get_or, nat_eq, sym, ◌∙◌, ap, refl, arith}
-use Rattle.std.proofs.lemmas.List.{take_more, drop_more, drop_all, get_or-drop, length-drop, take_all}
+use Rattle.std.proofs.Common.{◌≡◌, ℕ, ◌+◌, ◌-◌, ◌<◌, ◌≤◌, true, false, cond, List, [], ◌∷◌, ◌++◌, length, take, drop, get_or, nat_eq, sym, ◌∙◌, ap, refl, arith}
+use Rattle.std.proofs.lemmas.List.{take_more, drop_more, get_or-drop, length-drop}
 use Rattle.std.proofs.lemmas.Bool.{ne_eqb}
-use Rattle.yv_lint.specs.FileNames.{last_part, last_part_after}
+use Rattle.yv_lint.specs.FileNames.{last_part_after}
 
 abbrev pub cut : ℕ → ℕ → List ℕ → List ℕ
 cut from to xs = take (to - from) (drop from xs)

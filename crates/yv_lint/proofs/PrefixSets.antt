@@ -1,10 +1,9 @@
 -- Sets of prefixes, one prefix or more at a time.
-use Rattle.std.proofs.Common.{◌≡◌, ℕ, ◌+◌, ◌<◌, ◌≤◌, ◌||◌, Bool, true, false, cond, List, [], ◌∷◌, ◌++◌, length, take, drop, get_or, filter, nat_eq, sym, ◌∙◌, ap, refl, append_assoc, subst, arith}
-use Rattle.std.specs.List.{list_any}
-use Rattle.std.specs.Ordering.{nat_cmp, is_eq}
+use Rattle.std.proofs.Common.{◌≡◌, ℕ, ◌+◌, ◌<◌, ◌≤◌, ◌||◌, Bool, true, false, cond, List, [], ◌∷◌, ◌++◌, length, take, drop, get_or, filter, nat_eq, sym, ◌∙◌, ap, refl, append_assoc, subst}
+use Rattle.std.specs.Ordering.{nat_cmp}
 use Rattle.std.specs.Cmp.Lexicographic.{slice_cmp}
 use Rattle.std.specs.Str.{bytes_eq}
-use Rattle.std.specs.BTreeSet.{BTreeSet, UpdatesBy}
+use Rattle.std.specs.BTreeSet.{UpdatesBy}
 use Rattle.std.proofs.lemmas.Bool.{ne_eqb}
 use Rattle.std.proofs.lemmas.List.{append-nil, drop_more, take_more, take_all}
 use Rattle.std.proofs.lemmas.List.Folds.{list_any-append}
@@ -39,7 +38,7 @@ adds_one old new prefix u = record {
   each = λ p.
       u.0 (record { ref_ptr = (0, 0); now = p })
       ∙ ap (λ b. cond b true (has_prefix old p)) (is_eq-slice_cmp prefix.now p)
-      ∙ one (bytes_eq prefix.now p) (has_prefix old p)
+      ∙ one (bytes_eq prefix.now p) (has_prefix old p);
 }
 
 pub adds_none : (s : Prefixes) → Adds s s []
@@ -51,7 +50,7 @@ adds_then a b c xs ys f g = record {
       g.each p
       ∙ ap (λ t. t || is_among ys p) (f.each p)
       ∙ or_assoc (has_prefix a p) (is_among xs p) (is_among ys p)
-      ∙ ap (λ t. has_prefix a p || t) (sym (list_any-append (λ word. bytes_eq word p) xs ys))
+      ∙ ap (λ t. has_prefix a p || t) (sym (list_any-append (λ word. bytes_eq word p) xs ys));
 }
 
 -- a character of a run

@@ -1,5 +1,5 @@
 -- Sets of uses: one more, and those between two numbers.
-use Rattle.std.proofs.Common.{◌≡◌, ℕ, ◌+◌, ◌<◌, ◌≤◌, ◌==◌, ◌&&◌, ◌||◌, Bool, true, false, cond, List, [], ◌∷◌, sym, ◌∙◌, ap, refl, subst, arith, eqb-true, eq-eqb, is_gt, is_some, IsTrue, Option, Some, None, MatchOption, IfSome}
+use Rattle.std.proofs.Common.{◌≡◌, ℕ, ◌<◌, ◌≤◌, ◌==◌, ◌&&◌, ◌||◌, Bool, true, false, cond, List, [], ◌∷◌, sym, ◌∙◌, ap, refl, subst, arith, eqb-true, eq-eqb, is_gt, is_some, IsTrue, Option, Some, None, MatchOption, IfSome}
 use Rattle.std.specs.Bool.{one_answer}
 use Rattle.std.specs.Ordering.{nat_cmp, ordering_then, ordering_reverse, is_eq}
 use Rattle.std.specs.List.{slice_get}
@@ -10,7 +10,7 @@ use Rattle.std.specs.declared.cmp.Ordering.TheVariants.{Less, Equal, Greater}
 use Rattle.std.specs.Cmp.{Equal-is, nat_cmp_is}
 use Rattle.std.specs.Cmp.Lexicographic.{slice_cmp}
 use Rattle.std.specs.Str.{bytes_eq}
-use Rattle.std.specs.BTreeSet.{BTreeSet, UpdatesBy, IsKeyInRange, IsKeyRangeOf, contains}
+use Rattle.std.specs.BTreeSet.{UpdatesBy, IsKeyInRange, IsKeyRangeOf, contains}
 use Rattle.std.proofs.lemmas.Bool.{false≢true}
 use Rattle.std.proofs.lemmas.Map.Keys.{le_from_not_gt}
 use Rattle.std.proofs.lemmas.Slice.Eq.{bytes_eq-Decides}

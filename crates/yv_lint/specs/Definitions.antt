@@ -5,7 +5,7 @@ use Rattle.std.specs.Str.{bytes_eq}
 use Rattle.yv_text_statement.specs.Tree.{Tree, Forest, Then, End}
 use Rattle.yv_text_statement.specs.declared.keyword.Keyword.{Keyword}
 use Rattle.yv_text_statement.specs.declared.keyword.Keyword.TheVariants as word
-use Rattle.yv_link_scopes.specs.Files.{first_name, tree_name, is_module}
+use Rattle.yv_link_scopes.specs.Files.{tree_name, is_module}
 use Rattle.yv_link_scopes.specs.Names.{prefix_of, local_of}
 use Rattle.yv_lint.specs.Statements.{child, child_name, has_keyword}
 use Rattle.yv_lint.specs.Places.{Place}

@@ -1,11 +1,11 @@
 -- Only private clauses cite this: findings while they are collected.
-use Rattle.std.specs.Prelude.{◌≡◌, ◌&&◌, Bool, List, ◌++◌, map}
+use Rattle.std.specs.Prelude.{◌&&◌, Bool, List, map}
 use Rattle.std.specs.List.{filter, flat_map}
 use Rattle.yv_text_statement.specs.Tree.{Head}
 use Rattle.yv_lint.specs.declared.rule.Rule.{Rule}
 use Rattle.yv_lint.specs.declared.file.File.{File}
 use Rattle.yv_lint.specs.declared.finding.Finding.{Finding}
-use Rattle.yv_lint.specs.Asked.{Asked, asked_in}
+use Rattle.yv_lint.specs.Asked.{asked_in}
 use Rattle.yv_lint.specs.Findings.{finding_at, findings_at}
 use Rattle.yv_lint.specs.Places.{Place}
 

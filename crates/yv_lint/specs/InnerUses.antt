@@ -1,9 +1,9 @@
 -- Only private clauses cite this: the statements of a file by number, and where names are used.
-use Rattle.std.specs.Prelude.{◌≡◌, ℕ, ◌+◌, ◌<◌, ◌≤◌, ◌==◌, ◌&&◌, ◌||◌, Bool, false, List, [], ◌∷◌, ◌++◌, length, slice_index_or}
+use Rattle.std.specs.Prelude.{◌≡◌, ℕ, ◌+◌, ◌<◌, ◌≤◌, ◌==◌, ◌&&◌, ◌||◌, Bool, false, List, [], ◌∷◌, ◌++◌, slice_index_or}
 use Rattle.std.specs.Ordering.{nat_cmp, ordering_then}
 use Rattle.std.specs.Cmp.Lexicographic.{slice_cmp}
 use Rattle.std.specs.BTreeSet.{contains_by}
-use Rattle.yv_text_statement.specs.Tree.{Forest, Then, End, Tree, count}
+use Rattle.yv_text_statement.specs.Tree.{Forest, Then, End, count}
 use Rattle.yv_text_statement.specs.declared.keyword.Keyword.{Keyword}
 use Rattle.yv_text_statement.specs.declared.keyword.Keyword.TheVariants as word
 use Rattle.yv_lint.specs.Definitions.{is_use}

@@ -1,5 +1,5 @@
 -- The rules, and where they find something to mend.
-use Rattle.std.specs.Prelude.{ℕ, ◌&&◌, ◌||◌, not, Bool, true, false, List, [], ◌∷◌, codes}
+use Rattle.std.specs.Prelude.{ℕ, ◌&&◌, not, Bool, true, false, List, [], ◌∷◌, codes}
 use Rattle.yv_text_statement.specs.Tree.{Tree}
 use Rattle.yv_text_statement.specs.Words.{is_among}
 use Rattle.yv_text_statement.specs.declared.keyword.Keyword.{Keyword}

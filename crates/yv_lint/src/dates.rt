@@ -1,6 +1,5 @@
 //! The dates of revisions.
 ghost use Rattle.std.specs.Prelude.{◌≡◌, ◌+◌, ◌-◌, ◌<◌, length};
-
 ghost use Rattle.yv_lint.specs.Dates.{dates_of, days_of, greatest, is_day, is_earlier, is_leap_year, is_no_day, later, two_digits};
 
 use yv_link_scopes::name_of;

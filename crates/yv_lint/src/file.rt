@@ -15,9 +15,7 @@ use crate::rule::Rule;
 use crate::rules::Rules;
 use crate::statements::{child_name, has_child};
 use crate::uses::Uses;
-use crate::versions::{
-    Versions, differs_from, is_dated_import, is_newer_file, is_newer_version,
-};
+use crate::versions::{Versions, differs_from, is_dated_import, is_newer_file, is_newer_version};
 use std::alloc::{AllocError, Global};
 use yv_link_scopes::name_of;
 use yv_text_statement::{Keyword, Selection, Statement};
@@ -94,8 +92,7 @@ impl<'a, 'b, 'c> File<'a, 'b, 'c> {
     fn is_unused_import(&self, statement: &'a Statement<'b>) -> bool
         ensures { result ≡ is_unused_import self.now.root.now statement.now }
     {
-        statement.is(Keyword::Import)
-            && !self.prefixes.has(child_name(statement, Keyword::Prefix))
+        statement.is(Keyword::Import) && !self.prefixes.has(child_name(statement, Keyword::Prefix))
     }
 
     // Whether the file is of version 1, and one that a statement names of 1.1.

@@ -111,11 +111,7 @@ impl<'a> Prefixes<'a> {
     }
 
     // Adds the prefixes that an argument uses.
-    fn add_argument(
-        &mut self,
-        within: bool,
-        statement: &'a Statement<'_>,
-    ) -> Result<(), AllocError>
+    fn add_argument(&mut self, within: bool, statement: &'a Statement<'_>) -> Result<(), AllocError>
         ensures { OnOk result
             (Adds self.old self.new (argument_prefixes within statement.now.head)) }
     {

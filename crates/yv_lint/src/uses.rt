@@ -20,11 +20,7 @@ pub struct Uses<'a> {
 
 impl<'a> Uses<'a> {
     /// Those of the file with this root, which is number 0, and this prefix for its own module.
-    pub fn read(
-        alloc: Global,
-        own: &str,
-        root: &'a Statement<'_>,
-    ) -> Result<Uses<'a>, AllocError>
+    pub fn read(alloc: Global, own: &str, root: &'a Statement<'_>) -> Result<Uses<'a>, AllocError>
         ensures { IfOk result
             (λ uses. AreUses own.now uses 0 (Then root.now.head root.now.children End)) }
     {

@@ -1,4 +1,4 @@
-use Rattle.std.proofs.Common.{◌≡◌, ◌&&◌, Bool, true, false, not, sym, ◌∙◌, ap}
+use Rattle.std.proofs.Common.{◌≡◌, ◌&&◌, true, false, not, sym, ◌∙◌, ap}
 use Rattle.std.specs.List.{list_any}
 use Rattle.yv_link_scopes.specs.Files.{tree_name}
 use Rattle.yv_lint.specs.Definitions.{all_in, is_nested, is_use}

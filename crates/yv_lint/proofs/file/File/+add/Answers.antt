@@ -1,4 +1,4 @@
-use Rattle.std.proofs.Common.{◌≡◌, ◌+◌, ◌<◌, ◌≤◌, false, get_or, length, take, refl, sym, ◌∙◌, ap, arith}
+use Rattle.std.proofs.Common.{◌≡◌, ◌<◌, ◌≤◌, false, get_or, length, take, sym, ◌∙◌, ap, arith}
 use Rattle.std.proofs.lemmas.List.{append-nil}
 use Rattle.yv_text_statement.specs.Tree.{count, forest, trees}
 use Rattle.yv_link_scopes.proofs.Listing.{fewer, forest-trees}
@@ -15,8 +15,7 @@ pub add-requires : goal.add-requires
 add-requires t c =
     let is : c.child-item.result ≡ get_or (trees c.args.place.now.statement.now.children) c.loop-child.child-index c.child-item.result = rw (← c.children-child-items.ensures) c.child-item.is in
     let lt : c.loop-child.child-index < length (trees c.args.place.now.statement.now.children) = rw (← c.children-child-items.ensures) c.loop-child-test.true in
-    let small : count c.child-item.result.children < count (forest (trees c.args.place.now.statement.now.children)) = fewer (trees c.args.place.now.statement.now.children) c.loop-child.child-index c.child-item.result lt is in
-    (
+    let small : count c.child-item.result.children < count (forest (trees c.args.place.now.statement.now.children)) = fewer (trees c.args.place.now.statement.now.children) c.loop-child.child-index c.child-item.result lt is in (
       (let e = ap count (forest-trees c.args.place.now.statement.now.children) in omega (arith, c.decreases, small, e)),
       (
         block_uses (own_prefix c.args.self.now.root.now) c.args.self.now.uses c.args.number c.end-end.result c.args.place.now.statement.now.head c.args.place.now.statement.now.children c.requires.number c.end-end.ensures,

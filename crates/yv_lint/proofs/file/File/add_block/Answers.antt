@@ -1,6 +1,6 @@
-use Rattle.std.proofs.Common.{◌≡◌, ◌+◌, ◌<◌, ◌≤◌, true, get_or, length, take, refl, sym, ◌∙◌, ap, subst, arith}
+use Rattle.std.proofs.Common.{◌≡◌, ◌<◌, ◌≤◌, true, get_or, length, take, sym}
 use Rattle.std.proofs.lemmas.List.{append-nil}
-use Rattle.yv_text_statement.specs.Tree.{forest, trees}
+use Rattle.yv_text_statement.specs.Tree.{trees}
 use Rattle.yv_lint.specs.Definitions.{own_prefix}
 use Rattle.yv_lint.proofs.PlaceLists.{block_uses, child_uses, earlier_more, found_all, found_more, next_uses, start_uses}
 use Rattle.yv_lint.proofs.file.File.add_block.Goals as goal

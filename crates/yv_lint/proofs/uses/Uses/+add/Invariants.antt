@@ -1,4 +1,4 @@
-use Rattle.std.proofs.Common.{◌≡◌, ◌≤◌, ◌<◌, ◌+◌, length, take}
+use Rattle.std.proofs.Common.{◌≡◌, ◌+◌, length, take}
 use Rattle.yv_text_statement.specs.Tree.{count, forest, trees}
 use Rattle.yv_lint.specs.InnerUses.{AddsUses}
 use Rattle.yv_lint.proofs.uses.Uses.+add.Given as goal

@@ -1,5 +1,4 @@
-use Rattle.std.proofs.Common.{◌≡◌, false, not, Option, None, is_some, Bool, true, refl, sym, ◌∙◌}
-use Rattle.std.proofs.lemmas.Bool.{false≢true}
+use Rattle.std.proofs.Common.{sym, ◌∙◌}
 use Rattle.yv_lint.proofs.VersionTable.{keep_new, none_of}
 use Rattle.yv_lint.proofs.versions.Versions.keep.Goals as goal
 
