@@ -10,7 +10,7 @@ use Rattle.yv_link_scopes.specs.Files.{Files, module_name}
 use Rattle.yv_link_scopes.specs.Rows.{is_extended}
 use Rattle.yv_lint.specs.declared.rule.Rule.{Rule}
 use Rattle.yv_lint.specs.declared.finding.Finding.{Finding}
-use Rattle.yv_lint.specs.Asked.{Asked}
+use Rattle.yv_lint.specs.RuleChoice.{RuleChoice}
 use Rattle.yv_lint.specs.Findings.{finding_at, findings, findings_at, findings_from, findings_in, findings_of, findings_where}
 use Rattle.yv_lint.specs.Order.{Ascend, IsBeforeAll}
 use Rattle.yv_lint.specs.Places.{Place, place_at, places_in, places_of}
@@ -88,7 +88,7 @@ rules_good p file head k (r ∷ rs) h = by (p r) (rules_good p file head (k + 1)
 rules_all : RulesFrom 0 all_rules
 rules_all = λ j r e. let same : j ≡ 0 + j = omega arith in subst (λ n. slice_get all_rules n ≡ Some r) same e
 
-where_good : (asked : Asked) (stands : Rule → Bool) (file : ℕ) (head : Head) → Ascend (findings_where asked stands file head) × In file head.offset (head.offset + 1) (findings_where asked stands file head)
+where_good : (asked : RuleChoice) (stands : Rule → Bool) (file : ℕ) (head : Head) → Ascend (findings_where asked stands file head) × In file head.offset (head.offset + 1) (findings_where asked stands file head)
 where_good asked stands file head =
     let g = rules_good (λ rule. asked rule && stands rule) file head 0 all_rules rules_all in
     (g.0, later_in 0 file head.offset (findings_where asked stands file head) g.1)
@@ -121,7 +121,7 @@ split low (x ∷ xs) ys h =
     let a : x + 1 ≤ s.mid = s.above in
     record { mid = s.mid; above = omega (arith, a, h.0); first = (h.0, s.first); below = (omega (arith, a), s.below); second = s.second }
 
-module _ (asked : Asked) (files : Files) (file : ℕ) (root : Tree) where
+module _ (asked : RuleChoice) (files : Files) (file : ℕ) (root : Tree) where
   abbrev Sound : ℕ → ℕ → List Finding → Type 0
   Sound low high fs = Ascend fs × In file low high fs
 
@@ -186,7 +186,7 @@ abbrev From : ℕ → List Finding → Type 0
 From n [] = Unit {0}
 From n (f ∷ fs) = (n ≤ f.file) × From n fs
 
-from_of : (asked : Asked) (files : Files) (n : ℕ) (root : Tree) (fs : List Finding) → Of asked files n root fs → From n fs
+from_of : (asked : RuleChoice) (files : Files) (n : ℕ) (root : Tree) (fs : List Finding) → Of asked files n root fs → From n fs
 from_of asked files n root [] p = tt
 from_of asked files n root (f ∷ fs) p = (omega (arith, p.0), from_of asked files n root fs p.1)
 
@@ -202,11 +202,11 @@ before_from : (f : Finding) (n : ℕ) (gs : List Finding) → f.file ≡ n → F
 before_from f n [] e p = tt
 before_from f n (g ∷ gs) e p = (inl (omega (arith, e, p.0)), before_from f n gs e p.1)
 
-ascend_from : (asked : Asked) (files : Files) (n : ℕ) (root : Tree) (xs ys : List Finding) → Ascend xs → Of asked files n root xs → Ascend ys → From (n + 1) ys → Ascend (xs ++ ys)
+ascend_from : (asked : RuleChoice) (files : Files) (n : ℕ) (root : Tree) (xs ys : List Finding) → Ascend xs → Of asked files n root xs → Ascend ys → From (n + 1) ys → Ascend (xs ++ ys)
 ascend_from asked files n root [] ys a p b q = b
 ascend_from asked files n root (x ∷ xs) ys a p b q = (before_append x xs ys a.0 (before_from x n ys p.0 q), ascend_from asked files n root xs ys a.1 p.1 b q)
 
-module _ (asked : Asked) (choice : ModuleChoice) (files : Files) where
+module _ (asked : RuleChoice) (choice : ModuleChoice) (files : Files) where
   of_sound : (n : ℕ) (path : List ℕ) (root : Tree) → IsInOrder root → Ascend (findings_of asked choice files n path root) × Of asked files n root (findings_of asked choice files n path root)
   of_sound n path root h = by (is_implemented choice (module_name root)) (file_sound asked files n root path h)
     where

@@ -8,14 +8,14 @@ use Rattle.yv_text_statement.specs.Tree.{Tree}
 use Rattle.yv_link_scopes.specs.Files.{Files, module_name}
 use Rattle.yv_lint.specs.declared.finding.Finding.{Finding}
 use Rattle.yv_lint.specs.declared.file.Question.{Question}
-use Rattle.yv_lint.specs.Asked.{Asked, asked_in}
+use Rattle.yv_lint.specs.RuleChoice.{RuleChoice, asked_in}
 use Rattle.yv_lint.specs.Findings.{findings_from, findings_in, findings_of}
 use Rattle.yv_lint.specs.InnerFiles.{findings_at_number}
 
 abbrev pub text_of : Bor (List ℕ) → List ℕ
 text_of path = path.now
 
-module _ (asked : Asked) (choice : ModuleChoice) (files : Files) where
+module _ (asked : RuleChoice) (choice : ModuleChoice) (files : Files) where
   none_left : (n : ℕ) (paths : List (List ℕ)) → findings_from asked choice files n paths [] ≡ []
   none_left n [] = refl
   none_left n (path ∷ paths) = refl

@@ -5,9 +5,9 @@ use Rattle.std.proofs.lemmas.List.Concat.{flat_map-append}
 use Rattle.yv_text_statement.specs.Tree.{Head, Forest, Then, End, Tree, count, forest, trees}
 use Rattle.yv_link_scopes.specs.Rows.{is_extended}
 use Rattle.yv_link_scopes.proofs.Listing.{forest-trees, next_of}
-use Rattle.yv_lint.specs.Asked.{asked_in}
+use Rattle.yv_lint.specs.RuleChoice.{asked_in}
 use Rattle.yv_lint.specs.Findings.{findings_at}
-use Rattle.yv_lint.specs.InnerFindings.{found, found_at}
+use Rattle.yv_lint.specs.InnerFindings.{findings_among, findings_at_places}
 use Rattle.yv_lint.specs.InnerPlaces.{IsEarlier}
 use Rattle.yv_lint.specs.InnerUses.{AreUses, KnowsBlock}
 use Rattle.yv_lint.specs.Places.{Place, place_at, places_in}
@@ -29,11 +29,11 @@ places_forest p top before (t ∷ ts) us =
     ∙ sym (append_assoc own (places_in p top now (forest ts)) (places_in p top (before ++ t ∷ ts) (forest us)))
 
 module _ (f : File) where
-  found_append : (xs ys : List Place) → found_at f (xs ++ ys) ≡ found_at f xs ++ found_at f ys
+  found_append : (xs ys : List Place) → findings_at_places f (xs ++ ys) ≡ findings_at_places f xs ++ findings_at_places f ys
   found_append xs ys = flat_map-append (findings_at (asked_in f.question.now.rules.now) f.question.now.roots.now f.number f.root.now) xs ys
 
   -- one more statement of a block
-  pub found_more : (p : Tree) (top : Bool) (ts : List Tree) (i : ℕ) (t : Tree) (old now next : List Finding) → i < length ts → t ≡ get_or ts i t → now ≡ old ++ found_at f (places_in p top [] (forest (take i ts))) → next ≡ now ++ found_at f (places_in p top (take i ts) (Then t.head t.children End)) → next ≡ old ++ found_at f (places_in p top [] (forest (take (i + 1) ts)))
+  pub found_more : (p : Tree) (top : Bool) (ts : List Tree) (i : ℕ) (t : Tree) (old now next : List Finding) → i < length ts → t ≡ get_or ts i t → now ≡ old ++ findings_at_places f (places_in p top [] (forest (take i ts))) → next ≡ now ++ findings_at_places f (places_in p top (take i ts) (Then t.head t.children End)) → next ≡ old ++ findings_at_places f (places_in p top [] (forest (take (i + 1) ts)))
   found_more p top ts i t old now next lt is e n =
       let front : List Place = places_in p top [] (forest (take i ts)) in
       let last : List Place = places_in p top (take i ts) (Then t.head t.children End) in
@@ -43,34 +43,34 @@ module _ (f : File) where
       ∙ ap (λ (u : Tree). front ++ places_in p top (take i ts) (Then u.head u.children End)) (sym is)
       in
       n
-      ∙ ap (λ xs. xs ++ found_at f last) e
-      ∙ append_assoc old (found_at f front) (found_at f last)
-      ∙ ap (λ xs. old ++ xs) (sym (found_append front last) ∙ ap (found_at f) (sym more))
+      ∙ ap (λ xs. xs ++ findings_at_places f last) e
+      ∙ append_assoc old (findings_at_places f front) (findings_at_places f last)
+      ∙ ap (λ xs. old ++ xs) (sym (found_append front last) ∙ ap (findings_at_places f) (sym more))
 
   -- all statements of a block
-  pub found_all : (p : Tree) (top : Bool) (c : Forest) (i : ℕ) (old now : List Finding) → length (trees c) ≤ i → now ≡ old ++ found_at f (places_in p top [] (forest (take i (trees c)))) → now ≡ old ++ found_at f (places_in p top [] c)
-  found_all p top c i old now le e = e ∙ ap (λ g. old ++ found_at f (places_in p top [] g)) (ap forest (take_all i (trees c) le) ∙ forest-trees c)
+  pub found_all : (p : Tree) (top : Bool) (c : Forest) (i : ℕ) (old now : List Finding) → length (trees c) ≤ i → now ≡ old ++ findings_at_places f (places_in p top [] (forest (take i (trees c)))) → now ≡ old ++ findings_at_places f (places_in p top [] c)
+  found_all p top c i old now le e = e ∙ ap (λ g. old ++ findings_at_places f (places_in p top [] g)) (ap forest (take_all i (trees c) le) ∙ forest-trees c)
 
   -- a statement, and what is below it
-  pub found_whole : (p t : Tree) (top : Bool) (before : List Tree) (old mid new : List Finding) → is_extended t.head.keyword ≡ false → mid ≡ old ++ found f all_rules (stands_at f.question.now.roots.now f.root.now (place_at p top before t)) t.head → new ≡ mid ++ found_at f (places_in t false [] t.children) → new ≡ old ++ found_at f (places_in p top before (Then t.head t.children End))
+  pub found_whole : (p t : Tree) (top : Bool) (before : List Tree) (old mid new : List Finding) → is_extended t.head.keyword ≡ false → mid ≡ old ++ findings_among f all_rules (stands_at f.question.now.roots.now f.root.now (place_at p top before t)) t.head → new ≡ mid ++ findings_at_places f (places_in t false [] t.children) → new ≡ old ++ findings_at_places f (places_in p top before (Then t.head t.children End))
   found_whole p t top before old mid new plain m n =
       let here : Place = place_at p top before t in
       let inner : List Place = places_in t false [] t.children in
-      let first : List Finding = found f all_rules (stands_at f.question.now.roots.now f.root.now here) t.head in
-      let whole : found_at f (places_in p top before (Then t.head t.children End)) ≡ first ++ found_at f inner =
-      ap (found_at f) (append-nil (cond (is_extended t.head.keyword) [] (here ∷ inner)))
-      ∙ ap (λ b. found_at f (cond b [] (here ∷ inner))) plain
+      let first : List Finding = findings_among f all_rules (stands_at f.question.now.roots.now f.root.now here) t.head in
+      let whole : findings_at_places f (places_in p top before (Then t.head t.children End)) ≡ first ++ findings_at_places f inner =
+      ap (findings_at_places f) (append-nil (cond (is_extended t.head.keyword) [] (here ∷ inner)))
+      ∙ ap (λ b. findings_at_places f (cond b [] (here ∷ inner))) plain
       in
-      n ∙ ap (λ xs. xs ++ found_at f inner) m ∙ append_assoc old first (found_at f inner) ∙ ap (λ xs. old ++ xs) (sym whole)
+      n ∙ ap (λ xs. xs ++ findings_at_places f inner) m ∙ append_assoc old first (findings_at_places f inner) ∙ ap (λ xs. old ++ xs) (sym whole)
 
   -- an extension's statement
-  pub found_bare : (p t : Tree) (top : Bool) (before : List Tree) (old : List Finding) → is_extended t.head.keyword ≡ true → old ≡ old ++ found_at f (places_in p top before (Then t.head t.children End))
+  pub found_bare : (p t : Tree) (top : Bool) (before : List Tree) (old : List Finding) → is_extended t.head.keyword ≡ true → old ≡ old ++ findings_at_places f (places_in p top before (Then t.head t.children End))
   found_bare p t top before old bare =
       let here : Place = place_at p top before t in
       let inner : List Place = places_in t false [] t.children in
-      let none : found_at f (places_in p top before (Then t.head t.children End)) ≡ [] =
-      ap (found_at f) (append-nil (cond (is_extended t.head.keyword) [] (here ∷ inner)))
-      ∙ ap (λ b. found_at f (cond b [] (here ∷ inner))) bare
+      let none : findings_at_places f (places_in p top before (Then t.head t.children End)) ≡ [] =
+      ap (findings_at_places f) (append-nil (cond (is_extended t.head.keyword) [] (here ∷ inner)))
+      ∙ ap (λ b. findings_at_places f (cond b [] (here ∷ inner))) bare
       in
       sym (append-nil old) ∙ ap (λ xs. old ++ xs) (sym none)
 

@@ -9,7 +9,7 @@ use Rattle.yv_link_scopes.specs.Files.{Files, module_name, tree_name}
 use Rattle.yv_lint.specs.declared.rule.Rule.{Rule}
 use Rattle.yv_lint.specs.declared.rule.Rule.TheVariants as rule
 use Rattle.yv_lint.specs.declared.finding.Finding.{Finding}
-use Rattle.yv_lint.specs.Asked.{Asked}
+use Rattle.yv_lint.specs.RuleChoice.{RuleChoice}
 use Rattle.yv_lint.specs.Findings.{finding_at, findings, findings_at, findings_from, findings_in, findings_of, findings_where}
 use Rattle.yv_lint.specs.Places.{Place, places_of}
 use Rattle.yv_lint.specs.Rules.{all_rules, stands_at, stands_at_root}
@@ -18,13 +18,13 @@ use Rattle.yv_lint.specs.Versions.{HaveSameVersion, differs_from, is_dated_impor
 
 -- ### of some rules
 
-abbrev every : Asked
+abbrev every : RuleChoice
 every rule = true
 
-abbrev is_asked : Asked → Finding → Bool
+abbrev is_asked : RuleChoice → Finding → Bool
 is_asked asked f = asked f.rule
 
-rules_alone : (asked : Asked) (stands : Rule → Bool) (file : ℕ) (head : Head) (rs : List Rule) → map (finding_at file head) (filter (λ r. asked r && stands r) rs) ≡ filter (is_asked asked) (map (finding_at file head) (filter stands rs))
+rules_alone : (asked : RuleChoice) (stands : Rule → Bool) (file : ℕ) (head : Head) (rs : List Rule) → map (finding_at file head) (filter (λ r. asked r && stands r) rs) ≡ filter (is_asked asked) (map (finding_at file head) (filter stands rs))
 rules_alone asked stands file head [] = refl
 rules_alone asked stands file head (r ∷ rs) = by (asked r) refl (stands r) (rules_alone asked stands file head rs)
   where
@@ -34,7 +34,7 @@ rules_alone asked stands file head (r ∷ rs) = by (asked r) refl (stands r) (ru
     by false e true h = h ∙ sym (ap (λ b. cond b (finding_at file head r ∷ filter (is_asked asked) (map (finding_at file head) (filter stands rs))) (filter (is_asked asked) (map (finding_at file head) (filter stands rs)))) e)
     by false e false h = h
 
-module _ (asked : Asked) (choice : ModuleChoice) (files : Files) where
+module _ (asked : RuleChoice) (choice : ModuleChoice) (files : Files) where
   places_alone : (file : ℕ) (root : Tree) (ps : List Place) → flat_map (findings_at asked files file root) ps ≡ filter (is_asked asked) (flat_map (findings_at every files file root) ps)
   places_alone file root [] = refl
   places_alone file root (p ∷ ps) =
@@ -69,7 +69,7 @@ module _ (asked : Asked) (choice : ModuleChoice) (files : Files) where
       ∙ ap (λ xs. filter (is_asked asked) first ++ xs) (files_alone (n + 1) paths roots)
       ∙ sym (filter-append (is_asked asked) first rest)
 
-pub all_alone : (asked : Asked) (choice : ModuleChoice) (paths : List (List ℕ)) (files : Files) → findings asked choice paths files ≡ filter (λ f. asked f.rule) (findings (λ rule. true) choice paths files)
+pub all_alone : (asked : RuleChoice) (choice : ModuleChoice) (paths : List (List ℕ)) (files : Files) → findings asked choice paths files ≡ filter (λ f. asked f.rule) (findings (λ rule. true) choice paths files)
 all_alone asked choice paths files = files_alone asked choice files 0 paths files
 
 -- ### among other files
@@ -78,7 +78,7 @@ filter_same : (p q : Rule → Bool) → ((r : Rule) → p r ≡ q r) → (rs : L
 filter_same p q h [] = refl
 filter_same p q h (r ∷ rs) = ap (λ b. cond b (r ∷ filter p rs) (filter p rs)) (h r) ∙ ap (λ xs. cond (q r) (r ∷ xs) xs) (filter_same p q h rs)
 
-module _ (asked : Asked) (files others : Files) (root : Tree) where
+module _ (asked : RuleChoice) (files others : Files) (root : Tree) where
   stands_same : (p : Place) → version_named files (tree_name p.statement) ≡ version_named others (tree_name p.statement) → (r : Rule) → stands_at files root p r ≡ stands_at others root p r
   stands_same p e rule.VersionMix = ap (λ o. cond (has_keyword word.Include p.statement) (differs_from (is_newer_file root) o) (is_dated_import p.statement && (not (is_newer_file root) && is_newer_version o))) e
   stands_same p e _ = refl
@@ -106,8 +106,8 @@ module _ (asked : Asked) (files others : Files) (root : Tree) where
   of_same : (choice : ModuleChoice) (file : ℕ) (path : List ℕ) → flat_map (findings_at asked files file root) (places_of root) ≡ flat_map (findings_at asked others file root) (places_of root) → findings_of asked choice files file path root ≡ findings_of asked choice others file path root
   of_same choice file path e = ap (λ xs. cond (is_implemented choice (module_name root)) (findings_where asked (stands_at_root path root) file root.head ++ xs) []) e
 
-pub same_versions : (asked : Asked) (choice : ModuleChoice) (files others : Files) (file : ℕ) (path : List ℕ) (root : Tree) → All (HaveSameVersion files others) (places_of root) → findings_of asked choice files file path root ≡ findings_of asked choice others file path root
+pub same_versions : (asked : RuleChoice) (choice : ModuleChoice) (files others : Files) (file : ℕ) (path : List ℕ) (root : Tree) → All (HaveSameVersion files others) (places_of root) → findings_of asked choice files file path root ≡ findings_of asked choice others file path root
 same_versions asked choice files others file path root h = of_same asked files others root choice file path (places_same asked files others root file (places_of root) h)
 
-pub without_versions : (asked : Asked) (choice : ModuleChoice) (files others : Files) (file : ℕ) (path : List ℕ) (root : Tree) → asked rule.VersionMix ≡ false → findings_of asked choice files file path root ≡ findings_of asked choice others file path root
+pub without_versions : (asked : RuleChoice) (choice : ModuleChoice) (files others : Files) (file : ℕ) (path : List ℕ) (root : Tree) → asked rule.VersionMix ≡ false → findings_of asked choice files file path root ≡ findings_of asked choice others file path root
 without_versions asked choice files others file path root e = of_same asked files others root choice file path (places_but_one asked files others root file (places_of root) e)

@@ -45,7 +45,8 @@ is_above _ _ = false
 abbrev pub number_at : Option Tree → Option ℕ
 number_at t = option_and_then (λ (s : Tree). number_of (tree_name s)) t
 
--- the statements that say how many entries there may be (RFC 7950, sections 7.7.5, 7.7.6 and 7.13.2)
+-- the statements that say how many entries there may be (RFC 7950, sections 7.7.5, 7.7.6 and
+-- 7.13.2)
 abbrev pub has_entries : Keyword → Bool
 has_entries word.List = true
 has_entries word.LeafList = true

@@ -7,8 +7,8 @@ use Rattle.yv_text_statement.specs.declared.keyword.Keyword.TheVariants as word
 use Rattle.yv_lint.specs.Statements.{keyword_at}
 use Rattle.yv_lint.specs.Places.{Place}
 
--- The group of a keyword: the header, the linkage, the meta statements, the revisions, and the body.
--- Those of extensions have none, and stand anywhere.
+-- The group of a keyword: the header, the linkage, the meta statements, the revisions, and the
+-- body. Those of extensions have none, and may be anywhere.
 abbrev pub group_of : Keyword → ℕ
 group_of word.YangVersion = 1
 group_of word.Namespace = 1

@@ -25,5 +25,9 @@ date_after date t = if has_keyword word.Revision t then Some (tree_name t) else 
 
 -- the place that a value of the code is, with the statements before it
 abbrev pub place_of : List Tree → Place → spec.Place
-place_of before p =
-    record { statement = p.statement.now; parent = p.parent.now; is_top = p.is_top; before = before }
+place_of before p = record {
+  statement = p.statement.now;
+  parent = p.parent.now;
+  is_top = p.is_top;
+  before = before;
+}

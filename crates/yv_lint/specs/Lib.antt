@@ -18,5 +18,5 @@ pub mod InnerUses
 pub mod InnerFindings
 pub mod InnerFiles
 pub mod Order
-pub mod Asked
+pub mod RuleChoice
 pub mod Findings

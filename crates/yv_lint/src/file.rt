@@ -2,7 +2,7 @@
 ghost use Rattle.std.specs.Prelude.{◌≡◌, ℕ, ◌&&◌, not, List, IfOk};
 ghost use Rattle.yv_text_statement.specs.{Tree.{Tree, Then, End}, Words.{is_among}};
 ghost use Rattle.yv_link_scopes.specs.Files.{tree_name};
-ghost use Rattle.yv_lint.specs.{Asked.{asked_in}, Definitions.{own_prefix}, Findings.{finding_at}, InnerPlaces.{IsEarlier, place_of}, InnerUsed.{has_prefix}, InnerUses.{AreUses, KnowsBlock}, InnerVersions.{version_in}, Newer.{is_too_new}, Rules.{is_unused_import, stands_at, stands_at_root}, Used.{used_prefixes}, Versions.{is_newer_file, is_newer_version, mixes_versions, version_named}};
+ghost use Rattle.yv_lint.specs.{RuleChoice.{asked_in}, Definitions.{own_prefix}, Findings.{finding_at}, InnerPlaces.{IsEarlier, place_of}, InnerUsed.{has_prefix}, InnerUses.{AreUses, KnowsBlock}, InnerVersions.{version_in}, Newer.{is_too_new}, Rules.{is_unused_import, stands_at, stands_at_root}, Used.{used_prefixes}, Versions.{is_newer_file, is_newer_version, mixes_versions, version_named}};
 
 use crate::arguments::{asks_too_many, has_anchor};
 use crate::dates::is_no_day;
@@ -31,7 +31,8 @@ pub struct Question<'a, 'b> {
     pub roots: &'a [Statement<'b>],
     /// The versions of these files.
     pub versions: Versions<'a>,
-    ghost versions_so: { (name : List ℕ) → version_in versions name ≡ version_named roots.now name },
+    ghost versions_so: { (name : List ℕ)
+        → version_in versions name ≡ version_named roots.now name },
 }
 
 /// A file, and what its statements are compared with.
@@ -98,7 +99,8 @@ impl<'a, 'b, 'c> File<'a, 'b, 'c> {
     // Whether the file is of version 1, and one that a statement names of 1.1.
     fn names_newer(&self, statement: &'a Statement<'b>) -> bool
         ensures { result ≡ (not (is_newer_file self.now.root.now)
-            && is_newer_version (version_named self.now.question.now.roots.now (tree_name statement.now))) }
+            && is_newer_version
+            (version_named self.now.question.now.roots.now (tree_name statement.now))) }
     {
         !self.is_newer && is_newer_version(self.question.versions.get(name_of(statement)))
     }

@@ -1,7 +1,7 @@
 //! The findings in files.
 ghost use Rattle.std.specs.{Prelude.{◌≡◌, ◌++◌, map, slice_get, OnOk, IfOk}, List.{All}};
 ghost use Rattle.yv_text_statement.specs.{Selection.{selected_of}, Offsets.{IsInOrder}};
-ghost use Rattle.yv_lint.specs.{Asked.{asked_in}, Findings.{findings, findings_of}, InnerFiles.{findings_at_number}, Order.{Ascend}};
+ghost use Rattle.yv_lint.specs.{RuleChoice.{asked_in}, Findings.{findings, findings_of}, InnerFiles.{findings_at_number}, Order.{Ascend}};
 
 use crate::definitions::module_name;
 use crate::file::{File, Question};

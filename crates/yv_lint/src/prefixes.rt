@@ -18,7 +18,8 @@ fn is_part(byte: u8) -> bool
     matches!(byte, b'A'..=b'Z' | b'a'..=b'z' | b'0'..=b'9' | b'_' | b'-' | b'.')
 }
 
-// Whether the arguments of statements with this keyword have names in them, or values with prefixes.
+// Whether the arguments of statements with this keyword have names in them, or values with
+// prefixes.
 fn takes_names(keyword: Keyword) -> bool
     ensures { result ≡ takes_names keyword }
 {

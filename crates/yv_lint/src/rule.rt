@@ -2,7 +2,7 @@
 ghost use Rattle.std.specs.Prelude.{◌≡◌, ◌<◌};
 ghost use Rattle.yv_lint.specs.{InnerRules.{number}, Rules.{name_of}};
 
-/// What a finding is about.
+/// A rule: what a finding is about.
 #[derive(Clone, Copy, PartialEq, Eq, Debug)]
 pub enum Rule {
     FileName,

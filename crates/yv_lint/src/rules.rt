@@ -1,6 +1,6 @@
 //! Sets of rules.
 ghost use Rattle.std.specs.{Prelude.{◌≡◌, IsTrue, IfSome, is_some}, List.{list_any}, Str.{bytes_eq}};
-ghost use Rattle.yv_lint.specs.{declared.rule.Rule.{Rule}, Asked.{asked_in}, Rules.{name_of}, RuleNames.{are_names, is_name, is_named}};
+ghost use Rattle.yv_lint.specs.{declared.rule.Rule.{Rule}, RuleChoice.{asked_in}, Rules.{name_of}, RuleNames.{are_names, is_name, is_named}};
 
 use crate::rule::{COUNT, RULES, Rule};
 

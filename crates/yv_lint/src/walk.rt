@@ -1,7 +1,7 @@
 //! The findings in a file, in the order of its text.
 ghost use Rattle.std.specs.Prelude.{◌≡◌, ◌++◌, List, [], OnOk};
 ghost use Rattle.yv_text_statement.specs.Tree.{Tree, Then, End};
-ghost use Rattle.yv_lint.specs.{Asked.{asked_in}, Definitions.{own_prefix}, Findings.{findings_in}, InnerPlaces.{IsEarlier, place_of}, InnerUses.{AreUses, KnowsBlock}, Places.{places_in, places_of}, Rules.{stands_at, stands_at_root}};
+ghost use Rattle.yv_lint.specs.{RuleChoice.{asked_in}, Definitions.{own_prefix}, Findings.{findings_in}, InnerPlaces.{IsEarlier, place_of}, InnerUses.{AreUses, KnowsBlock}, Places.{places_in, places_of}, Rules.{stands_at, stands_at_root}};
 
 use crate::file::{File, finding_at};
 use crate::finding::Finding;
@@ -12,7 +12,7 @@ use std::alloc::AllocError;
 use yv_text_statement::Statement;
 
 impl<'a, 'b, 'c> File<'a, 'b, 'c> {
-    ghost use Rattle.yv_lint.specs.InnerFindings.{found, found_at};
+    ghost use Rattle.yv_lint.specs.InnerFindings.{findings_among, findings_at_places};
 
     // Adds those of these rules that are asked and stand at a place.
     fn add_those(
@@ -24,8 +24,10 @@ impl<'a, 'b, 'c> File<'a, 'b, 'c> {
         requires { KnowsBlock (own_prefix self.now.root.now) self.now.uses place.now.start
             place.now.end place.now.parent.now.children }
         ensures { (before : List Tree) → IsEarlier before place.now.earlier
-            → OnOk result (findings.new.items ≡ findings.old.items ++ found self.now rules.now
-            (stands_at self.now.question.now.roots.now self.now.root.now (place_of before place.now))
+            → OnOk result (findings.new.items ≡ findings.old.items
+            ++ findings_among self.now rules.now
+            (stands_at self.now.question.now.roots.now self.now.root.now
+            (place_of before place.now))
             place.now.statement.now.head) }
     {
         for rule in rules {
@@ -43,7 +45,8 @@ impl<'a, 'b, 'c> File<'a, 'b, 'c> {
         path: &str,
         findings: &mut Vec<Finding>,
     ) -> Result<(), AllocError>
-        ensures { OnOk result (findings.new.items ≡ findings.old.items ++ found self.now rules.now
+        ensures { OnOk result (findings.new.items ≡ findings.old.items
+            ++ findings_among self.now rules.now
             (stands_at_root path.now self.now.root.now) self.now.root.now.head) }
     {
         for rule in rules {
@@ -66,7 +69,7 @@ impl<'a, 'b, 'c> File<'a, 'b, 'c> {
         requires number { AreUses (own_prefix self.now.root.now) self.now.uses number
             (Then place.now.statement.now.head place.now.statement.now.children End) }
         ensures { (before : List Tree) → IsEarlier before place.now.earlier
-            → OnOk result (findings.new.items ≡ findings.old.items ++ found_at self.now
+            → OnOk result (findings.new.items ≡ findings.old.items ++ findings_at_places self.now
             (places_in place.now.parent.now place.now.is_top before
             (Then place.now.statement.now.head place.now.statement.now.children End))) }
     {
@@ -98,7 +101,7 @@ impl<'a, 'b, 'c> File<'a, 'b, 'c> {
     // Adds the findings below the root.
     fn add_block(&self, findings: &mut Vec<Finding>) -> Result<(), AllocError>
         ensures { OnOk result (findings.new.items ≡ findings.old.items
-            ++ found_at self.now (places_of self.now.root.now)) }
+            ++ findings_at_places self.now (places_of self.now.root.now)) }
     {
         let parent = self.root;
         let end = self.uses.end(0);
@@ -123,8 +126,8 @@ impl<'a, 'b, 'c> File<'a, 'b, 'c> {
     /// Adds the findings in the file, which has this path.
     pub fn add_all(&self, path: &str, findings: &mut Vec<Finding>) -> Result<(), AllocError>
         ensures { OnOk result (findings.new.items ≡ findings.old.items
-            ++ findings_in (asked_in self.now.question.now.rules.now) self.now.question.now.roots.now
-            self.now.number path.now self.now.root.now) }
+            ++ findings_in (asked_in self.now.question.now.rules.now)
+            self.now.question.now.roots.now self.now.number path.now self.now.root.now) }
     {
         self.add_those_at_root(&RULES, path, findings)?;
         self.add_block(findings)

@@ -2,7 +2,7 @@ use Rattle.std.proofs.Common.{◌++◌, sym, ◌∙◌, ap}
 use Rattle.std.proofs.lemmas.List.{append-nil}
 use Rattle.yv_text_statement.specs.Selection.{selected_of}
 use Rattle.yv_link_scopes.proofs.Keywords.{on_ok}
-use Rattle.yv_lint.specs.Asked.{asked_in}
+use Rattle.yv_lint.specs.RuleChoice.{asked_in}
 use Rattle.yv_lint.specs.InnerFiles.{findings_at_number}
 use Rattle.yv_lint.proofs.FileLists.{absent, present}
 use Rattle.yv_lint.proofs.findings.add_number.Goals as goal

@@ -1,6 +1,6 @@
 use Rattle.std.proofs.Common.{◌≡◌, map, sym, subst}
 use Rattle.yv_text_statement.specs.Selection.{selected_of}
-use Rattle.yv_lint.specs.Asked.{asked_in}
+use Rattle.yv_lint.specs.RuleChoice.{asked_in}
 use Rattle.yv_lint.specs.Findings.{findings}
 use Rattle.yv_lint.specs.Order.{Ascend}
 use Rattle.yv_lint.proofs.AscendingFindings.{findings_ascend}

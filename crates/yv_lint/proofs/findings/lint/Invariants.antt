@@ -1,6 +1,6 @@
 use Rattle.std.proofs.Common.{◌≡◌, ◌++◌, drop, map}
 use Rattle.yv_text_statement.specs.Selection.{selected_of}
-use Rattle.yv_lint.specs.Asked.{asked_in}
+use Rattle.yv_lint.specs.RuleChoice.{asked_in}
 use Rattle.yv_lint.specs.Findings.{findings, findings_from}
 use Rattle.yv_lint.proofs.findings.lint.Given as goal
 
