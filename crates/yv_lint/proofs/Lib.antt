@@ -1,0 +1,13 @@
+pub mod AscendingFindings
+pub mod Cuts
+pub mod EarlierStatements
+pub mod FileLists
+pub mod KnownUses
+pub mod NumberedUses
+pub mod Numbers
+pub mod Pieces
+pub mod PlaceLists
+pub mod PrefixSets
+pub mod SameFindings
+pub mod UseSets
+pub mod VersionTable
