@@ -11,7 +11,7 @@ ghost use Rattle.yv_validate.specs.{Faults.{faults, faults_at}, Size.{size}};
 ghost use Rattle.yv_json_lines.specs.Pointer.{pointer_text};
 ghost use Rattle.yv_json_laws.specs.{Example.{document, other_texts, pointers, values}, Faulty.{found_at, is_at_choice, may_be_missing}, Resolution.{name_of, value_at}};
 
-/// Pointers are taken apart as in the examples of RFC 6901 (sections 4 and 5).
+/// Pointers lead as in the examples of RFC 6901 (sections 4 and 5).
 pub fn pointers_lead_as_in_rfc_6901()
     // The pointers of the example lead to what it says.
     ensures values { map (λ p. value_at p document) pointers ≡ map (λ v. Some v) values }

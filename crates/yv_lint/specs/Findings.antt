@@ -10,7 +10,7 @@ use Rattle.yv_lint.specs.RuleChoice.{RuleChoice}
 use Rattle.yv_lint.specs.Places.{Place, places_of}
 use Rattle.yv_lint.specs.Rules.{all_rules, stands_at, stands_at_root}
 
--- a rule stands at the statement of a numbered file with this head
+-- the finding of a rule at the statement of a numbered file with this head
 abbrev pub finding_at : ℕ → Head → Rule → Finding
 finding_at file head rule =
     record { file = file; offset = head.offset; line = head.line; rule = rule }

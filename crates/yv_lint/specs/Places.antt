@@ -1,4 +1,4 @@
--- The statements of a file, each with where it stands.
+-- The statements of a file, each with its place.
 use Rattle.std.specs.Prelude.{Bool, true, false, List, [], ◌∷◌, ◌++◌, if◌then◌else◌}
 use Rattle.yv_text_statement.specs.Tree.{Tree, Forest, Then, End}
 use Rattle.yv_link_scopes.specs.Rows.{is_extended}

@@ -81,14 +81,14 @@ abbrev pub is_unused_import : Tree → Tree → Bool
 is_unused_import root t =
     has_keyword word.Import t && not (is_among (used_prefixes root) (child_name word.Prefix t))
 
--- a rule about a file as a whole stands at its root; the file has this path
+-- a rule about a file as a whole finds something at its root; the file has this path
 abbrev pub stands_at_root : List ℕ → Tree → Rule → Bool
 stands_at_root path root rule.FileName = is_misnamed path root
 stands_at_root path root rule.NoRevision = not (has_child word.Revision root)
 stands_at_root path root rule.IncompleteHeader = lacks_header root
 stands_at_root path root _ = false
 
--- a rule stands at a place in the file with this root, which is one of these files
+-- a rule finds something at a place in the file with this root, which is one of these files
 abbrev pub stands_at : Files → Tree → Place → Rule → Bool
 stands_at files root p rule.StatementOrder = is_out_of_order p
 stands_at files root p rule.UnusedImport = is_unused_import root p.statement

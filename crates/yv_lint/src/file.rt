@@ -49,7 +49,7 @@ pub struct File<'a, 'b, 'c> {
     ghost uses_so: { AreUses (own_prefix root.now) uses 0 (Then root.now.head root.now.children End) },
 }
 
-/// A rule that stands at a statement of a numbered file.
+/// The finding of a rule at a statement of a numbered file.
 pub fn finding_at(file: usize, statement: &Statement<'_>, rule: Rule) -> Finding
     ensures { result ≡ finding_at file statement.now.head rule }
 {
@@ -132,7 +132,7 @@ impl<'a, 'b, 'c> File<'a, 'b, 'c> {
         self.question.rules.has(rule)
     }
 
-    /// Whether a rule stands at a place.
+    /// Whether a rule finds something at a place.
     pub fn stands(&self, place: &Place<'a, 'b>, rule: Rule) -> bool
         requires { KnowsBlock (own_prefix self.now.root.now) self.now.uses place.now.start
             place.now.end place.now.parent.now.children }
@@ -156,7 +156,7 @@ impl<'a, 'b, 'c> File<'a, 'b, 'c> {
         }
     }
 
-    /// Whether a rule stands at the root; the file has this path.
+    /// Whether a rule finds something at the root; the file has this path.
     pub fn stands_at_root(&self, path: &str, rule: Rule) -> bool
         ensures { result ≡ stands_at_root path.now self.now.root.now rule }
     {

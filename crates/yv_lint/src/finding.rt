@@ -1,7 +1,7 @@
 //! Findings.
 use crate::rule::Rule;
 
-/// A finding: a rule that stands at a statement of a file.
+/// A finding: a rule that finds something to mend at a statement of a file.
 #[derive(Clone, Copy, PartialEq, Eq, Debug)]
 pub struct Finding {
     /// The number of the file.
