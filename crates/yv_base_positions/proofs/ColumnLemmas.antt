@@ -12,7 +12,7 @@ apart : (b : ℕ) (is : Bool) → (b == 10) ≡ is → (is ≡ true → ⊥) →
 apart b true e h = absurd (h refl)
 apart b false e h = refl
 
-other : (xs : List ℕ) (n k : ℕ) → Nowhere (Passes (is_byte 10) xs) n (length xs) → n ≤ k → k < length xs → is_in_line (get_or xs k 0) ≡ true
+pub other : (xs : List ℕ) (n k : ℕ) → Nowhere (Passes (is_byte 10) xs) n (length xs) → n ≤ k → k < length xs → is_in_line (get_or xs k 0) ≡ true
 other xs n k h low high = apart (get_or xs k 0) (get_or xs k 0 == 10) refl (h k low high)
 
 pub after_last : (xs : List ℕ) (at : ℕ) (r : Option ℕ) → r ≡ Some at → IsLastByte (is_byte 10) xs r → suffix_len is_in_line xs ≡ length xs - (at + 1)

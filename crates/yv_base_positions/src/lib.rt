@@ -2,6 +2,8 @@
 #![tactic(auto)]
 
 mod column;
+mod columns;
 pub mod laws;
 
 pub use column::column_of;
+pub use columns::columns_of;
