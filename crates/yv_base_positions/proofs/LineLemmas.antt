@@ -9,7 +9,7 @@ use Rattle.std.proofs.lemmas.List.{get_or-drop, get_or-take, length-take-le, tak
 use Rattle.std.proofs.lemmas.List.Sums.{suffix_len_is}
 use Rattle.memchr.specs.Find.{IsLastByte, Nowhere, Passes, is_byte}
 use Rattle.yv_base_positions.specs.Column.{column, is_in_line}
-use Rattle.yv_base_positions.specs.InnerLine.{IsLineStart}
+use Rattle.yv_base_positions.specs.LineStart.{IsLineStart}
 use Rattle.yv_base_positions.proofs.ColumnLemmas.{other}
 
 module _ (bytes : List ℕ) where

@@ -1,2 +1,2 @@
 pub mod Column
-pub mod InnerLine
+pub mod LineStart

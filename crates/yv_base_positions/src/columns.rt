@@ -1,56 +1,49 @@
-//! Columns of many offsets of a file.
-ghost use Rattle.std.specs.Prelude.{◌≡◌, ◌≤◌, ◌+◌, ◌-◌, length, map, IfOk};
-ghost use Rattle.yv_base_positions.specs.{Column.{column}, InnerLine.{IsLineStart}};
+//! Columns of many offsets of a text.
+ghost use Rattle.std.specs.Prelude.{◌≡◌, ◌≤◌, ◌+◌, ◌-◌, length};
+ghost use Rattle.yv_base_positions.specs.{Column.{column}, LineStart.{IsLineStart}};
 
 use memchr::memrchr;
-use std::alloc::{AllocError, Global};
 
-/// The columns of these offsets, in bytes from 1. If no offset is less than the one before it, this
-/// takes time in proportion to the text and the number of offsets, however long the lines are. For
-/// each offset that is less, it takes up to the time of the text once more.
-pub fn columns_of(alloc: Global, bytes: &[u8], offsets: &[u64]) -> Result<Vec<u64>, AllocError>
-    // They are the columns of the offsets, in the order of these.
-    ensures { IfOk result (λ v. v.items ≡ map (λ o. column bytes.now o) offsets.now) }
-{
-    let mut columns = Vec::with_capacity(alloc, offsets.len())?;
-    let mut place = BEGINNING;
-    for offset in offsets {
-        place = place_of(bytes, place, *offset);
-        columns.push((1 + place.offset - place.line_start) as u64)?;
-    }
-    Ok(columns)
+/// A place in a text. Both are offsets in bytes. Its column, in bytes from 1, is one more than what
+/// is between them.
+#[derive(Clone, Copy, PartialEq, Eq, Debug)]
+pub struct LinePlace {
+    /// The place, at most the length of the text.
+    pub offset: usize,
+    /// Where its line begins.
+    pub line_start: usize,
 }
 
-// An offset of a text, at most its length, and where the line of the offset begins.
-#[derive(Clone, Copy)]
-struct Place {
-    offset: usize,
-    line_start: usize,
+impl LinePlace {
+    /// The beginning of a text.
+    pub const BEGINNING: LinePlace = LinePlace {
+        offset: 0,
+        line_start: 0,
+    };
 }
 
-const BEGINNING: Place = Place {
-    offset: 0,
-    line_start: 0,
-};
-
-// The place of an offset. It is looked for from an earlier place, or from the beginning if this
-// one is later.
-fn place_of(bytes: &[u8], earlier: Place, offset: u64) -> Place
+/// The place of an offset, or the end of the text if that comes first. It is looked for from an
+/// earlier place, so that the places of many offsets that ascend take one pass over the text,
+/// however long its lines are. If the other place is later, it is looked for from the beginning.
+pub fn place_of(bytes: &[u8], earlier: LinePlace, offset: u64) -> LinePlace
+    // The earlier place is one of this text.
     requires { IsLineStart bytes.now earlier.offset earlier.line_start }
+    // So is the place.
     ensures place { IsLineStart bytes.now result.offset result.line_start }
+    // Its column is that of the offset.
     ensures column { 1 + result.offset - result.line_start ≡ column bytes.now offset }
 {
     let offset = (offset as usize).min(bytes.len());
     let line_start = if earlier.offset <= offset {
         line_start_from(bytes, earlier, offset)
     } else {
-        line_start_from(bytes, BEGINNING, offset)
+        line_start_from(bytes, LinePlace::BEGINNING, offset)
     };
-    Place { offset, line_start }
+    LinePlace { offset, line_start }
 }
 
 // Where the line of an offset begins. Only the bytes from the earlier place to the offset are read.
-fn line_start_from(bytes: &[u8], earlier: Place, offset: usize) -> usize
+fn line_start_from(bytes: &[u8], earlier: LinePlace, offset: usize) -> usize
     requires place { IsLineStart bytes.now earlier.offset earlier.line_start }
     requires order { earlier.offset ≤ offset }
     requires within { offset ≤ length bytes.now }

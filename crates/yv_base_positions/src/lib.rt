@@ -6,4 +6,4 @@ mod columns;
 pub mod laws;
 
 pub use column::column_of;
-pub use columns::columns_of;
+pub use columns::{LinePlace, place_of};

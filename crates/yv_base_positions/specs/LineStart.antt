@@ -1,4 +1,4 @@
--- Only private clauses cite this: where the line of an offset begins, byte by byte.
+-- Where the line of an offset begins.
 use Rattle.std.specs.Prelude.{ℕ, ◌≡◌, ◌<◌, ◌≤◌, ◌-◌, List, length, get_or, true, false}
 use Rattle.yv_base_positions.specs.Column.{is_in_line}
 
