@@ -1,7 +1,7 @@
 //! The plan that a request comes to when its files are read.
 ghost use Rattle.std.specs.Prelude.{◌≡◌, length, map, string_bytes, IfOk};
 ghost use Rattle.yv_base_streams.specs.Files.{file_of};
-ghost use Rattle.yv_job.specs.{Jobs.{HasLimit}, Requests.{IsLimited}};
+ghost use Rattle.yv_job.specs.Requests.{IsLimited};
 ghost use Rattle.yv_search.specs.PlainJob.{IsImportOnly};
 ghost use Rattle.yangcheck.specs.{InnerBatch.{kind_of}, InnerPlans.{IsFor}};
 ghost use Rattle.yv_text_statement.specs.Selection.{selected_of};
@@ -11,6 +11,7 @@ use std::collections::VecDeque;
 use yv_base_streams::Input;
 use yv_batch::SourceKind;
 use yv_job::{Action, Command, Each, FolderSearch, Job, OutputForm, Request};
+use yv_lint::Rules;
 use yv_search::{files_text, import_only};
 use yv_text_statement::Selection;
 
@@ -107,13 +108,23 @@ fn kind_of(each: Option<Each>) -> SourceKind
     }
 }
 
+/// What is done with the files of a job.
+#[derive(Drop)]
+pub(crate) enum Work {
+    /// What its command says.
+    Run,
+    /// They are compiled, and then the documents of these sources are checked.
+    ValidateAll(Batch),
+    /// They are compiled, and then the findings of these rules are listed in the first files, as
+    /// many as were named.
+    Lint(Rules, usize),
+}
+
 /// The plan for a request whose files were read.
 #[derive(Drop)]
 pub(crate) enum Plan {
-    /// To run this job over the files.
-    Run(Job),
-    /// To compile the files of this job, and to check the documents of these sources.
-    RunAll(Job, Batch),
+    /// To do this with the files of a job.
+    Do(Job, Work),
     /// To print this text, which shows the files.
     Print(String),
 }
@@ -136,12 +147,13 @@ pub(crate) fn plan_of(alloc: Global, request: Request, files: &[Input]) -> Resul
         files: named_files,
     } = request;
     let named = named_files.len();
-    let (command, batch) = match action {
-        Action::Run(command) => (command, None),
+    let (command, work) = match action {
+        Action::Run(command) => (command, Work::Run),
         Action::ValidateAll(sources) => {
             let batch = Batch::new(each, output.form, sources);
-            (Command::Compile, Some(batch))
+            (Command::Compile, Work::ValidateAll(batch))
         }
+        Action::Lint(rules) => (Command::Compile, Work::Lint(rules, named)),
         Action::Files => {
             let text = files_text(alloc, files, named, selection.import_only.as_slice())?;
             return Ok(Plan::Print(text));
@@ -158,16 +170,5 @@ pub(crate) fn plan_of(alloc: Global, request: Request, files: &[Input]) -> Resul
         output,
         search,
     };
-    Ok(plan_for(job, batch))
-}
-
-// The plan to run a job, over the documents of these sources where there are some.
-fn plan_for(job: Job, batch: Option<Batch>) -> Plan
-    requires { HasLimit job }
-    ensures { IsFor (length job.files.items) result }
-{
-    match batch {
-        Some(batch) => Plan::RunAll(job, batch),
-        None => Plan::Run(job),
-    }
+    Ok(Plan::Do(job, work))
 }

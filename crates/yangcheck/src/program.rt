@@ -5,7 +5,7 @@ ghost use Rattle.yv_job.specs.{Jobs.{HasFiles, HasLimit}, Requests.{IsLimited}};
 
 use crate::documents::{SourceReader, SystemStore};
 use crate::notes::{ErrorNotes, NotedDocuments, note_count};
-use crate::plan::{Batch, Plan, plan_of};
+use crate::plan::{Batch, Plan, Work, plan_of};
 use crate::search::find_files;
 use crate::stop::{Stop, read_failure};
 use std::alloc::{AllocError, Global};
@@ -21,7 +21,7 @@ use yv_folders::ErrorReader;
 use yv_job::{Command, Job, JobFault, Request, read_request};
 use yv_note_selection::selection_lines;
 use yv_note_text::push_shown;
-use yv_run::{NoteSink, RunEnd, Status, run_all, run_with_note};
+use yv_run::{NoteSink, RunEnd, Status, run_all, run_lint, run_with_note};
 
 /// Does what the process's arguments ask for, and answers its exit status.
 pub fn program<R: Env + Files + io::Input + Print + Eprint + AllocGlobal + Clone + Drop>(
@@ -125,18 +125,35 @@ fn do_request<R: Files + io::Input + Print + Eprint + AllocGlobal + Clone + Drop
     };
     let files = files.as_slice();
     match plan_of(rt.alloc(), request, files) {
-        Ok(Plan::Run(job)) => {
-            let exit = end_run(rt, run_files(rt, &job, files));
-            show_selection(rt, &job, files);
-            exit
-        }
-        Ok(Plan::RunAll(job, batch)) => {
-            let exit = run_batch(rt, &job, batch, files);
+        Ok(Plan::Do(job, work)) => {
+            let exit = do_work(rt, &job, work, files);
             show_selection(rt, &job, files);
             exit
         }
         Ok(Plan::Print(text)) => print_text(rt, text.as_str()),
         Err(_) => print_stop(rt, Status::NoMemory),
+    }
+}
+
+// Does this with the files of a job, and answers the exit status.
+fn do_work<R: Files + io::Input + Print + Eprint + AllocGlobal + Clone + Drop>(
+    rt: &R,
+    job: &Job,
+    work: Work,
+    inputs: &[Input],
+) -> u8
+    requires files { HasFiles job.now }
+    requires limit { HasLimit job.now }
+    requires each { length inputs.now ≡ length job.now.files.items }
+{
+    match work {
+        Work::Run => end_run(rt, run_files(rt, job, inputs)),
+        Work::ValidateAll(batch) => run_batch(rt, job, batch, inputs),
+        Work::Lint(rules, named) => {
+            let mut writer = Counted::new(io::writer(rt));
+            let ended = run_lint(rt.alloc(), job, inputs, &rules, named, &mut writer);
+            end_run(rt, ended)
+        }
     }
 }
 

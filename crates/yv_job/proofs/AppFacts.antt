@@ -5,9 +5,10 @@ use Rattle.clap.specs.declared.parser.matches.ArgMatches.{ArgMatches}
 use Rattle.clap.specs.declared.error.Error.{Error}
 use Rattle.clap.proofs.OnLiterals.{clap_on_literals}
 use Rattle.yv_job.specs.CommandLine.{yangcheck_app}
-use Rattle.yv_job.specs.Asks.{IsAsked}
+use Rattle.yv_job.specs.Asks.{IsAsked, IsRulesFor}
 use Rattle.yv_job.specs.Jobs.{Compiles, Draws, Checks}
-use Rattle.yv_job.specs.Requests.{ActionAsked, Lists, Does, ChecksAll}
+use Rattle.yv_job.specs.Requests.{ActionAsked, Lists, Does, ChecksAll, Lints}
+use Rattle.yv_lint.specs.declared.rule.Rule.{Rule}
 use Rattle.yv_job.specs.declared.job.OutputForm.{OutputForm}
 use Rattle.yv_job.specs.declared.request.Each.{Each}
 
@@ -39,3 +40,14 @@ no_module name rows each o e f (Does Compiles) h = let g : codes "compile" ≡ c
 no_module name rows each o e f (Does (Draws m)) h = let g : None ≡ Some m = f ∙ h.1 in cc
 no_module name rows each o e f (Does (Checks d)) h = let g : codes "validate" ≡ codes "tree" = sym h.0 ∙ e in cc
 no_module name rows each o e f (ChecksAll ds) h = let g : codes "validate" ≡ codes "tree" = sym h.0 ∙ e in cc
+no_module name rows each o e f (Lints rs) h = let g : codes "lint" ≡ codes "tree" = sym h.0 ∙ e in cc
+
+-- nor is `lint` with what names no rules
+pub no_rules : (name : Text) (rows : List Row) (each : Option Each) (o : OutputForm) → name ≡ codes "lint" → ((rs : List Rule) → IsRulesFor (first_of (codes "rules") rows) rs → ⊥)
+    → (a : ActionAsked) → IsAsked name rows each o a → ⊥
+no_rules name rows each o e f Lists h = let g : codes "files" ≡ codes "lint" = sym h ∙ e in cc
+no_rules name rows each o e f (Does Compiles) h = let g : codes "compile" ≡ codes "lint" = sym h ∙ e in cc
+no_rules name rows each o e f (Does (Draws m)) h = let g : codes "tree" ≡ codes "lint" = sym h.0 ∙ e in cc
+no_rules name rows each o e f (Does (Checks d)) h = let g : codes "validate" ≡ codes "lint" = sym h.0 ∙ e in cc
+no_rules name rows each o e f (ChecksAll ds) h = let g : codes "validate" ≡ codes "lint" = sym h.0 ∙ e in cc
+no_rules name rows each o e f (Lints rs) h = f rs h.1

@@ -6,15 +6,16 @@ use Rattle.std.proofs.lemmas.List.Elements.{recursion_from_All}
 use Rattle.std.proofs.lemmas.List.Splits.{slice_split_at}
 use Rattle.std.proofs.Math.Dec.{eqb}
 use Rattle.clap.specs.Words.{Text, Row, subcommand_of}
-use Rattle.yv_job.specs.Asks.{IsCommand, IsAsked, AreSources, data_of, each_word, IsEachFor, IsFormFor, IsFlag, IsOutput, IsLimit, IsExplainFor, IsSupportFor, IsImportsFor, IsKindFor, IsChoice, IsFiles, Asks, AsksIn, WordsAsk}
+use Rattle.yv_job.specs.Asks.{IsCommand, IsAsked, IsRulesFor, AreSources, data_of, each_word, IsEachFor, IsFormFor, IsFlag, IsOutput, IsLimit, IsExplainFor, IsSupportFor, IsImportsFor, IsKindFor, IsChoice, IsFiles, Asks, AsksIn, WordsAsk}
 use Rattle.yv_job.specs.CommandLine.{yangcheck_app}
 use Rattle.yv_job.specs.Jobs.{CommandAsked, Compiles, Draws, Checks}
-use Rattle.yv_job.specs.Requests.{ActionAsked, Lists, Does, ChecksAll, RequestAsked}
+use Rattle.yv_job.specs.Requests.{ActionAsked, Lists, Does, ChecksAll, Lints, RequestAsked}
 use Rattle.yv_job.specs.declared.job.OutputForm.{OutputForm}
 use Rattle.yv_job.specs.declared.job.OutputForm.TheVariants as form
 use Rattle.yv_job.specs.declared.job.OutputOptions.{OutputOptions}
 use Rattle.yv_job.specs.declared.request.Each.{Each}
 use Rattle.yv_job.specs.declared.request.Each.TheVariants as each
+use Rattle.yv_lint.specs.declared.rule.Rule.{Rule}
 use Rattle.yv_text_statement.specs.Selection.{ModuleChoice, Entry}
 use Rattle.yv_text_statement.specs.declared.document_kind.Kind.{Kind}
 use Rattle.yv_text_statement.specs.declared.document_kind.Kind.TheVariants.{All, ConfigOnly}
@@ -38,6 +39,16 @@ not_files name rows e o Compiles is h = let f : codes "compile" ≡ codes "files
 not_files name rows e o (Draws m) is h = let f : codes "tree" ≡ codes "files" = sym h.0 ∙ is in cc
 not_files name rows e o (Checks d) is h = let f : codes "validate" ≡ codes "files" = sym h.0 ∙ is in cc
 
+-- and the command `lint` is no other
+not_lint : (name : Text) (rows : List Row) (e : Option Each) (o : OutputForm) (c : CommandAsked) → name ≡ codes "lint" → IsCommand name rows e o c → ⊥
+not_lint name rows e o Compiles is h = let f : codes "compile" ≡ codes "lint" = sym h ∙ is in cc
+not_lint name rows e o (Draws m) is h = let f : codes "tree" ≡ codes "lint" = sym h.0 ∙ is in cc
+not_lint name rows e o (Checks d) is h = let f : codes "validate" ≡ codes "lint" = sym h.0 ∙ is in cc
+
+same_rules : (t : Option Text) (rs ss : List Rule) → IsRulesFor t rs → IsRulesFor t ss → rs ≡ ss
+same_rules None rs ss h i = h ∙ sym i
+same_rules (Some t) rs ss h i = h.1 ∙ sym i.1
+
 -- one document of which nothing else was said is not several
 not_several : (rows : List Row) (e : Option Each) (o : OutputForm) (d : Text) (sources : List Text) → data_of rows ≡ Some (d ∷ []) → e ≡ None → o ≡ form.Text → AreSources rows e o sources → ⊥
 not_several rows e o d sources is plain text h =
@@ -59,6 +70,13 @@ same_asked : (name : Text) (rows : List Row) (e : Option Each) (o : OutputForm) 
 same_asked name rows e o Lists Lists h i = refl
 same_asked name rows e o Lists (Does c) h i = absurd (not_files name rows e o c h i)
 same_asked name rows e o Lists (ChecksAll ds) h i = let f : codes "files" ≡ codes "validate" = sym h ∙ i.0 in cc
+same_asked name rows e o Lists (Lints rs) h i = let f : codes "files" ≡ codes "lint" = sym h ∙ i.0 in cc
+same_asked name rows e o (Does c) (Lints rs) h i = absurd (not_lint name rows e o c i.0 h)
+same_asked name rows e o (ChecksAll ds) (Lints rs) h i = let f : codes "validate" ≡ codes "lint" = sym h.0 ∙ i.0 in cc
+same_asked name rows e o (Lints rs) Lists h i = let f : codes "files" ≡ codes "lint" = sym i ∙ h.0 in cc
+same_asked name rows e o (Lints rs) (Does c) h i = absurd (not_lint name rows e o c h.0 i)
+same_asked name rows e o (Lints rs) (ChecksAll ds) h i = let f : codes "validate" ≡ codes "lint" = sym i.0 ∙ h.0 in cc
+same_asked name rows e o (Lints rs) (Lints ss) h i = ap (λ (x : List Rule). Lints x) (same_rules _ rs ss h.1 i.1)
 same_asked name rows e o (Does c) Lists h i = absurd (not_files name rows e o c i h)
 same_asked name rows e o (Does c) (Does d) h i = ap (λ x. Does x) (same_command name rows e o c d h i)
 same_asked name rows e o (Does c) (ChecksAll ds) h i = absurd (not_one name rows e o c ds h i.0 i.1)

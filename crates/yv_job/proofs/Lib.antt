@@ -2,3 +2,4 @@ pub mod AppFacts
 pub mod NameLemmas
 pub mod AskLemmas
 pub mod FaultLemmas
+pub mod RuleLemmas

@@ -1,15 +1,19 @@
 -- What the words of a command line ask for. The first word is the program's name.
-use Rattle.std.specs.Prelude.{◌≡◌, ◌≤◌, ◌⊎◌, ◌∷◌, ℕ, List, [], Bool, true, false, Option, Some, None, IsSome, codes, length}
+use Rattle.std.specs.Prelude.{◌≡◌, ◌≤◌, ◌⊎◌, ◌∷◌, ℕ, List, [], Bool, true, false, IsTrue, Option, Some, None, IsSome, codes, length}
+use Rattle.std.specs.List.{filter}
 use Rattle.std.specs.Option.{unwrap_or}
 use Rattle.std.specs.Str.Parse.{IsNumeral, digits_value}
 use Rattle.clap.specs.Words.{Text, Row, all_of, first_of, fault_of, subcommand_of}
 use Rattle.yv_job.specs.Jobs.{CommandAsked, Compiles, Draws, Checks}
-use Rattle.yv_job.specs.Requests.{ActionAsked, Lists, Does, ChecksAll, RequestAsked}
+use Rattle.yv_job.specs.Requests.{ActionAsked, Lists, Does, ChecksAll, Lints, RequestAsked}
 use Rattle.yv_job.specs.declared.job.OutputForm.{OutputForm}
 use Rattle.yv_job.specs.declared.job.OutputForm.TheVariants as form
 use Rattle.yv_job.specs.declared.job.OutputOptions.{OutputOptions}
 use Rattle.yv_job.specs.declared.request.Each.{Each}
 use Rattle.yv_job.specs.declared.request.Each.TheVariants as each
+use Rattle.yv_lint.specs.RuleNames.{are_names, is_named}
+use Rattle.yv_lint.specs.Rules.{all_rules}
+use Rattle.yv_lint.specs.declared.rule.Rule.{Rule}
 use Rattle.yv_text_statement.specs.Selection.{ModuleChoice, Entry}
 use Rattle.yv_text_statement.specs.declared.document_kind.Kind.{Kind}
 use Rattle.yv_text_statement.specs.declared.document_kind.Kind.TheVariants.{All, ConfigOnly}
@@ -37,12 +41,21 @@ pub record AreSources (rows : List Row) (each : Option Each) (f : OutputForm)
   pub some : 1 ≤ length sources
   pub many : (2 ≤ length sources) ⊎ (IsSome each ⊎ (f ≡ form.Json))
 
--- it does that, or checks all documents of sources, or shows which files there are
+-- the rules are those that the text names, each name being one of a rule, and all where there is no
+-- text
+abbrev pub IsRulesFor : Option Text → List Rule → Type 0
+IsRulesFor None rules = rules ≡ all_rules
+IsRulesFor (Some t) rules = IsTrue (are_names t) × (rules ≡ filter (is_named t) all_rules)
+
+-- it does that, or checks all documents of sources, or lists findings of the rules of `--rules`, or
+-- shows which files there are
 abbrev pub IsAsked : Text → List Row → Option Each → OutputForm → ActionAsked → Type 0
 IsAsked name rows each f Lists = name ≡ codes "files"
 IsAsked name rows each f (Does c) = IsCommand name rows each f c
 IsAsked name rows each f (ChecksAll sources) =
     (name ≡ codes "validate") × AreSources rows each f sources
+IsAsked name rows each f (Lints rules) =
+    (name ≡ codes "lint") × IsRulesFor (first_of (codes "rules") rows) rules
 
 -- the folders that were named, none where none were
 abbrev pub IsFolders : List Row → List Text → Type 0

@@ -1,4 +1,4 @@
--- The command line, as clap reads it: four commands with their options.
+-- The command line, as clap reads it: five commands with their options.
 use Rattle.std.specs.Prelude.{Some, true, codes}
 use Rattle.clap.specs.Lexer.{usize_max}
 use Rattle.clap.specs.Words.{App, Rule, Text, new_app, new_rule, with_rule, with_subcommand}
@@ -65,6 +65,12 @@ validate_app =
     let explaining = with_rule asking (option_rule (codes "explain")) in
     with_shared (with_output explaining)
 
+-- `lint`, with `--rules NAMES` and `--format F`
+abbrev pub lint_app : App
+lint_app =
+    let choosing = with_rule (new_app (codes "lint")) (option_rule (codes "rules")) in
+    with_shared (with_rule choosing (option_rule (codes "format")))
+
 -- `files`
 abbrev pub files_app : App
 files_app = with_shared (new_app (codes "files"))
@@ -75,10 +81,11 @@ top_app name =
     let a = new_app name in
     record a { top = record a.top { has_version = true; subcommand_required = true } }
 
--- the program with its four commands
+-- the program with its five commands
 abbrev pub yangcheck_app : App
 yangcheck_app =
     let one = with_subcommand (top_app (codes "yangcheck")) compile_app.top in
     let two = with_subcommand one tree_app.top in
     let three = with_subcommand two validate_app.top in
-    with_subcommand three files_app.top
+    let four = with_subcommand three lint_app.top in
+    with_subcommand four files_app.top

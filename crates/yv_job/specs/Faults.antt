@@ -5,9 +5,10 @@ use Rattle.std.specs.Fmt.{decimal}
 use Rattle.clap.specs.Words.{Text, Row, fault_of, all_of, first_of, IsAmong}
 use Rattle.clap.specs.declared.error.kind.ErrorKind.{ErrorKind}
 use Rattle.clap.specs.declared.error.kind.ErrorKind.TheVariants as kind
-use Rattle.yv_job.specs.Asks.{WordsAsk, IsAsked, IsFiles, IsLimit, IsExplainFor, IsSupportFor, IsImportsFor, IsKindFor, IsEachFor, IsFormFor}
+use Rattle.yv_job.specs.Asks.{WordsAsk, IsAsked, IsFiles, IsLimit, IsExplainFor, IsSupportFor, IsImportsFor, IsKindFor, IsEachFor, IsFormFor, IsRulesFor}
 use Rattle.yv_job.specs.CommandLine.{yangcheck_app}
 use Rattle.yv_job.specs.Requests.{ActionAsked, RequestAsked}
+use Rattle.yv_lint.specs.declared.rule.Rule.{Rule}
 use Rattle.yv_text_statement.specs.Selection.{Entry}
 use Rattle.yv_text_statement.specs.declared.document_kind.Kind.{Kind}
 use Rattle.yv_job.specs.declared.job.OutputForm.{OutputForm}
@@ -78,6 +79,10 @@ pub data IsReason (name : Text) (rows : List Row) (line : Text) : Type 0 where
   of_explain : ((n : ℕ) → IsExplainFor (first_of (codes "explain") rows) n → ⊥)
       → line ≡ value_line (codes "explain") (codes "a number from 0 to 10000")
       (first_of (codes "explain") rows)
+      → IsReason name rows line
+  of_rules : ((rules : List Rule) → IsRulesFor (first_of (codes "rules") rows) rules → ⊥)
+      → line ≡ value_line (codes "rules") (codes "names of rules joined by commas")
+      (first_of (codes "rules") rows)
       → IsReason name rows line
   of_files : ((fs : List Text) → IsFiles rows fs → ⊥)
       → line ≡ files_line (all_of (codes "file") rows) → IsReason name rows line

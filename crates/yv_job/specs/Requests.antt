@@ -1,21 +1,27 @@
 -- What a clause reads of a request: a job whose files may still have to be found, many documents,
--- or the question which files there are.
+-- findings, or the question which files there are.
 use Rattle.std.specs.Prelude.{◌≤◌, length, ℕ, List, [], map, string_bytes, Option, None}
+use Rattle.std.specs.List.{filter}
 use Rattle.yv_job.specs.declared.request.Request.{Request}
 use Rattle.yv_job.specs.declared.request.Action.{Action}
-use Rattle.yv_job.specs.declared.request.Action.TheVariants.{Run, ValidateAll, Files}
+use Rattle.yv_job.specs.declared.request.Action.TheVariants.{Run, ValidateAll, Lint, Files}
 use Rattle.yv_job.specs.declared.job.OutputOptions.{OutputOptions}
 use Rattle.yv_job.specs.declared.request.Each.{Each}
 use Rattle.yv_job.specs.Jobs.{CommandAsked, Task, asked_of}
+use Rattle.yv_lint.specs.RuleChoice.{asked_in}
+use Rattle.yv_lint.specs.Rules.{all_rules}
+use Rattle.yv_lint.specs.declared.rule.Rule.{Rule}
+use Rattle.yv_lint.specs.declared.rules.Rules.{Rules}
 use Rattle.yv_text_statement.specs.Selection.{ModuleChoice, selected_of}
 use Rattle.yv_text_statement.specs.declared.document_kind.Kind.{Kind}
 
 -- which files there are, and which modules are implemented; or what a command does; or that all
--- documents of these sources are checked
+-- documents of these sources are checked; or which findings of these rules there are
 pub data ActionAsked : Type 0 where
   Lists : ActionAsked
   Does : CommandAsked → ActionAsked
   ChecksAll : (sources : List (List ℕ)) → ActionAsked
+  Lints : (rules : List Rule) → ActionAsked
 
 -- a request, as clauses see it
 pub record RequestAsked : Type 0 where
@@ -29,11 +35,16 @@ pub record RequestAsked : Type 0 where
   pub folders : List (List ℕ)
   pub files : List (List ℕ)
 
+-- the rules of a set, in their order
+abbrev pub rules_of : Rules → List Rule
+rules_of rules = filter (asked_in rules) all_rules
+
 -- what an action asks for
 abbrev pub action_of : Action → ActionAsked
 action_of Files = Lists
 action_of (Run c) = Does (asked_of c)
 action_of (ValidateAll v) = ChecksAll (map string_bytes v.items)
+action_of (Lint rules) = Lints (rules_of rules)
 
 -- what a request asks for
 abbrev pub request_of : Request → RequestAsked

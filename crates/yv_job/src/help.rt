@@ -26,6 +26,7 @@ Examples:
   yangcheck compile --path models example.yang
   yangcheck tree --module example --path models example.yang
   yangcheck validate --data config.json --path models example.yang
+  yangcheck lint --path models example.yang
   yangcheck files --path models example.yang
 
 Exit status:
@@ -124,6 +125,45 @@ Exit status:
   3  out of memory, pattern not built, cannot read, or cannot write",
 };
 
+pub(crate) const LINT: CommandHelp = CommandHelp {
+    about: "List what to mend in modules before they are published",
+    details: "\
+Compiles the modules, and then lists findings: facts about single statements that
+are not errors, but that an author should mend before publishing.
+
+If the modules are invalid, one line, FILE:LINE: NAME, reports the first error, as
+`compile` does. Otherwise each finding has one line, FILE:LINE: RULE, and the last
+line is `findings: N`. Standard error shows the line of each finding, and says how
+to mend it. Only files that are named have findings, and only if their module is
+implemented. With --format json each line is a JSON object.
+
+The rules, in the order of findings at one place:
+  FileName           the name of the file is not that of the module
+  NoRevision         there is no revision
+  IncompleteHeader   there is no organization, contact or description
+  StatementOrder     a statement comes after one of a later group (RFC 7950, 14)
+  UnusedImport       the file does not use the prefix of an import
+  VersionMix         versions of YANG do not go together (RFC 7950, 12)
+  NoSuchDate         the date of a revision is no day of the calendar
+  RevisionOrder      a revision is not older than the one before it
+  Version11          YANG 1.1 is used in a file of version 1
+  MinAboveMax        min-elements is above max-elements
+  UnusedTypedef      a typedef inside a statement is not used there
+  UnusedGrouping     a grouping inside a statement is not used there
+  PatternAnchor      a pattern begins with ^ or ends with $
+  NoDescription      a definition has no description",
+    closing: "\
+Examples:
+  yangcheck lint --path models example.yang
+  yangcheck lint --rules UnusedImport,NoRevision --path models example.yang
+
+Exit status:
+  0  no findings
+  1  modules rejected, or findings
+  2  usage error
+  3  out of memory, pattern not built, cannot read, or cannot write",
+};
+
 pub(crate) const FILES: CommandHelp = CommandHelp {
     about: "Show which files --path finds, and which modules are implemented",
     details: "\
@@ -165,6 +205,8 @@ The form of standard output: text or json (a JSON object on each line) [default:
 
 pub const MEASURES: &str = "\
 Print what bounds the work of a validation: m, u and w of the schema, or the steps of each document";
+
+pub const RULES: &str = "The rules whose findings are listed: RULE,RULE [default: all]";
 
 pub const FILE: &str = "The files of the YANG modules and submodules (at most 256)";
 

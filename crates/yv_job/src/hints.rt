@@ -5,21 +5,14 @@ const FOLDER_WORDS: &[&str] = &["-p", "--searchpath", "--search-path", "-D", "--
 
 const TREE_WORDS: &[&str] = &["-f", "-ftree", "--tree"];
 
-const CHECK_WORDS: &[&str] = &[
-    "lint",
-    "check",
-    "--lint",
-    "--strict",
-    "--canonical",
-    "--ietf",
-];
+const CHECK_WORDS: &[&str] = &["check", "--lint", "--strict", "--canonical", "--ietf"];
 
 const FOLDERS: &str = "\
 hint: name the files of modules; to search a folder for those that they import, write --path DIR\n";
 
 const TREES: &str = "hint: to draw a tree, write yangcheck tree --module NAME FILE\n";
 
-const CHECKS: &str = "hint: to check modules, write yangcheck compile FILE\n";
+const CHECKS: &str = "hint: to check modules, write yangcheck lint FILE\n";
 
 /// How clap's refusal of a second `--support` begins.
 const SECOND_SUPPORT: &str = "error: the argument '--support <S>' cannot be used multiple times";

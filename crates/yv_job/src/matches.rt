@@ -2,17 +2,19 @@
 ghost use Rattle.std.specs.Prelude.{◌≡◌, ◌≤◌, ℕ, List, length, IfSome, IfOk, IfErr, MatchOption, [], codes, map, option_map, string_bytes};
 ghost use Rattle.std.specs.Option.{unwrap_or};
 ghost use Rattle.clap.specs.Words.{subcommand_rows_of, found_of, rows_of, all_of, first_of};
-ghost use Rattle.yv_job.specs.{Asks.{AsksIn, Asks, IsChoice, IsAsked, IsFiles, IsFlag, IsOutput}, Requests.{ActionAsked, request_of, action_of, NamesFiles, IsLimited}, Faults.{IsReason, TellsReason}, Matches.{AsksForNothing, IsReport}};
+ghost use Rattle.yv_job.specs.{Asks.{AsksIn, Asks, IsChoice, IsAsked, IsFiles, IsFlag, IsOutput}, Requests.{ActionAsked, request_of, action_of, NamesFiles, IsLimited}, Faults.{IsReason, TellsReason}, Matches.{AsksForNothing, IsActionLine, IsReport}};
 ghost use Rattle.yv_text_statement.specs.Selection.{ModuleChoice, selected_of};
 ghost use Rattle.yv_job.specs.declared.{job.OutputOptions.{OutputOptions as TheOutput}, matches.ReportOptions.{ReportOptions as TheReport}};
 
 use crate::job::{Command, OutputForm, OutputOptions};
 use crate::names::copy_texts;
 use crate::options::{
-    each_value, explain_value, form_value, imports_value, kind_value, limit_of, support_value,
+    each_value, explain_value, form_value, imports_value, kind_value, limit_of, rules_value,
+    support_value,
 };
 use crate::reasons::{
-    COMMAND, EACH, EXPLAIN, FORMS, IMPORTS, KINDS, NODES, SUPPORT, files_line, usage, value_line,
+    COMMAND, EACH, EXPLAIN, FORMS, IMPORTS, KINDS, NODES, RULES, SUPPORT, files_line, usage,
+    value_line,
 };
 use crate::request::{Action, Each, Request};
 use clap::ArgMatches;
@@ -77,6 +79,9 @@ fn action_of(
     if name == "files" {
         return Ok(Some(Action::Files));
     }
+    if name == "lint" {
+        return Ok(rules_value(first(below, "rules")).map(|rules| Action::Lint(rules)));
+    }
     if name == "tree" {
         return match first(below, "module") {
             Some(module) => {
@@ -90,6 +95,18 @@ fn action_of(
         return check_of(alloc, below, each, form);
     }
     Ok(None)
+}
+
+// The line about a command of this name that asks for no action.
+fn action_line(alloc: Global, name: &str, below: &ArgMatches<'_>) -> Result<String, AllocError>
+    ensures { let rows = rows_of (found_of below.now) in
+        IfOk result (λ line. IsActionLine name.now rows (string_bytes line)) }
+{
+    if name == "lint" {
+        value_line(alloc, "rules", RULES, first(below, "rules"))
+    } else {
+        String::from_str(alloc, COMMAND)
+    }
 }
 
 // Whether a flag was given.
@@ -255,7 +272,7 @@ fn request_of_command(
         Err(line) => return Ok(Err(line)),
     };
     let Some(action) = action_of(alloc, name, below, each, output.form)? else {
-        return Ok(Err(String::from_str(alloc, COMMAND)?));
+        return Ok(Err(action_line(alloc, name, below)?));
     };
     let Some(files) = files_of(alloc, below)? else {
         return Ok(Err(files_line(alloc, all(below, "file"))?));

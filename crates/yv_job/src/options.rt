@@ -1,12 +1,14 @@
 //! The values of the options that all commands share.
 ghost use Rattle.std.specs.Prelude.{◌≡◌, ◌≤◌, ◌==◌, ℕ, List, Option, slice_index, IfSome, IfOk, MatchOption, map, option_map, string_bytes};
-ghost use Rattle.yv_job.specs.{Asks.{IsDecimal, IsLimit, IsExplainFor, IsSupportFor, IsImportsFor, IsKindFor, IsEachFor, IsFormFor}, declared.{job.OutputForm.{OutputForm as TheForm}, request.Each.{Each as TheEach}}};
+ghost use Rattle.yv_job.specs.{Asks.{IsDecimal, IsLimit, IsExplainFor, IsSupportFor, IsImportsFor, IsKindFor, IsEachFor, IsFormFor, IsRulesFor}, Requests.{rules_of}, declared.{job.OutputForm.{OutputForm as TheForm}, request.Each.{Each as TheEach}}};
+ghost use Rattle.yv_lint.specs.declared.rule.Rule.{Rule as TheRule};
 ghost use Rattle.yv_text_statement.specs.{Selection.{Entry, entry_of}, declared.document_kind.Kind.{Kind as TheKind}};
 
 use crate::job::OutputForm;
 use crate::names::{names_of, support_of};
 use crate::request::Each;
 use std::alloc::{AllocError, Global};
+use yv_lint::Rules;
 use yv_text_statement::Kind;
 
 const MOST_NODES: u32 = 1_000_000;
@@ -151,4 +153,16 @@ pub fn form_value(value: Option<&str>) -> Option<OutputForm>
         return Some(OutputForm::Json);
     }
     None
+}
+
+/// The rules that the value of `--rules` names: all where there is none.
+pub fn rules_value(value: Option<&str>) -> Option<Rules>
+    ensures { let text = option_map (λ t. t.now) value.entry in
+        MatchOption result ((rules : List TheRule) → IsRulesFor text rules → ⊥)
+        (λ rules. IsRulesFor text (rules_of rules)) }
+{
+    match value {
+        None => Some(Rules::all()),
+        Some(names) => Rules::read(names),
+    }
 }

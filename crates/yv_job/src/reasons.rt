@@ -25,6 +25,9 @@ pub const SUPPORT: &str = "MODULE:FEATURE,FEATURE/MODULE:";
 /// What `--import-only` takes.
 pub const IMPORTS: &str = "MODULE,MODULE";
 
+/// What `--rules` takes.
+pub const RULES: &str = "names of rules joined by commas";
+
 /// That there is no command, or not what it needs. clap asks for both, so this is not seen.
 pub const COMMAND: &str = "no command was given, or not what it needs\n";
 

@@ -5,6 +5,7 @@ ghost use Rattle.yv_job.specs.{Jobs.{Task, task_of}, Requests.{plain_request, re
 use crate::job::{Command, Job, OutputOptions};
 use std::alloc::AllocError;
 use thiserror::Error;
+use yv_lint::Rules;
 use yv_text_statement::{Kind, Selection};
 
 /// What each source holds, by the word of `--each`.
@@ -27,6 +28,8 @@ pub enum Action {
     Run(Command),
     /// To check all documents of the sources of these names, in this order. `-` is standard input.
     ValidateAll(Vec<String>),
+    /// To list the findings of these rules in the files that were named.
+    Lint(Rules),
     /// To show which files there are, and which modules are implemented.
     Files,
 }

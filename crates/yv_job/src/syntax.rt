@@ -1,7 +1,7 @@
 //! The command line's syntax, for clap.
 ghost use Rattle.std.specs.Prelude.{◌≡◌, IfOk, false, codes};
 ghost use Rattle.clap.specs.{Words.{app_of, rule_of, new_app, with_rule, with_subcommand}, declared.builder.command.Command.TheViews.{out-Command as fields_of}};
-ghost use Rattle.yv_job.specs.CommandLine.{option_rule, required_rule, repeated_rule, required_repeated_rule, flag_rule, files_rule, with_output, with_shared, compile_app, tree_app, validate_app, top_app, yangcheck_app};
+ghost use Rattle.yv_job.specs.CommandLine.{option_rule, required_rule, repeated_rule, required_repeated_rule, flag_rule, files_rule, with_output, with_shared, compile_app, tree_app, validate_app, lint_app, top_app, yangcheck_app};
 
 use crate::help::{self, CommandHelp};
 use clap::{Arg, ArgAction, Command};
@@ -180,6 +180,18 @@ fn validate<'a>(alloc: Global) -> Result<Command<'a>, AllocError>
     with_shared_options(alloc, writing)
 }
 
+fn lint<'a>(alloc: Global) -> Result<Command<'a>, AllocError>
+    ensures app { IfOk result (λ c. app_of c ≡ lint_app) }
+    ensures local { IfOk result (λ c. (fields_of c).has_globals ≡ false) }
+{
+    let command = command(alloc, "lint", &help::LINT);
+    let rules = option(alloc, "rules", "NAMES", help::RULES);
+    let form = option(alloc, "format", "F", help::FORMAT);
+    let choosing = with_arg(command, rules)?;
+    let writing = with_arg(choosing, form)?;
+    with_shared_options(alloc, writing)
+}
+
 // The program with none of its commands.
 fn top<'a>(alloc: Global) -> Command<'a>
     ensures app { app_of result ≡ top_app (codes "yangcheck") }
@@ -197,5 +209,6 @@ pub fn command_line<'a>(alloc: Global) -> Result<Command<'a>, AllocError>
     let one = with_command(top(alloc), compile(alloc)?)?;
     let two = with_command(one, tree(alloc)?)?;
     let three = with_command(two, validate(alloc)?)?;
-    with_command(three, plain_command(alloc, "files", &help::FILES)?)
+    let four = with_command(three, lint(alloc)?)?;
+    with_command(four, plain_command(alloc, "files", &help::FILES)?)
 }

@@ -39,7 +39,7 @@ fn is_named(names: &str, rule: Rule) -> bool
 }
 
 /// A set of rules: those that are asked.
-#[derive(Drop)]
+#[derive(Debug, Drop)]
 pub struct Rules {
     marks: [bool; COUNT],
 }

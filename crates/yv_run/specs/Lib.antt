@@ -1,8 +1,12 @@
 pub mod Status
 pub mod Compiles
+pub mod FileParts
+pub mod FindingLines
 pub mod Output
 pub mod PersonNotes
 pub mod InnerRun
+pub mod InnerFindings
 pub mod Notes
 pub mod Runs
 pub mod Batches
+pub mod Lints

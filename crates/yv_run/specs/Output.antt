@@ -1,5 +1,5 @@
 -- What a run writes, and how it ends.
-use Rattle.std.specs.Prelude.{◌≡◌, ℕ, List, [], ◌∷◌, ◌++◌, Bool, true, false, take, codes, IfSome, string_bytes, option_map, slice_get}
+use Rattle.std.specs.Prelude.{◌≡◌, ℕ, List, [], ◌∷◌, ◌++◌, Bool, true, false, take, codes, IfSome, map, string_bytes, option_map, slice_get}
 use Rattle.std.specs.declared.option.Option.{Option}
 use Rattle.std.specs.declared.option.Option.TheVariants.{Some, None}
 use Rattle.std.specs.Fmt.{decimal}
@@ -24,9 +24,11 @@ use Rattle.yv_json_lines.specs.declared.document.ValidationCost.{ValidationCost}
 use Rattle.yv_documents.specs.VerdictText.{checked_text, with_end}
 use Rattle.yv_documents.specs.Lines.{ended_line}
 use Rattle.yv_documents.specs.Steps.{cost_if, steps_line}
+use Rattle.yv_run.specs.FileParts.{bytes_of_file, name_of_file}
+use Rattle.yv_run.specs.FindingLines.{findings_text}
 use Rattle.yv_run.specs.Compiles.{Compilation, RefusedAt, HasSchema, FilesCompile, GiveSchema}
 use Rattle.yv_documents.specs.Document.{DocumentText, TooLarge, NotJson, Reads, document_text}
-use Rattle.yv_base_streams.specs.Files.{File}
+use Rattle.yv_base_streams.specs.Files.{File, file_of}
 use Rattle.yv_run.specs.declared.print.Body.{Body}
 use Rattle.yv_run.specs.declared.print.Body.TheVariants.{Text, Diagram, Faults, Compiled}
 use Rattle.yv_run.specs.declared.print.CompilationResult.{CompilationResult}
@@ -41,16 +43,6 @@ use Rattle.yv_run.specs.declared.status.Verdict.TheVariants.{Clean, Refused, Bad
 pub record Page : Type 0 where
   pub text : List ℕ
   pub verdict : Verdict
-
--- the name of a file, where there is one
-abbrev pub name_of_file : Option File → List ℕ
-name_of_file None = []
-name_of_file (Some f) = f.name
-
--- and its bytes
-abbrev pub bytes_of_file : Option File → List ℕ
-bytes_of_file None = []
-bytes_of_file (Some f) = f.bytes
 
 -- FILE:LINE: NAME
 abbrev pub refusal_line : List File → Refusal → List ℕ
@@ -187,6 +179,8 @@ abbrev pub compilation_text : CompilationResult → List ℕ
 compilation_text (compilation.Count f nodes measures) = count_text f nodes measures
 compilation_text (compilation.Refusal file at code) =
     json_line (refusal_value (string_bytes file) at.line at.column at.offset code.now)
+compilation_text (compilation.Findings f inputs fs) =
+    findings_text f (map file_of inputs.now) fs.now
 
 -- the bytes of a text, of a diagram, of the lines of faults, or of the result of a compilation
 abbrev pub body_text : Body → List ℕ

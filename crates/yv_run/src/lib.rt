@@ -6,7 +6,9 @@ mod answers;
 mod batch_run;
 mod checks;
 mod compilation;
+mod findings;
 pub mod laws;
+mod lint_run;
 mod modules;
 mod notes;
 mod output;
@@ -17,6 +19,7 @@ mod whole_run;
 
 pub use batch_run::run_all;
 pub use checks::{CheckResult, of_data};
+pub use lint_run::run_lint;
 pub use notes::diagram_note;
 pub use print::{Body, CompilationResult, Output, of_count, of_diagram, of_refusal};
 pub use status::{Status, Verdict};

@@ -5,6 +5,7 @@ ghost use Rattle.yv_documents.specs.Lines.{ended_line};
 ghost use Rattle.yv_job.specs.declared.job.OutputForm.TheVariants as form;
 ghost use Rattle.yv_run.specs.{Output.{IsStopped, body_text, compilation_text, count_text, measures_lines, printed_of}, Runs.{Writes}};
 
+use crate::findings::put_findings;
 use crate::print::{Body, CompilationResult, Output};
 use crate::status::Status;
 use itoa::Buffer;
@@ -70,7 +71,7 @@ fn put_body<W: Write>(writer: &mut Counted<W>, body: &Body<'_>) -> bool
 }
 
 // Writes the result of a compilation, and answers whether all was taken.
-fn write_compilation<W: Write>(writer: &mut Counted<W>, compilation: &CompilationResult) -> bool
+fn write_compilation<W: Write>(writer: &mut Counted<W>, compilation: &CompilationResult<'_>) -> bool
     requires { has_failed writer.old ≡ false }
     ensures ends { result ≡ true
         → Appends (W.contents (stream_inner writer.old)) (W.contents (stream_inner writer.new))
@@ -91,7 +92,7 @@ fn write_compilation<W: Write>(writer: &mut Counted<W>, compilation: &Compilatio
 fn put_compilation<W: Write>(
     page: &mut Page,
     writer: &mut Counted<W>,
-    compilation: &CompilationResult,
+    compilation: &CompilationResult<'_>,
 )
     ensures { Adds (compilation_text compilation.now)
         (paged_output W.contents writer.old page.old)
@@ -106,6 +107,9 @@ fn put_compilation<W: Write>(
         }
         CompilationResult::Refusal(file, position, code) => {
             put_refusal_line(page, writer, file.as_str(), *position, code);
+        }
+        CompilationResult::Findings(form, inputs, findings) => {
+            put_findings(page, writer, *form, inputs, findings);
         }
     }
 }
@@ -137,8 +141,13 @@ fn put_measures<W: Write>(page: &mut Page, writer: &mut Counted<W>, measures: Me
     put_number_line(page, writer, b"w: ", measures.w);
 }
 
-// Puts a line with a word and a number.
-fn put_number_line<W: Write>(page: &mut Page, writer: &mut Counted<W>, word: &[u8], number: u64)
+/// Puts a line with a word and a number.
+pub(crate) fn put_number_line<W: Write>(
+    page: &mut Page,
+    writer: &mut Counted<W>,
+    word: &[u8],
+    number: u64,
+)
     ensures { Adds (ended_line (word.now ++ decimal number))
         (paged_output W.contents writer.old page.old)
         (paged_output W.contents writer.new page.new) }

@@ -2,7 +2,7 @@
 ghost use Rattle.std.specs.Prelude.{◌≡◌, map, slice_get, IfOk, None};
 ghost use Rattle.yv_base_streams.specs.Files.{file_of};
 ghost use Rattle.yv_job.specs.declared.job.OutputForm.TheVariants as form;
-ghost use Rattle.yv_run.specs.Output.{body_text, bytes_of_file, count_printed, diagram_printed, drawn_printed, measures_if, name_of_file, printed_of, refusal_printed, refusal_text};
+ghost use Rattle.yv_run.specs.{FileParts.{bytes_of_file, name_of_file}, Lints.{findings_printed, findings_verdict}, Output.{body_text, count_printed, diagram_printed, drawn_printed, measures_if, printed_of, refusal_printed, refusal_text}};
 
 use crate::status::Verdict;
 use std::alloc::{AllocError, Global};
@@ -10,6 +10,7 @@ use yv_base_positions::column_of;
 use yv_base_streams::Input;
 use yv_job::{OutputForm, OutputOptions};
 use yv_json_lines::Position;
+use yv_lint::Finding;
 use yv_schema::Schema;
 use yv_schema_tables::Measures;
 use yv_text_statement::Refusal;
@@ -18,11 +19,13 @@ use yv_validate::Fault;
 
 /// The result of a compilation, which is put on a page when it is written.
 #[derive(Drop)]
-pub enum CompilationResult {
+pub enum CompilationResult<'a> {
     /// The number of nodes of a schema, and its measures where they are asked for, in a form.
     Count(OutputForm, u64, Option<Measures>),
     /// A refusal as a JSON object: the name of its file, its position there, and its name.
     Refusal(String, Position, &'static str),
+    /// The findings in files, in a form.
+    Findings(OutputForm, &'a [Input], &'a [Finding]),
 }
 
 /// The body of an outcome: what is written of it. A diagram and the lines of faults aren't text:
@@ -36,7 +39,7 @@ pub enum Body<'a> {
     /// The faults of a document, of which there may be none, and a text that follows their lines.
     Faults(Vec<Fault>, Option<String>),
     /// The result of a compilation.
-    Compiled(CompilationResult),
+    Compiled(CompilationResult<'a>),
 }
 
 /// The output of a run: what it writes, and what it found.
@@ -75,7 +78,7 @@ fn refusal_line(
     ensures { IfOk result
         (λ b. body_text b ≡ refusal_text form.Text (map file_of inputs.now) refusal.now) }
 {
-    let name = name_at(inputs, refusal.file);
+    let name = name_at(inputs, refusal.file as usize);
     let line = refusal.line;
     let code = refusal.code.name();
     Ok(Body::Text(format!(in alloc; "{name}:{line}: {code}\n")?))
@@ -90,8 +93,11 @@ fn refusal_object(
     ensures { IfOk result
         (λ b. body_text b ≡ refusal_text form.Json (map file_of inputs.now) refusal.now) }
 {
-    let name = String::from_str(alloc, name_at(inputs, refusal.file))?;
-    let column = column_of(bytes_at(inputs, refusal.file), refusal.offset as usize);
+    let name = String::from_str(alloc, name_at(inputs, refusal.file as usize))?;
+    let column = column_of(
+        bytes_at(inputs, refusal.file as usize),
+        refusal.offset as usize,
+    );
     let position = Position {
         line: refusal.line,
         column: column as u64,
@@ -101,21 +107,21 @@ fn refusal_object(
     Ok(Body::Compiled(result))
 }
 
-// The name of the file of this number, where there is one.
-fn name_at(inputs: &[Input], file: u32) -> &str
+/// The name of the file of this number, where there is one.
+pub(crate) fn name_at(inputs: &[Input], file: usize) -> &str
     ensures { result.now ≡ name_of_file (slice_get (map file_of inputs.now) file) }
 {
-    match inputs.get(file as usize) {
+    match inputs.get(file) {
         Some(input) => input.name.as_str(),
         None => "",
     }
 }
 
-// The bytes of that file.
-fn bytes_at(inputs: &[Input], file: u32) -> &[u8]
+/// The bytes of that file.
+pub(crate) fn bytes_at(inputs: &[Input], file: usize) -> &[u8]
     ensures { result.now ≡ bytes_of_file (slice_get (map file_of inputs.now) file) }
 {
-    match inputs.get(file as usize) {
+    match inputs.get(file) {
         Some(input) => input.bytes.as_slice(),
         None => &[],
     }
@@ -169,4 +175,30 @@ fn no_module(alloc: Global) -> Result<Output<'static>, AllocError>
         body: Body::Text(text),
         verdict: Verdict::Refused,
     })
+}
+
+/// A line for each finding in files, and how many there are, in a form.
+pub(crate) fn of_findings<'a>(
+    inputs: &'a [Input],
+    findings: &'a [Finding],
+    form: OutputForm,
+) -> Output<'a>
+    ensures { printed_of result
+        ≡ findings_printed form (map file_of inputs.entry.now) findings.entry.now }
+{
+    Output {
+        body: Body::Compiled(CompilationResult::Findings(form, inputs, findings)),
+        verdict: verdict_on(findings),
+    }
+}
+
+// The verdict on files with these findings.
+fn verdict_on(findings: &[Finding]) -> Verdict
+    ensures { result ≡ findings_verdict findings.now }
+{
+    if findings.is_empty() {
+        Verdict::Clean
+    } else {
+        Verdict::Refused
+    }
 }
