@@ -182,13 +182,29 @@ fn bracket_reason(byte: u8, before: &Before) -> &'static str {
     }
 }
 
-fn missing_comma(before: &Before) -> &'static str {
+// What has to come before a value or a name, and doesn't.
+#[derive(Clone, Copy)]
+enum Gap {
+    Colon,
+    Comma,
+    None,
+}
+
+fn gap_after(before: &Before) -> Gap {
     if before.needs_colon() && before.is_after(b'"') {
-        "a colon is missing before this"
+        Gap::Colon
     } else if before.ends_value() {
-        "a comma is missing before this"
+        Gap::Comma
     } else {
-        "a name in double quotes is missing before this"
+        Gap::None
+    }
+}
+
+fn missing_comma(before: &Before) -> &'static str {
+    match gap_after(before) {
+        Gap::Colon => "a colon is missing before this",
+        Gap::Comma => "a comma is missing before this",
+        Gap::None => "a name in double quotes is missing before this",
     }
 }
 
@@ -213,14 +229,15 @@ fn string_reason(rest: &[u8], before: &Before) -> &'static str {
 }
 
 fn whole_text_reason(before: &Before) -> &'static str {
-    if before.needs_colon() && before.is_after(b'"') {
-        "a colon is missing before this string"
-    } else if before.ends_value() {
-        "a comma is missing before this string"
-    } else if before.lacks_value && before.is_after(b',') {
-        "the name before the comma has no colon and no value"
-    } else {
-        "an escape \\u in this string needs four hexadecimal digits, and the two halves of a surrogate pair go together"
+    match gap_after(before) {
+        Gap::Colon => "a colon is missing before this string",
+        Gap::Comma => "a comma is missing before this string",
+        Gap::None if before.lacks_value && before.is_after(b',') => {
+            "the name before the comma has no colon and no value"
+        }
+        Gap::None => {
+            "an escape \\u in this string needs four hexadecimal digits, and the two halves of a surrogate pair go together"
+        }
     }
 }
 
