@@ -15,7 +15,7 @@ use Rattle.yv_data_faults.specs.Flaw.{Flaw}
 use Rattle.yv_data_faults.specs.Line.{kind_name, path_text}
 use Rattle.yv_json_lines.specs.OneLine.{CostFits, Fits, IsInLine, IsOneLine, LineFits, MeasuresFit, VerdictFits}
 use Rattle.yv_json_lines.specs.Pointer.{pointer_text}
-use Rattle.yv_json_lines.specs.Values.{cost_members, count_value, document_value, fault_value, faults_members, json_line, line_member, measures_members, number_member, refusal_value, result_value, run_value, shown_name, text_member, verdict_name}
+use Rattle.yv_json_lines.specs.Values.{cost_members, count_value, document_value, fault_value, faults_members, finding_value, json_line, line_member, linted_value, measures_members, number_member, place_value, refusal_value, result_value, run_value, shown_name, text_member, verdict_name}
 use Rattle.yv_json_lines.specs.declared.document.DocumentVerdict.{DocumentVerdict}
 use Rattle.yv_json_lines.specs.declared.document.DocumentVerdict.TheVariants as verdict
 use Rattle.yv_json_lines.specs.declared.document.ValidationCost.{ValidationCost}
@@ -129,10 +129,19 @@ count_line nodes measures fits fit = line_of (codes "compiled") _ (with_number t
 pub run_line : (documents valid : ℕ) → Fits documents → Fits valid → IsOneLine (json_line (run_value documents valid))
 run_line documents valid fits less = line_of (codes "run") _ (with_number true (codes "documents") documents _ fits (with_number true (codes "valid") valid no_members less (at_end true)))
 
-pub refusal_line : (file : List ℕ) (line column offset : ℕ) (code : List ℕ) → Fits line → Fits column → Fits offset → IsOneLine (json_line (refusal_value file line column offset code))
-refusal_line file line column offset code l c o =
-    line_of (codes "refused") _ (with_text true (codes "file") file _ (with_number true (codes "line") line _ l (with_number true (codes "column") column _ c (with_number true (codes "offset") offset _ o
+place_line : (result file : List ℕ) (line column offset : ℕ) (code : List ℕ) → Fits line → Fits column → Fits offset → IsOneLine (json_line (place_value result file line column offset code))
+place_line result file line column offset code l c o =
+    line_of result _ (with_text true (codes "file") file _ (with_number true (codes "line") line _ l (with_number true (codes "column") column _ c (with_number true (codes "offset") offset _ o
     (with_text true (codes "code") code no_members (at_end true))))))
+
+pub refusal_line : (file : List ℕ) (line column offset : ℕ) (code : List ℕ) → Fits line → Fits column → Fits offset → IsOneLine (json_line (refusal_value file line column offset code))
+refusal_line = place_line (codes "refused")
+
+pub finding_line : (file : List ℕ) (line column offset : ℕ) (code : List ℕ) → Fits line → Fits column → Fits offset → IsOneLine (json_line (finding_value file line column offset code))
+finding_line = place_line (codes "finding")
+
+pub linted_line : (findings : ℕ) → Fits findings → IsOneLine (json_line (linted_value findings))
+linted_line findings fits = line_of (codes "linted") _ (with_number true (codes "findings") findings no_members fits (at_end true))
 
 pub document_line : (name : List ℕ) (line : Option ℕ) (v : DocumentVerdict) → LineFits line → VerdictFits v → IsOneLine (json_line (document_value name line v))
 document_line name line v l fits =

@@ -13,9 +13,9 @@ use Rattle.yv_base_streams.specs.Pages.{Adds, IsPaged, Output}
 use Rattle.yv_schema_tables.specs.declared.measures.Measures.{Measures}
 use Rattle.yv_data_faults.specs.Flaw.{Flaw}
 use Rattle.yv_data_faults.specs.Line.{escape, kind_name, path_text}
-use Rattle.yv_json_lines.specs.InnerPieces.{cost_piece, faults_piece, flaw_piece, line_piece, measures_piece, position_piece, unique_piece}
+use Rattle.yv_json_lines.specs.InnerPieces.{cost_piece, faults_piece, flaw_piece, line_piece, measures_piece, place_piece, position_piece, unique_piece}
 use Rattle.yv_json_lines.specs.Pointer.{pointer_text}
-use Rattle.yv_json_lines.specs.Values.{cost_members, count_value, document_value, fault_value, faults_members, line_member, measures_members, number_member, refusal_value, run_value, shown_name, text_member, unique_member, verdict_name}
+use Rattle.yv_json_lines.specs.Values.{cost_members, count_value, document_value, fault_value, faults_members, finding_value, line_member, linted_value, measures_members, number_member, refusal_value, run_value, shown_name, text_member, unique_member, verdict_name}
 use Rattle.yv_json_lines.specs.declared.document.DocumentVerdict.{DocumentVerdict}
 use Rattle.yv_json_lines.specs.declared.document.DocumentVerdict.TheVariants as verdict
 use Rattle.yv_json_lines.specs.declared.document.ValidationCost.{ValidationCost}
@@ -34,6 +34,10 @@ adds_both a b old mid new first second =
 pub run_pieces : (documents valid : ℕ) → (codes "{\"result\":\"run\",\"documents\":" ++ decimal documents) ++ ((codes ",\"valid\":" ++ decimal valid) ++ codes "}") ≡ compact_text (run_value documents valid)
 unfolding serde_json_on_literals
 run_pieces documents valid = refl
+
+pub linted_pieces : (findings : ℕ) → (codes "{\"result\":\"linted\",\"findings\":" ++ decimal findings) ++ codes "}" ≡ compact_text (linted_value findings)
+unfolding serde_json_on_literals
+linted_pieces findings = refl
 
 -- three texts and one more
 three : (a b c x : List ℕ) → (a ++ (b ++ c)) ++ x ≡ a ++ (b ++ (c ++ x))
@@ -103,11 +107,18 @@ pub count_pieces : (nodes : ℕ) (measures : Option Measures) → (codes "{\"res
 unfolding serde_json_on_literals
 count_pieces nodes measures = ap (λ (l : List ℕ). (codes "{\"result\":\"compiled\",\"nodes\":" ++ decimal nodes) ++ l) (measures_step measures)
 
-pub refusal_pieces : (file : List ℕ) (line column offset : ℕ) (code : List ℕ) → codes "{\"result\":\"refused\",\"file\":" ++ (quoted file ++ (position_piece line column offset ++ (codes ",\"code\":" ++ (quoted code ++ codes "}"))))
-    ≡ compact_text (refusal_value file line column offset code)
+place_step : (file : List ℕ) (line column offset : ℕ) (code : List ℕ) → place_piece file line column offset code
+    ≡ quoted file ++ members_text true (number_member (codes "line") line (number_member (codes "column") column (number_member (codes "offset") offset (text_member (codes "code") code no_members))))
 unfolding serde_json_on_literals
-refusal_pieces file line column offset code =
-    ap (λ (l : List ℕ). codes "{\"result\":\"refused\",\"file\":" ++ (quoted file ++ l)) (position_step line column offset (text_member (codes "code") code no_members))
+place_step file line column offset code = ap (λ (l : List ℕ). quoted file ++ l) (position_step line column offset (text_member (codes "code") code no_members))
+
+pub refusal_pieces : (file : List ℕ) (line column offset : ℕ) (code : List ℕ) → codes "{\"result\":\"refused\",\"file\":" ++ place_piece file line column offset code ≡ compact_text (refusal_value file line column offset code)
+unfolding serde_json_on_literals
+refusal_pieces file line column offset code = ap (λ (l : List ℕ). codes "{\"result\":\"refused\",\"file\":" ++ l) (place_step file line column offset code)
+
+pub finding_pieces : (file : List ℕ) (line column offset : ℕ) (code : List ℕ) → codes "{\"result\":\"finding\",\"file\":" ++ place_piece file line column offset code ≡ compact_text (finding_value file line column offset code)
+unfolding serde_json_on_literals
+finding_pieces file line column offset code = ap (λ (l : List ℕ). codes "{\"result\":\"finding\",\"file\":" ++ l) (place_step file line column offset code)
 
 pub document_pieces : (name : List ℕ) (line : Option ℕ) (v : DocumentVerdict) → codes "{\"result\":\"document\",\"document\":" ++ ((quoted (shown_name name) ++ line_piece line) ++ (codes ",\"verdict\":" ++ (quoted (verdict_name v) ++ (faults_piece v ++ codes "}"))))
     ≡ compact_text (document_value name line v)

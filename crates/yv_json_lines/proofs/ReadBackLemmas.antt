@@ -27,7 +27,7 @@ use Rattle.yv_data_faults.specs.Line.{kind_name, path_text}
 use Rattle.yv_json_lines.specs.OneLine.{CostFits, Fits, LineFits, MeasuresFit, VerdictFits}
 use Rattle.yv_json_lines.specs.Pointer.{pointer_text}
 use Rattle.yv_json_lines.specs.ReadBack.{ReadsBack}
-use Rattle.yv_json_lines.specs.Values.{cost_members, count_value, document_value, fault_value, faults_members, line_member, number_member, refusal_value, result_value, run_value, shown_name, text_member, verdict_name}
+use Rattle.yv_json_lines.specs.Values.{cost_members, count_value, document_value, fault_value, faults_members, finding_value, line_member, linted_value, number_member, place_value, refusal_value, result_value, run_value, shown_name, text_member, verdict_name}
 use Rattle.yv_json_lines.specs.declared.document.DocumentVerdict.{DocumentVerdict}
 use Rattle.yv_json_lines.specs.declared.document.DocumentVerdict.TheVariants as verdict
 use Rattle.yv_json_lines.specs.declared.document.ValidationCost.{ValidationCost}
@@ -144,9 +144,18 @@ count_back nodes (Some s) fits fit =
 pub run_back : (documents valid : ℕ) → Fits documents → Fits valid → ReadsBack (run_value documents valid)
 run_back documents valid fits less = line_back (codes "run") _ (number_back documents fits, (number_back valid less, tt)) refl
 
+place_back : (result file : List ℕ) (line column offset : ℕ) (code : List ℕ) → Fits line → Fits column → Fits offset → ReadsBack (place_value result file line column offset code)
+place_back result file line column offset code l c o =
+    line_back result _ (text_back file, (number_back line l, (number_back column c, (number_back offset o, (text_back code, tt))))) refl
+
 pub refusal_back : (file : List ℕ) (line column offset : ℕ) (code : List ℕ) → Fits line → Fits column → Fits offset → ReadsBack (refusal_value file line column offset code)
-refusal_back file line column offset code l c o =
-    line_back (codes "refused") _ (text_back file, (number_back line l, (number_back column c, (number_back offset o, (text_back code, tt))))) refl
+refusal_back = place_back (codes "refused")
+
+pub finding_back : (file : List ℕ) (line column offset : ℕ) (code : List ℕ) → Fits line → Fits column → Fits offset → ReadsBack (finding_value file line column offset code)
+finding_back = place_back (codes "finding")
+
+pub linted_back : (findings : ℕ) → Fits findings → ReadsBack (linted_value findings)
+linted_back findings fits = line_back (codes "linted") _ (number_back findings fits, tt) refl
 
 line_member_back : (line : Option ℕ) (ms : Members) → LineFits line → AreBack ms → AreBack (line_member line ms)
 line_member_back None ms fits h = h

@@ -21,6 +21,11 @@ position_piece line column offset =
     (codes ",\"line\":" ++ decimal line) ++ ((codes ",\"column\":" ++ decimal column)
     ++ (codes ",\"offset\":" ++ decimal offset))
 
+abbrev pub place_piece : (file : List ℕ) → (line column offset : ℕ) → (code : List ℕ) → List ℕ
+place_piece file line column offset code =
+    quoted file ++ (position_piece line column offset ++ (codes ",\"code\":"
+    ++ (quoted code ++ codes "}")))
+
 abbrev pub measures_piece : Option Measures → List ℕ
 measures_piece None = []
 measures_piece (Some measures) =

@@ -43,13 +43,28 @@ count_value nodes measures =
     result_value (codes "compiled")
     (number_member (codes "nodes") nodes (measures_members measures))
 
--- modules that were refused: the file, the line and the column from 1, the offset in bytes from 0,
--- and the name of the refusal
-abbrev pub refusal_value : (file : List ℕ) → (line column offset : ℕ) → (code : List ℕ) → Data
-refusal_value file line column offset code =
-    result_value (codes "refused") (text_member (codes "file") file
+-- a result at a position of a file: the line and the column from 1, the offset in bytes from 0, and
+-- the name of what is there
+abbrev pub place_value : (result file : List ℕ) → (line column offset : ℕ) → (code : List ℕ) → Data
+place_value result file line column offset code =
+    result_value result (text_member (codes "file") file
     (number_member (codes "line") line (number_member (codes "column") column
     (number_member (codes "offset") offset (text_member (codes "code") code no_members)))))
+
+-- modules that were refused: the position, and the name of the refusal
+abbrev pub refusal_value : (file : List ℕ) → (line column offset : ℕ) → (code : List ℕ) → Data
+refusal_value file line column offset code =
+    place_value (codes "refused") file line column offset code
+
+-- a finding on a statement: the position, and the name of the rule
+abbrev pub finding_value : (file : List ℕ) → (line column offset : ℕ) → (code : List ℕ) → Data
+finding_value file line column offset code =
+    place_value (codes "finding") file line column offset code
+
+-- modules that were searched, and the number of findings on them
+abbrev pub linted_value : (findings : ℕ) → Data
+linted_value findings =
+    result_value (codes "linted") (number_member (codes "findings") findings no_members)
 
 -- the name of a document: as it is if it is UTF-8, else as its label has it
 abbrev pub shown_name : List ℕ → List ℕ

@@ -2,7 +2,7 @@
 ghost use Rattle.std.specs.Prelude.{ℕ, List, Option};
 ghost use Rattle.yv_schema_tables.specs.declared.measures.Measures.{Measures};
 ghost use Rattle.yv_data_faults.specs.Flaw.{Flaw};
-ghost use Rattle.yv_json_lines.specs.{OneLine.{Fits, IsOneLine, LineFits, MeasuresFit, VerdictFits}, ReadBack.{ReadsBack}, Values.{count_value, document_value, fault_value, json_line, refusal_value, run_value}, declared.document.DocumentVerdict.{DocumentVerdict}};
+ghost use Rattle.yv_json_lines.specs.{OneLine.{Fits, IsOneLine, LineFits, MeasuresFit, VerdictFits}, ReadBack.{ReadsBack}, Values.{count_value, document_value, fault_value, finding_value, json_line, linted_value, refusal_value, run_value}, declared.document.DocumentVerdict.{DocumentVerdict}};
 
 /// No line has a line feed or a carriage return but the line feed at its end, so that the lines of
 /// an output are its results.
@@ -14,6 +14,12 @@ pub fn json_lines_are_lines()
     ensures refusal { (file : List ℕ) (line column offset : ℕ) (code : List ℕ) → Fits line
         → Fits column → Fits offset
         → IsOneLine (json_line (refusal_value file line column offset code)) }
+    // So is that of a finding.
+    ensures finding { (file : List ℕ) (line column offset : ℕ) (code : List ℕ) → Fits line
+        → Fits column → Fits offset
+        → IsOneLine (json_line (finding_value file line column offset code)) }
+    // So is that of all findings.
+    ensures linted { (findings : ℕ) → Fits findings → IsOneLine (json_line (linted_value findings)) }
     // So is that of a fault.
     ensures fault { (name : List ℕ) (line : Option ℕ) (f : Flaw) → LineFits line → Fits f.number
         → IsOneLine (json_line (fault_value name line f)) }
@@ -34,6 +40,11 @@ pub fn json_lines_read_back()
     // So is that of refused modules.
     ensures refusal { (file : List ℕ) (line column offset : ℕ) (code : List ℕ) → Fits line
         → Fits column → Fits offset → ReadsBack (refusal_value file line column offset code) }
+    // So is that of a finding.
+    ensures finding { (file : List ℕ) (line column offset : ℕ) (code : List ℕ) → Fits line
+        → Fits column → Fits offset → ReadsBack (finding_value file line column offset code) }
+    // So is that of all findings.
+    ensures linted { (findings : ℕ) → Fits findings → ReadsBack (linted_value findings) }
     // So is that of a fault.
     ensures fault { (name : List ℕ) (line : Option ℕ) (f : Flaw) → LineFits line → Fits f.number
         → ReadsBack (fault_value name line f) }

@@ -15,6 +15,6 @@ pub use document::{DocumentVerdict, ValidationCost, put_document_line};
 pub use fault::put_fault_line;
 pub use path::put_path;
 pub use pointer::put_pointer;
-pub use refusal::{Position, put_refusal_line};
+pub use refusal::{Position, put_finding_line, put_refusal_line};
 pub use strings::put_quoted;
-pub use totals::{put_count_line, put_run_line};
+pub use totals::{put_count_line, put_linted_line, put_run_line};

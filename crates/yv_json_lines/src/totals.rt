@@ -1,7 +1,7 @@
-//! The lines that say how a compilation or a validation ended.
+//! The lines that say how a compilation, a search for findings or a validation ended.
 ghost use Rattle.std.specs.Prelude.{◌≡◌, ◌++◌, ℕ, List, Option, decimal};
 ghost use Rattle.yv_base_streams.specs.{Stream.{has_failed, stream_inner}, Pages.{Adds, paged_output}};
-ghost use Rattle.yv_json_lines.specs.{InnerPieces.{measures_piece}, Values.{count_value, json_line, run_value}};
+ghost use Rattle.yv_json_lines.specs.{InnerPieces.{measures_piece}, Values.{count_value, json_line, linted_value, run_value}};
 
 use crate::strings::put_member;
 use std::io::Write;
@@ -37,6 +37,19 @@ fn put_measures<W: Write>(page: &mut Page, writer: &mut Counted<W>, measures: Op
         put_member(page, writer, b",\"u\":", measures.u);
         put_member(page, writer, b",\"w\":", measures.w);
     }
+}
+
+/// Puts the line of modules on which there are so many findings.
+pub fn put_linted_line<W: Write>(page: &mut Page, writer: &mut Counted<W>, findings: u64)
+    // The line of this value follows what was put before it.
+    ensures { Adds (json_line (linted_value findings))
+        (paged_output W.contents writer.old page.old)
+        (paged_output W.contents writer.new page.new) }
+{
+    let head = b"{\"result\":\"linted\",\"findings\":";
+    put_member(page, writer, head, findings);
+    page.put(writer, b"}");
+    page.put(writer, b"\n");
 }
 
 /// Puts the line of so many documents, of which so many are valid.
