@@ -1,6 +1,7 @@
 //! Where values stand in the text of a JSON document, and which members are repeated in it.
 #![tactic(auto)]
 
+mod colons;
 mod counts;
 mod cursor;
 mod names;

@@ -32,7 +32,8 @@ pub struct FoundPlace {
     pub name: Option<LineColumn>,
 }
 
-/// Where paths lead in the text of a document. One scan of the text finds them all.
+/// Where paths lead in the text of a document. One scan of the text finds them all; without paths
+/// there is none.
 pub fn find_places(
     alloc: Global,
     text: &[u8],
@@ -43,6 +44,9 @@ pub fn find_places(
     // Each of its positions is that of an offset of the text.
     ensures positions { IfOk result (λ places. All (IsFound text.now) places.items) }
 {
+    if paths.is_empty() {
+        return Ok(Vec::new(alloc));
+    }
     let tree = PlaceTree::of_paths(alloc, paths)?;
     let search = PlaceSearch::through(alloc, text, &tree)?;
     let finds: Vec<FoundOffsets> = paths
