@@ -20,6 +20,7 @@ use Rattle.yv_text_statement.specs.Selection.{ModuleChoice, Entry}
 use Rattle.yv_text_statement.specs.declared.document_kind.Kind.{Kind}
 use Rattle.yv_text_statement.specs.declared.document_kind.Kind.TheVariants.{All, ConfigOnly}
 use Rattle.yv_job.specs.Names.{JoinsNames, IsNames, IsIdentifier, HasIdentifiers, entry_text}
+use Rattle.yv_job.proofs.AppFacts.{tree_is_not_lint}
 use Rattle.yv_job.proofs.NameLemmas.{free_name, split_names, split_entries}
 
 same_command : (name : Text) (rows : List Row) (e : Option Each) (o : OutputForm) (a b : CommandAsked) → IsCommand name rows e o a → IsCommand name rows e o b → a ≡ b
@@ -42,7 +43,7 @@ not_files name rows e o (Checks d) is h = let f : codes "validate" ≡ codes "fi
 -- and the command `lint` is no other
 not_lint : (name : Text) (rows : List Row) (e : Option Each) (o : OutputForm) (c : CommandAsked) → name ≡ codes "lint" → IsCommand name rows e o c → ⊥
 not_lint name rows e o Compiles is h = let f : codes "compile" ≡ codes "lint" = sym h ∙ is in cc
-not_lint name rows e o (Draws m) is h = let f : codes "tree" ≡ codes "lint" = sym h.0 ∙ is in cc
+not_lint name rows e o (Draws m) is h = absurd (tree_is_not_lint (sym h.0 ∙ is))
 not_lint name rows e o (Checks d) is h = let f : codes "validate" ≡ codes "lint" = sym h.0 ∙ is in cc
 
 same_rules : (t : Option Text) (rs ss : List Rule) → IsRulesFor t rs → IsRulesFor t ss → rs ≡ ss

@@ -11,7 +11,7 @@ use Rattle.yv_lint.specs.Findings.{findings}
 use Rattle.yv_lint.specs.RuleChoice.{RuleChoice}
 use Rattle.yv_lint.specs.declared.finding.Finding.{Finding}
 use Rattle.yv_nodes.specs.Rows.{Rows}
-use Rattle.yv_note_findings.specs.FindingNotes.{TellsFindings}
+use Rattle.yv_note_findings.specs.Notes.{AreNotes}
 use Rattle.yv_run.specs.Compiles.{FilesCompile, HasSchema, RefusedAt}
 use Rattle.yv_run.specs.FindingLines.{findings_text}
 use Rattle.yv_run.specs.Notes.{TellsRefusal}
@@ -63,7 +63,7 @@ lint_printed f files (Finds fs) = findings_printed f files fs
 -- the note on findings: none where there are none
 abbrev pub NotesFindings : List File → List Finding → (note : Option (List ℕ)) → Type 0
 NotesFindings files [] note = note ≡ None
-NotesFindings files (f ∷ fs) note = IsSomeAnd note (TellsFindings files (f ∷ fs))
+NotesFindings files (f ∷ fs) note = IsSomeAnd note (AreNotes files (f ∷ fs))
 
 -- the note on what files come to
 abbrev pub NotesLint : List File → LintResult → (note : Option (List ℕ)) → Type 0

@@ -3,7 +3,7 @@ use Rattle.clap.specs.Words.{rows_of, found_of}
 use Rattle.yv_job.specs.Faults.{IsReason}
 use Rattle.yv_job.specs.Matches.{IsReport}
 use Rattle.yv_job.specs.declared.matches.ReportOptions.{ReportOptions}
-use Rattle.yv_job.proofs.FaultLemmas.{action_line, limit_line, no_report, no_request}
+use Rattle.yv_job.proofs.FaultLemmas.{limit_line, no_action_line, no_report, no_request}
 use Rattle.yv_job.proofs.matches.request_of_command.Goals as goal
 
 pub returns-in_default-clause-reason : goal.returns-in_default-clause-reason
@@ -34,5 +34,5 @@ returns-in_default-2-clause-nothing c =
 pub returns-in_default-2-clause-reason : goal.returns-in_default-2-clause-reason
 returns-in_default-2-clause-reason c =
     let report = subst (λ r. IfOk r (IsReport (rows_of (found_of c.args.below.now)))) c.in-Ok-2.is c.in_ok-report.ensures.report in
-    action_line c.args.name.now (rows_of (found_of c.args.below.now)) c.in-Ok-2.report.each c.in-Ok-2.report.output.form (string_bytes c.in_ok-from_str.field-0)
-    report.each report.output.form (search rules) (search rules)
+    no_action_line c.args.name.now (rows_of (found_of c.args.below.now)) c.in-Ok-2.report.each c.in-Ok-2.report.output.form (string_bytes c.in_ok-action_line.field-0)
+    report.each report.output.form (search rules) c.in_ok-action_line.ensures

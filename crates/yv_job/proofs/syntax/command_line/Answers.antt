@@ -9,4 +9,5 @@ returns c =
     let one = c.in_ok-one.ensures.app ∙ ap₂ joined c.top.ensures.app c.in_ok-compile.ensures.app in
     let two = c.in_ok-two.ensures.app ∙ ap₂ joined one c.in_ok-tree.ensures.app in
     let three = c.in_ok-three.ensures.app ∙ ap₂ joined two c.in_ok-validate.ensures.app in
-    IfOk-weaker c.with_command-4.result _ _ (λ m h. h ∙ ap₂ joined three c.in_ok-plain_command.ensures.app) c.with_command-4.ensures.app
+    let four = c.in_ok-four.ensures.app ∙ ap₂ joined three c.in_ok-lint.ensures.app in
+    IfOk-weaker c.with_command-5.result _ _ (λ m h. h ∙ ap₂ joined four c.in_ok-plain_command.ensures.app) c.with_command-5.ensures.app
