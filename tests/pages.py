@@ -4,19 +4,21 @@ A `console` block of a page has commands after `$ `, each with what it prints: s
 of the repository. `bin/yangcheck` and `yangcheck` are both the program under test; a command that runs another program isn't tried
 here. A line `[2]` at the end is the exit status, which isn't compared without it. A line `...` stands for any lines.
 
-REFUSALS.md and FAULTS.md have samples besides: blocks of files, or a document, then standard output in a `text` block. A file is marked
-`yang`, `yang file NAME`, `yang hex`, `yang padded N` (blanks to N bytes), `yang nested N` (N more containers, all of them closed), or
-`yang limit N` (with that `--max-nodes`); it is `ex.yang` if it isn't named. `yang module` is the module of the documents after it,
-which are marked `json`, or `json kind K` (with that `--kind`); files without a document are compiled. The last lines of standard error are those of the block `text stderr`
-after the output; without one, of a refusal, its name with the sentence below its heading.
+REFUSALS.md, FAULTS.md and LINT.md have samples besides: blocks of files, or a document, then standard output in a `text` block. A file is
+marked `yang`, `yang file NAME`, `yang hex`, `yang padded N` (blanks to N bytes), `yang nested N` (N more containers, all of them closed),
+or `yang limit N` (with that `--max-nodes`); it is `ex.yang` if it isn't named. `yang module` is the module of the documents after it,
+which are marked `json`, or `json kind K` (with that `--kind`). Files without a document are compiled; those of LINT.md are linted, by the
+rule that the heading names. The last lines of standard error are those of the block `told` after the output; without one, of a refusal
+or a finding, its name with the sentence below its heading.
 """
+import os
 import re
 
 from blocks import Block, Heading
 
 PROMPT = "$ "
 PROGRAM = re.compile(r"(?<![\w/.-])(?:bin/|\./)?yangcheck(?= )")
-SAMPLED = ("REFUSALS.md", "FAULTS.md")
+SAMPLED = ("REFUSALS.md", "FAULTS.md", "LINT.md")
 
 
 class Command:
@@ -49,16 +51,15 @@ def commands_of(block):
 class Sample:
     """A sample: its files, its document if there is one, and what must come of it."""
 
-    def __init__(self, name, files, data, options):
-        self.name, self.files, self.data, self.options = name, files, data, options
+    def __init__(self, name, files, data, command):
+        self.name, self.files, self.data, self.command = name, files, data, command
         self.output = self.errors = None
         self.last = []
 
     @property
     def words(self):
         """The words of the command."""
-        action = ["compile"] if self.data is None else ["validate", "--data", "data.json"]
-        return [*action, *self.options, *(name for name, _ in self.files)]
+        return [*self.command, *(name for name, _ in self.files)]
 
 
 def file_of(block):
@@ -83,8 +84,10 @@ def options_of(block):
 class Samples:
     """Reads the samples of a page, part by part."""
 
-    def __init__(self, page, tells_name):
-        self.tells_name, self.found, self.module = tells_name, [], None
+    def __init__(self, page):
+        name = os.path.basename(page.path)
+        self.tells_name, self.is_linted = name != "FAULTS.md", name == "LINT.md"
+        self.found, self.module = [], None
         self.begin(None)
         for part in page.parts:
             self.read(part)
@@ -121,9 +124,15 @@ class Samples:
         elif block.language == "text" and self.files:
             self.end(block)
 
+    def command(self):
+        """The command of a sample with its options."""
+        if self.is_linted:
+            return ["lint", "--rules", self.name, *self.options]
+        return [*(["compile"] if self.data is None else ["validate", "--data", "data.json"]), *self.options]
+
     def end(self, block):
         """Ends a sample at its output."""
-        sample = Sample(self.name, self.files, self.data, self.options)
+        sample = Sample(self.name, self.files, self.data, self.command())
         sample.output = block
         sample.last = [f"{self.name}: {self.sentence}"] if self.tells_name else []
         self.found.append(sample)
