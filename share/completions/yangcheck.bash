@@ -1,5 +1,8 @@
 # Completions of yangcheck for bash. Needs nothing but bash 4.
 
+_yangcheck_rules='FileName NoRevision IncompleteHeader StatementOrder UnusedImport VersionMix NoSuchDate RevisionOrder Version11
+  MinAboveMax UnusedTypedef UnusedGrouping PatternAnchor NoDescription'
+
 # Prints the names of the modules in the YANG files of the command line, or of the current folder if it names none.
 _yangcheck_module_names() {
   local word files=()
@@ -29,6 +32,13 @@ _yangcheck_words() {
   mapfile -t COMPREPLY < <(compgen -W "$1" -- "$2")
 }
 
+# Offers words for the last name of a list with commas.
+_yangcheck_list() {
+  local before=
+  [[ $2 == *,* ]] && before=${2%,*},
+  mapfile -t COMPREPLY < <(compgen -P "$before" -W "$1" -- "${2##*,}")
+}
+
 # Offers the value of an option. Fails if the option takes none.
 _yangcheck_value() {
   local option=$1 word=$2
@@ -38,13 +48,10 @@ _yangcheck_value() {
     --each) _yangcheck_words "file line name name0" "$word" ;;
     --kind) _yangcheck_words "data config" "$word" ;;
     --format) _yangcheck_words "text json" "$word" ;;
+    --rules) _yangcheck_list "$_yangcheck_rules" "$word" ;;
     --module) _yangcheck_words "$(_yangcheck_module_names)" "$word" ;;
     --support) _yangcheck_words "$(_yangcheck_module_names | sed 's/$/:/')" "$word" ;;
-    --import-only)
-      local before=
-      [[ $word == *,* ]] && before=${word%,*},
-      mapfile -t COMPREPLY < <(compgen -P "$before" -W "$(_yangcheck_module_names)" -- "${word##*,}")
-      ;;
+    --import-only) _yangcheck_list "$(_yangcheck_module_names)" "$word" ;;
     --max-nodes | --explain) ;;
     *) return 1 ;;
   esac
@@ -57,6 +64,7 @@ _yangcheck_options() {
   local options=(--max-nodes --support --import-only --help)
   [ "$command" = tree ] && options+=(--module)
   [ "$command" = validate ] && options+=(--each --kind --explain) && left+=(--data)
+  [ "$command" = lint ] && options+=(--rules --format)
   [[ $command == compile || $command == validate ]] && options+=(--format --measures)
   for option in "${options[@]}"; do
     [[ " ${COMP_WORDS[*]:2} " == *" $option "* && $option != "$word" ]] || left+=("$option")
@@ -74,9 +82,9 @@ _yangcheck() {
     before=${COMP_WORDS[COMP_CWORD - 2]}
   fi
   if [ "$COMP_CWORD" = 1 ]; then
-    _yangcheck_words "compile tree validate files help --help --version" "$word"
+    _yangcheck_words "compile tree validate lint files help --help --version" "$word"
   elif [ "$command" = help ]; then
-    [ "$COMP_CWORD" != 2 ] || _yangcheck_words "compile tree validate files help" "$word"
+    [ "$COMP_CWORD" != 2 ] || _yangcheck_words "compile tree validate lint files help" "$word"
   elif _yangcheck_value "$before" "$word"; then
     return
   elif [[ $word == -* ]]; then
