@@ -8,8 +8,8 @@ REFUSALS.md, FAULTS.md and LINT.md have samples besides: blocks of files, or a d
 marked `yang`, `yang file NAME`, `yang hex`, `yang padded N` (blanks to N bytes), `yang nested N` (N more containers, all of them closed),
 or `yang limit N` (with that `--max-nodes`); it is `ex.yang` if it isn't named. `yang module` is the module of the documents after it,
 which are marked `json`, or `json kind K` (with that `--kind`). Files without a document are compiled; those of LINT.md are linted, by the
-rule that the heading names. The last lines of standard error are those of the block `told` after the output; without one, of a refusal
-or a finding, its name with the sentence below its heading.
+rule that the heading names. The last lines of standard error are those of the block `told` after the output; without one, of a refusal,
+its name with the sentence below its heading.
 """
 import os
 import re
@@ -86,7 +86,7 @@ class Samples:
 
     def __init__(self, page):
         name = os.path.basename(page.path)
-        self.tells_name, self.is_linted = name != "FAULTS.md", name == "LINT.md"
+        self.tells_name, self.is_linted = name == "REFUSALS.md", name == "LINT.md"
         self.found, self.module = [], None
         self.begin(None)
         for part in page.parts:
