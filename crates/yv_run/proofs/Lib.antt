@@ -3,3 +3,4 @@ pub mod FileLemmas
 pub mod PatternLemmas
 pub mod RunLemmas
 pub mod BatchLemmas
+pub mod LintLemmas

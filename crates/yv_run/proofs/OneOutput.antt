@@ -21,6 +21,9 @@ use Rattle.yv_source.specs.FileStatements.{IsRead, IsUnread, in_file}
 use Rattle.yv_run.specs.Compiles.{Compilation, RefusedAt, HasSchema, FilesCompile, IsGiven, bad_syntax, refuses, gives_schema}
 use Rattle.yv_base_streams.specs.Files.{File}
 use Rattle.yv_run.specs.Output.{Page, IsOutput, compiled_printed}
+use Rattle.yv_lint.specs.Findings.{findings}
+use Rattle.yv_lint.specs.RuleChoice.{RuleChoice}
+use Rattle.yv_run.specs.Lints.{FilesLint, Finds, LintResult, RefusedBy, are_refused, have_findings, named_paths}
 
 -- what stands at a place of the first list has its like in the second
 zip_back : {A B : Type 0} (R : A → B → Type 0) (xs : List A) (ys : List B) (n : ℕ) (x : A) → AllZip R xs ys → slice_get xs n ≡ Some x → (y : B) × (slice_get ys n ≡ Some y) × R x y
@@ -125,3 +128,15 @@ pub one_output : Once → (task : Task) (files : List File) (given : List ℕ) (
 one_output once task files given p q a b =
     let one : a.0 ≡ b.0 = files_once once task.choice task.limit files a.0 b.0 a.1 b.1 in
     sym a.2 ∙ ap (λ c. compiled_printed task files c given) one ∙ b.2
+
+-- files that are linted come to one thing
+pub one_result : Once → (choice : ModuleChoice) (limit : ℕ) (asked : RuleChoice) (named : ℕ) (files : List File) (a b : LintResult) → FilesLint choice limit asked named files a → FilesLint choice limit asked named files b → a ≡ b
+one_result once choice limit asked named files _ _ (are_refused {r} p) (are_refused {r = s} q) =
+    let e : RefusedAt r ≡ RefusedAt s = files_once once choice limit files _ _ p q in
+    let same : r ≡ s = cc in ap (λ (x : Refusal). RefusedBy x) same
+one_result once choice limit asked named files _ _ (are_refused {r} p) (have_findings s ts q read) =
+    let e : RefusedAt r ≡ HasSchema s = files_once once choice limit files _ _ p q in cc
+one_result once choice limit asked named files _ _ (have_findings s ts p read) (are_refused {r} q) =
+    let e : HasSchema s ≡ RefusedAt r = files_once once choice limit files _ _ p q in cc
+one_result once choice limit asked named files _ _ (have_findings s ts p read) (have_findings t us q read') =
+    ap (λ (xs : List Tree). Finds (findings asked choice (named_paths named files) xs)) (one_list once files ts us read read')

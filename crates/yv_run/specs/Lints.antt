@@ -38,9 +38,9 @@ named_paths named files = map (λ (f : File). f.name) (take named files)
 -- their statements have the findings of the rules that are asked, in those that were named.
 pub data FilesLint (choice : ModuleChoice) (limit : ℕ) (asked : RuleChoice) (named : ℕ)
     (files : List File) : LintResult → Type 0 where
-  refuses : {r : Refusal} → FilesCompile choice limit files (RefusedAt r)
+  are_refused : {r : Refusal} → FilesCompile choice limit files (RefusedAt r)
       → FilesLint choice limit asked named files (RefusedBy r)
-  finds : (schema : Rows) (trees : List Tree) → FilesCompile choice limit files (HasSchema schema)
+  have_findings : (schema : Rows) (trees : List Tree) → FilesCompile choice limit files (HasSchema schema)
       → AllZip IsRead files trees
       → FilesLint choice limit asked named files
       (Finds (findings asked choice (named_paths named files) trees))

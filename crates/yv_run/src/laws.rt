@@ -5,7 +5,9 @@ ghost use Rattle.yv_nodes.specs.Rows.{Rows};
 ghost use Rattle.yv_job.specs.Jobs.{Task};
 ghost use Rattle.yv_base_streams.specs.Files.{File};
 ghost use Rattle.yv_documents.specs.{DocumentLines.{data_lines}, Lines.{ended_line}};
-ghost use Rattle.yv_run.specs.Output.{Page, IsOutput, data_printed};
+ghost use Rattle.yv_lint.specs.RuleChoice.{RuleChoice};
+ghost use Rattle.yv_text_statement.specs.Selection.{ModuleChoice};
+ghost use Rattle.yv_run.specs.{Lints.{FilesLint, LintResult}, Output.{Page, IsOutput, data_printed}};
 
 use yv_schema::laws::files_have_one_schema;
 use yv_source::laws::{a_bad_file_is_refused_once, a_text_is_spelled_or_refused_once};
@@ -16,6 +18,19 @@ use yv_text_statement::laws::order_tells_refusals_apart;
 pub fn a_run_has_one_output()
     ensures { (task : Task) (files : List File) (given : List ℕ) (p q : Page)
         → IsOutput task files given p → IsOutput task files given q → p ≡ q }
+{
+    a_bad_file_is_refused_once();
+    a_text_is_spelled_or_refused_once();
+    files_have_one_schema();
+    order_tells_refusals_apart();
+}
+
+/// Files that are linted come to one thing: a refusal, or these findings. So text and status of a
+/// run of `lint` are a function of the files, and of what was asked.
+pub fn a_lint_run_has_one_result()
+    ensures { (choice : ModuleChoice) (limit : ℕ) (asked : RuleChoice) (named : ℕ)
+        (files : List File) (a b : LintResult) → FilesLint choice limit asked named files a
+        → FilesLint choice limit asked named files b → a ≡ b }
 {
     a_bad_file_is_refused_once();
     a_text_is_spelled_or_refused_once();

@@ -168,7 +168,7 @@ fn names_of(alloc: Global, inputs: &[Input], named: usize) -> Result<Vec<&str>, 
         ≡ named_paths named (map file_of inputs.now)) }
 {
     let mut names = Vec::new(alloc);
-    for input in inputs.iter().take(named) {
+    for input in &inputs[..named.min(inputs.len())] {
         names.push(input.name.as_str())?;
     }
     Ok(names)

@@ -1,0 +1,48 @@
+-- What a run of `lint` leaves, from what its parts answer.
+use Rattle.std.proofs.Common.{◌≡◌, ℕ, List, ap}
+use Rattle.std.specs.List.{AllZip}
+use Rattle.std.specs.declared.option.Option.{Option}
+use Rattle.yv_base_streams.specs.Files.{File}
+use Rattle.yv_job.specs.Jobs.{Task}
+use Rattle.yv_lint.specs.Findings.{findings}
+use Rattle.yv_lint.specs.RuleChoice.{RuleChoice}
+use Rattle.yv_nodes.specs.Rows.{Rows}
+use Rattle.yv_run.proofs.FileLemmas.{failed, refuses_unread}
+use Rattle.yv_run.specs.Compiles.{FilesCompile, HasSchema, RefusedAt}
+use Rattle.yv_run.specs.InnerRun.{HasNote, WritesRefusal}
+use Rattle.yv_run.specs.Lints.{Finds, NotesFindings, RefusedBy, RunsLint, are_refused, findings_printed, have_findings, named_paths}
+use Rattle.yv_run.specs.Runs.{Writes}
+use Rattle.yv_run.specs.declared.whole_run.RunEnd.{RunEnd}
+use Rattle.yv_source.specs.FileStatements.{IsRead, IsUnreadAt}
+use Rattle.yv_text_statement.specs.Tree.{Tree}
+use Rattle.yv_text_statement.specs.declared.refusal.Refusal.{Refusal}
+use Rattle.yv_text_statement.specs.declared.refusal.Stop.{Stop}
+use Rattle.yv_text_statement.specs.declared.refusal.Stop.TheVariants.{Fault}
+
+-- findings were written
+pub found_lint : (task : Task) (asked : RuleChoice) (named : ℕ) (files : List File) (ts : List Tree) (s : Rows) (e : RunEnd) (old new : Option (List ℕ))
+    → FilesCompile task.choice task.limit files (HasSchema s) → AllZip IsRead files ts
+    → Writes (findings_printed task.output.form files (findings asked task.choice (named_paths named files) ts)) e.status old new
+    → HasNote (NotesFindings files (findings asked task.choice (named_paths named files) ts)) e → RunsLint task asked named files e old new
+found_lint task asked named files ts s e old new compiles read writes noted = record {
+  found = Finds (findings asked task.choice (named_paths named files) ts);
+  lints = have_findings s ts compiles read;
+  writes = writes;
+  noted = noted;
+}
+
+-- a refusal was
+pub refused_lint : {A : Type 0} (task : Task) (asked : RuleChoice) (named : ℕ) (files : List File) (stop : Stop) (e : RunEnd) (old new : Option (List ℕ)) → WritesRefusal task.output.form files stop e old new
+    → ((r : Refusal) → failed A Stop stop ≡ failed A Stop (Fault r) → FilesCompile task.choice task.limit files (RefusedAt r)) → RunsLint task asked named files e old new
+refused_lint {A} task asked named files stop e old new h refuses = record {
+  found = RefusedBy h.refusal;
+  lints = are_refused (refuses h.refusal (ap (failed A Stop) h.is));
+  writes = h.writes;
+  noted = h.noted;
+}
+
+-- one of a file that can't be read
+pub unread_lint : {A : Type 0} (task : Task) (asked : RuleChoice) (named : ℕ) (files : List File) (stop : Stop) (e : RunEnd) (old new : Option (List ℕ)) → WritesRefusal task.output.form files stop e old new
+    → ((r : Refusal) → failed A Stop stop ≡ failed A Stop (Fault r) → IsUnreadAt files r) → RunsLint task asked named files e old new
+unread_lint task asked named files stop e old new h unread =
+    refused_lint task asked named files stop e old new h (λ r is. refuses_unread task.choice task.limit files r (unread r is))
