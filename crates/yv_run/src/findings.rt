@@ -45,18 +45,19 @@ fn put_end<W: Write>(page: &mut Page, writer: &mut Counted<W>, form: OutputForm,
     }
 }
 
-// The place of a finding, with the number of its file.
+// The place of a finding, with the number of its file and its column.
 #[derive(Clone, Copy)]
 struct Mark {
     file: usize,
     place: LinePlace,
+    column: usize,
 }
 
 // The mark of a finding, from that of the finding before it.
 fn mark_of(inputs: &[Input], earlier: Mark, finding: &Finding) -> Mark
     requires { IsMark (map file_of inputs.now) earlier }
     ensures mark { IsMark (map file_of inputs.now) result }
-    ensures column { 1 + result.place.offset - result.place.line_start
+    ensures column { result.column
         ≡ column (bytes_of_file (slice_get (map file_of inputs.now) finding.now.file))
         finding.now.offset }
 {
@@ -69,6 +70,7 @@ fn mark_of(inputs: &[Input], earlier: Mark, finding: &Finding) -> Mark
     Mark {
         file: finding.file,
         place,
+        column: 1 + place.offset - place.line_start,
     }
 }
 
@@ -87,11 +89,11 @@ fn put_each<W: Write>(
     let mut mark = Mark {
         file: 0,
         place: LinePlace::BEGINNING,
+        column: 1,
     };
     for finding in findings {
         mark = mark_of(inputs, mark, finding);
-        let column = 1 + mark.place.offset - mark.place.line_start;
-        put_finding(page, writer, form, inputs, finding, column as u64);
+        put_finding(page, writer, form, inputs, finding, mark.column as u64);
     }
 }
 
