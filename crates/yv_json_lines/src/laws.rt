@@ -19,7 +19,8 @@ pub fn json_lines_are_lines()
         → Fits column → Fits offset
         → IsOneLine (json_line (finding_value file line column offset code)) }
     // So is that of all findings.
-    ensures linted { (findings : ℕ) → Fits findings → IsOneLine (json_line (linted_value findings)) }
+    ensures linted { (findings : ℕ) → Fits findings
+        → IsOneLine (json_line (linted_value findings)) }
     // So is that of a fault.
     ensures fault { (name : List ℕ) (line : Option ℕ) (f : Flaw) → LineFits line → Fits f.number
         → IsOneLine (json_line (fault_value name line f)) }

@@ -69,7 +69,8 @@ pub fn run_lint<W: Write>(
         Err(Halt::PatternBuild) => {
             RunEnd::stop_with_note(Status::PatternBuild, pattern_note(alloc, inputs))
         }
-        Err(Halt::NoMemory) | Err(Halt::Read) => RunEnd::stop_with(Status::NoMemory),
+        Err(Halt::NoMemory) => RunEnd::stop_with(Status::NoMemory),
+        Err(Halt::Read) => RunEnd::stop_with(Status::ReadFault),
     }
 }
 
@@ -91,6 +92,7 @@ fn lint_files<W: Write>(
         (λ e. e.status ≡ Status.WriteFault ↔ (has_failed writer.new ≡ true)) }
     ensures writer_once { FailsOnceAtMost writer.new }
     ensures rest { OnErr result (writer.new ≡ writer.old) }
+    ensures never_read { IsErrOf result Halt.Read → ⊥ }
     ensures builds { IsErrOf result Halt.PatternBuild
         → HavePattern (selected_of job.now.selection) job.now.limit (map file_of inputs.now) }
 {
@@ -121,6 +123,7 @@ fn lint_statements<W: Write>(
         (λ e. e.status ≡ Status.WriteFault ↔ (has_failed writer.new ≡ true)) }
     ensures writer_once { FailsOnceAtMost writer.new }
     ensures rest { OnErr result (writer.new ≡ writer.old) }
+    ensures never_read { IsErrOf result Halt.Read → ⊥ }
     ensures builds { IsErrOf result Halt.PatternBuild
         → HavePattern (selected_of job.now.selection) job.now.limit (map file_of inputs.now) }
 {
@@ -153,6 +156,7 @@ fn write_stop<W: Write>(
         (λ e. e.status ≡ Status.WriteFault ↔ (has_failed writer.new ≡ true)) }
     ensures writer_once { FailsOnceAtMost writer.new }
     ensures rest { OnErr result (writer.new ≡ writer.old) }
+    ensures never_read { IsErrOf result Halt.Read → ⊥ }
     ensures builds { IsErrOf result Halt.PatternBuild → stop ≡ PatternBuild }
 {
     match stop {
