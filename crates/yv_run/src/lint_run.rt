@@ -70,7 +70,7 @@ pub fn run_lint<W: Write>(
             RunEnd::stop_with_note(Status::PatternBuild, pattern_note(alloc, inputs))
         }
         Err(Halt::NoMemory) => RunEnd::stop_with(Status::NoMemory),
-        Err(Halt::Read) => RunEnd::stop_with(Status::ReadFault),
+        Err(Halt::Read) => unreachable!(),
     }
 }
 
