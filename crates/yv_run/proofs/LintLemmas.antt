@@ -1,16 +1,17 @@
 -- What a run of `lint` leaves, from what its parts answer.
-use Rattle.std.proofs.Common.{◌≡◌, ℕ, List, ap}
+use Rattle.std.proofs.Common.{◌≡◌, ℕ, List, ap, subst, sym}
 use Rattle.std.specs.List.{AllZip}
 use Rattle.std.specs.declared.option.Option.{Option}
 use Rattle.yv_base_streams.specs.Files.{File}
 use Rattle.yv_job.specs.Jobs.{Task}
 use Rattle.yv_lint.specs.Findings.{findings}
 use Rattle.yv_lint.specs.RuleChoice.{RuleChoice}
+use Rattle.yv_lint.specs.declared.finding.Finding.{Finding}
 use Rattle.yv_nodes.specs.Rows.{Rows}
 use Rattle.yv_run.proofs.FileLemmas.{failed, refuses_unread}
 use Rattle.yv_run.specs.Compiles.{FilesCompile, HasSchema, RefusedAt}
 use Rattle.yv_run.specs.InnerRun.{HasNote, WritesRefusal}
-use Rattle.yv_run.specs.Lints.{Finds, NotesFindings, RefusedBy, RunsLint, are_refused, findings_printed, have_findings, named_paths}
+use Rattle.yv_run.specs.Lints.{FilesLint, Finds, NotesFindings, RefusedBy, RunsLint, are_refused, findings_printed, have_findings, named_paths}
 use Rattle.yv_run.specs.Runs.{Writes}
 use Rattle.yv_run.specs.declared.whole_run.RunEnd.{RunEnd}
 use Rattle.yv_source.specs.FileStatements.{IsRead, IsUnreadAt}
@@ -20,13 +21,12 @@ use Rattle.yv_text_statement.specs.declared.refusal.Stop.{Stop}
 use Rattle.yv_text_statement.specs.declared.refusal.Stop.TheVariants.{Fault}
 
 -- findings were written
-pub found_lint : (task : Task) (asked : RuleChoice) (named : ℕ) (files : List File) (ts : List Tree) (s : Rows) (e : RunEnd) (old new : Option (List ℕ))
-    → FilesCompile task.choice task.limit files (HasSchema s) → AllZip IsRead files ts
-    → Writes (findings_printed task.output.form files (findings asked task.choice (named_paths named files) ts)) e.status old new
-    → HasNote (NotesFindings files (findings asked task.choice (named_paths named files) ts)) e → RunsLint task asked named files e old new
-found_lint task asked named files ts s e old new compiles read writes noted = record {
-  found = Finds (findings asked task.choice (named_paths named files) ts);
-  lints = have_findings s ts compiles read;
+pub found_lint : (task : Task) (asked : RuleChoice) (named : ℕ) (files : List File) (ts : List Tree) (fs : List Finding) (s : Rows) (e : RunEnd) (old new : Option (List ℕ))
+    → FilesCompile task.choice task.limit files (HasSchema s) → AllZip IsRead files ts → fs ≡ findings asked task.choice (named_paths named files) ts
+    → Writes (findings_printed task.output.form files fs) e.status old new → HasNote (NotesFindings files fs) e → RunsLint task asked named files e old new
+found_lint task asked named files ts fs s e old new compiles read is writes noted = record {
+  found = Finds fs;
+  lints = subst (λ (xs : List Finding). FilesLint task.choice task.limit asked named files (Finds xs)) (sym is) (have_findings s ts compiles read);
   writes = writes;
   noted = noted;
 }

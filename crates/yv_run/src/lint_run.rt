@@ -129,7 +129,8 @@ fn lint_statements<W: Write>(
 {
     match compile_statements(alloc, statements, &job.selection, job.limit) {
         Ok(schema) => {
-            let ended = write_findings(alloc, job, inputs, statements, rules, named, writer)?;
+            let list = find_all(alloc, job, inputs, statements, rules, named)?;
+            let ended = write_findings(alloc, job, inputs, statements, &list, writer);
             Ok(RunEnd {
                 holdings: Holdings::of_schema(schema),
                 ..ended
@@ -178,41 +179,48 @@ fn names_of(alloc: Global, inputs: &[Input], named: usize) -> Result<Vec<&str>, 
     Ok(names)
 }
 
-// Writes the findings in files of which these are the statements.
-fn write_findings<W: Write>(
+// The findings in files of which these are the statements.
+fn find_all(
     alloc: Global,
     job: &Job,
     inputs: &[Input],
     statements: &[Statement<'_>],
     rules: &Rules,
     named: usize,
-    writer: &mut Counted<W>,
-) -> Result<RunEnd, Halt>
-    requires { IsFresh writer.old }
-    ensures writes { IfOk result
-        (λ e. Writes (findings_printed job.now.output.form (map file_of inputs.now)
-        (findings (asked_in rules.now) (selected_of job.now.selection)
-        (named_paths named (map file_of inputs.now)) statements.now)) e.status
-        (W.contents (stream_inner writer.old)) (W.contents (stream_inner writer.new))) }
-    ensures notes { IfOk result (HasNote (NotesFindings (map file_of inputs.now)
-        (findings (asked_in rules.now) (selected_of job.now.selection)
-        (named_paths named (map file_of inputs.now)) statements.now))) }
-    ensures ends { IfOk result (λ e. IsStopped e.status → ⊥) }
-    ensures write_fault { IfOk result
-        (λ e. e.status ≡ Status.WriteFault ↔ (has_failed writer.new ≡ true)) }
-    ensures writer_once { FailsOnceAtMost writer.new }
-    ensures rest { OnErr result (writer.new ≡ writer.old) }
-    ensures no_memory { IfErr result (λ h. h ≡ Halt.NoMemory) }
+) -> Result<Vec<Finding>, AllocError>
+    ensures { IfOk result
+        (λ list. list.items ≡ findings (asked_in rules.now) (selected_of job.now.selection)
+        (named_paths named (map file_of inputs.now)) statements.now) }
 {
     let names = names_of(alloc, inputs, named)?;
-    let list = lint(alloc, statements, &names, &job.selection, rules)?;
-    let status = write_output(&of_findings(inputs, &list, job.output.form), writer);
-    let note = lint_note(alloc, inputs, statements, &list);
-    Ok(RunEnd {
+    lint(alloc, statements, &names, &job.selection, rules)
+}
+
+// Writes these findings in files of which these are the statements.
+fn write_findings<W: Write>(
+    alloc: Global,
+    job: &Job,
+    inputs: &[Input],
+    statements: &[Statement<'_>],
+    list: &[Finding],
+    writer: &mut Counted<W>,
+) -> RunEnd
+    requires { IsFresh writer.old }
+    ensures writes { Writes
+        (findings_printed job.now.output.form (map file_of inputs.now) list.now) result.status
+        (W.contents (stream_inner writer.old)) (W.contents (stream_inner writer.new)) }
+    ensures notes { HasNote (NotesFindings (map file_of inputs.now) list.now) result }
+    ensures ends { IsStopped result.status → ⊥ }
+    ensures write_fault { result.status ≡ Status.WriteFault ↔ (has_failed writer.new ≡ true) }
+    ensures writer_once { FailsOnceAtMost writer.new }
+{
+    let status = write_output(&of_findings(inputs, list, job.output.form), writer);
+    let note = lint_note(alloc, inputs, statements, list);
+    RunEnd {
         status,
         note,
         holdings: Holdings::none(),
-    })
+    }
 }
 
 // What helps a person to mend what was found.

@@ -1,4 +1,4 @@
-use Rattle.std.proofs.Common.{map}
+use Rattle.std.proofs.Common.{◌∙◌, map}
 use Rattle.std.proofs.lemmas.Result.{IfOk-weaker}
 use Rattle.yv_base_streams.specs.Files.{file_of}
 use Rattle.yv_job.specs.Jobs.{task_of}
@@ -8,9 +8,9 @@ use Rattle.yv_run.proofs.lint_run.lint_statements.Goals as goal
 
 pub returns-in-Ok-clause-runs : goal.returns-in-Ok-clause-runs
 returns-in-Ok-clause-runs g c =
-    found_lint (task_of c.args.job.now) (asked_in c.args.rules.now) c.args.named (map file_of c.args.inputs.now) c.args.statements.now c.in-Ok.schema _ _ _
+    found_lint (task_of c.args.job.now) (asked_in c.args.rules.now) c.args.named (map file_of c.args.inputs.now) c.args.statements.now _ c.in-Ok.schema _ _ _
     (c.in-Ok.ensures.schema (map file_of c.args.inputs.now) c.requires.read) c.requires.read
-    c.in_ok-ended.ensures.writes c.in_ok-ended.ensures.notes
+    (c.deref.ensures.value ∙ c.in_ok-list.ensures) c.write_findings-ended.ensures.writes c.write_findings-ended.ensures.notes
 
 pub returns-in-Err-clause-runs : goal.returns-in-Err-clause-runs
 returns-in-Err-clause-runs g c =
