@@ -1,7 +1,7 @@
 -- Notes behind others, and what they have in common.
 use Rattle.std.proofs.Common.{◌≡◌, ℕ, zero, suc, ◌==◌, ◌||◌, ◌&&◌, ◌+◌, ◌-◌, ◌*◌, ◌≤◌, ◌<◌, Bool, true, false, List, [], ◌∷◌, ◌++◌, length, map, min, take, drop, replicate, nat_le, codes, refl, sym, ap, ◌∙◌, append_assoc, arith, get_or, slice_get, subst}
 use Rattle.std.specs.List.{AllZip, filter, slice_range}
-use Rattle.std.proofs.lemmas.List.{append-nil, length-append, length-drop, length-map, length-replicate, length-take, take_more}
+use Rattle.std.proofs.lemmas.List.{append-nil, length-append, length-map, length-replicate, length-take, take_more}
 use Rattle.std.proofs.lemmas.List.Sums.{count_by-le-length, length-filter}
 use Rattle.yv_base_streams.specs.Files.{File}
 use Rattle.yv_lint.specs.Rules.{name_of}
