@@ -6,3 +6,4 @@ pub mod Parts
 pub mod Texts
 pub mod TextRemainder
 pub mod PendingLines
+pub mod WholeDrawings

@@ -5,23 +5,27 @@ use Rattle.yv_nodes.specs.Tree.{Forest, tree}
 use Rattle.yv_nodes.specs.Rows.{Module, Rows, tree_of}
 use Rattle.yv_schema_tables.specs.Sound.{IsChild}
 use Rattle.yv_base_streams.specs.Pages.{Adds, Output}
-use Rattle.yv_tree.specs.Lines.{has_line, tree_lines, forest_lines}
+use Rattle.yv_tree.specs.Lines.{has_line}
+use Rattle.yv_tree.specs.DrawnNodes.{drawn_tree, drawn_trees}
 use Rattle.yv_tree.specs.Diagram.{text_of}
 
--- the text of a node and of those below it
-abbrev pub tree_text : Rows → List Module → (own : ℕ) → (margin : List ℕ) → Bool → NodeId → List ℕ
-tree_text s modules own margin follows c =
-    text_of (tree_lines modules own margin follows (tree_of s c))
+-- the text of a node and of those below it, of which so many levels are left
+abbrev pub tree_text : Rows → List Module → (own : ℕ) → (left : Option ℕ) → (margin : List ℕ)
+    → Bool → NodeId → List ℕ
+tree_text s modules own left margin follows c =
+    text_of (drawn_tree modules own left margin follows (tree_of s c))
 
 -- that of a node that waits for what follows it
-abbrev pub waiting_text : Rows → List Module → (own : ℕ) → (margin : List ℕ) → Bool → Option NodeId
-    → List ℕ
-waiting_text s modules own margin follows None = []
-waiting_text s modules own margin follows (Some c) = tree_text s modules own margin follows c
+abbrev pub waiting_text : Rows → List Module → (own : ℕ) → (left : Option ℕ) → (margin : List ℕ)
+    → Bool → Option NodeId → List ℕ
+waiting_text s modules own left margin follows None = []
+waiting_text s modules own left margin follows (Some c) =
+    tree_text s modules own left margin follows c
 
 -- that of these nodes and of those below them
-abbrev pub trees_text : Rows → List Module → (own : ℕ) → (margin : List ℕ) → Forest → List ℕ
-trees_text s modules own margin ts = text_of (forest_lines modules own margin ts)
+abbrev pub trees_text : Rows → List Module → (own : ℕ) → (left : Option ℕ) → (margin : List ℕ)
+    → Forest → List ℕ
+trees_text s modules own left margin ts = text_of (drawn_trees modules own left margin ts)
 
 -- these trees after the tree of a node that waits
 abbrev pub waiting_trees : Rows → Option NodeId → Forest → Forest

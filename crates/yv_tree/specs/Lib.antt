@@ -1,5 +1,7 @@
 pub mod Lines
 pub mod Diagram
+pub mod DrawnNodes
+pub mod DrawnDiagram
 pub mod InnerModules
 pub mod InnerMargin
 pub mod InnerTops

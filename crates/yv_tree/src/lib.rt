@@ -2,6 +2,8 @@
 #![tactic(auto)]
 
 mod draw;
+mod drawings;
+pub mod laws;
 mod line;
 mod margin;
 mod modules;
@@ -10,4 +12,5 @@ mod sections;
 mod text;
 mod tree_diagram;
 
+pub use drawings::{Drawing, Missing};
 pub use tree_diagram::{TreeDiagram, diagram};

@@ -4,14 +4,14 @@ ghost use Rattle.yv_node_content.specs.Steps.{is_module_file};
 ghost use Rattle.yv_base_streams.specs.Pages.{Adds};
 ghost use Rattle.yv_tree.specs.Lines.{status_mark, access, flags, line_start, lead, full_name, shown_name, options, optional, list_options, key_name, between, behind, behind_each, written_prefix, shown_piece, shown_type, if_features, line};
 
-use crate::draw::Drawing;
+use crate::draw::Subject;
 use crate::paper::Paper;
 use yv_node_content::{NodeKind, NodeStatus, PathPiece, PathStep};
 use yv_nodes::Node;
 
 /// Puts the line of a node in a diagram, without its margin and its line feed.
 pub(crate) fn put_line<P: Paper>(
-    drawing: &Drawing<'_>,
+    drawing: &Subject<'_>,
     node: &Node,
     paper: &mut P,
     page: &mut P::Page,
@@ -24,7 +24,7 @@ pub(crate) fn put_line<P: Paper>(
 }
 
 // The first fields: status, flags and name.
-fn put_front<P: Paper>(drawing: &Drawing<'_>, node: &Node, paper: &mut P, page: &mut P::Page)
+fn put_front<P: Paper>(drawing: &Subject<'_>, node: &Node, paper: &mut P, page: &mut P::Page)
     ensures { Adds (status_mark node.now.label.defined.status ++ codes "--"
         ++ line_start node.now.label.defined.kind node.now.label
         ++ shown_name node.now.label.defined.kind drawing.now.modules.now drawing.now.own
@@ -99,7 +99,7 @@ fn put_flags<P: Paper>(node: &Node, paper: &mut P, page: &mut P::Page)
     paper.put(page, " ");
 }
 
-fn put_name<P: Paper>(drawing: &Drawing<'_>, node: &Node, paper: &mut P, page: &mut P::Page)
+fn put_name<P: Paper>(drawing: &Subject<'_>, node: &Node, paper: &mut P, page: &mut P::Page)
     ensures { Adds
         (shown_name node.now.label.defined.kind drawing.now.modules.now drawing.now.own
         node.now.label)
@@ -115,7 +115,7 @@ fn put_name<P: Paper>(drawing: &Drawing<'_>, node: &Node, paper: &mut P, page: &
     }
 }
 
-fn put_full_name<P: Paper>(drawing: &Drawing<'_>, node: &Node, paper: &mut P, page: &mut P::Page)
+fn put_full_name<P: Paper>(drawing: &Subject<'_>, node: &Node, paper: &mut P, page: &mut P::Page)
     ensures { Adds (full_name drawing.now.modules.now drawing.now.own node.now.label)
         (P.output page.old paper.old) (P.output page.new paper.new) }
 {
@@ -124,7 +124,7 @@ fn put_full_name<P: Paper>(drawing: &Drawing<'_>, node: &Node, paper: &mut P, pa
 }
 
 // The prefix of a node's module and a colon, where that isn't the module of the diagram.
-fn put_lead<P: Paper>(drawing: &Drawing<'_>, module_file: u32, paper: &mut P, page: &mut P::Page)
+fn put_lead<P: Paper>(drawing: &Subject<'_>, module_file: u32, paper: &mut P, page: &mut P::Page)
     ensures { Adds (lead drawing.now.modules.now drawing.now.own module_file)
         (P.output page.old paper.old) (P.output page.new paper.new) }
 {

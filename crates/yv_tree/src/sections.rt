@@ -3,9 +3,9 @@ ghost use Rattle.std.specs.Prelude.{◌≡◌, ◌==◌, [], ◌++◌, ◌<◌, 
 ghost use Rattle.yv_nodes.specs.Rows.{row_at, AreTrees};
 ghost use Rattle.yv_schema_tables.specs.Sound.{IsChild, IsNote, IsSound};
 ghost use Rattle.yv_base_streams.specs.Pages.{Adds};
-ghost use Rattle.yv_tree.specs.{Diagram.{augment_section, belongs, first_module_file, is_shown, is_top, section, text_of, tops}, InnerTops.{AreTops}};
+ghost use Rattle.yv_tree.specs.{Diagram.{belongs, first_module_file, is_shown, is_top, text_of, tops}, DrawnDiagram.{drawn_augment, drawn_section}, InnerTops.{AreTops}};
 
-use crate::draw::Drawing;
+use crate::draw::Subject;
 use crate::margin::Margin;
 use crate::paper::Paper;
 use std::alloc::{AllocError, Global};
@@ -25,12 +25,12 @@ pub(crate) enum Part {
     Notifications,
 }
 
-impl Drawing<'_> {
+impl Subject<'_> {
     /// Puts the sections of the augments.
     pub(crate) fn augments<P: Paper>(&self, paper: &mut P, page: &mut P::Page)
         requires { self.now.modules.now ≡ self.now.schema.now.modules }
         ensures { Adds
-            (text_of (flat_map (augment_section self.now.schema.now self.now.own)
+            (text_of (flat_map (drawn_augment self.now.schema.now self.now.own self.now.depth)
             self.now.schema.now.augments))
             (P.output page.old paper.old) (P.output page.new paper.new) }
     {
@@ -44,7 +44,8 @@ impl Drawing<'_> {
         requires modules { self.now.modules.now ≡ self.now.schema.now.modules }
         requires note { IsNote self.now.schema.now augment.now }
         requires sound { IsSound self.now.schema.now }
-        ensures { Adds (text_of (augment_section self.now.schema.now self.now.own augment.now))
+        ensures { Adds
+            (text_of (drawn_augment self.now.schema.now self.now.own self.now.depth augment.now))
             (P.output page.old paper.old) (P.output page.new paper.new) }
     {
         children_are_trees();
@@ -71,7 +72,9 @@ impl Drawing<'_> {
         requires modules { self.now.modules.now ≡ self.now.schema.now.modules }
         requires children { All (IsChild self.now.schema.now Schema.ROOT) ids.now }
         requires trees { AreTrees self.now.schema.now ids.now }
-        ensures { Adds (text_of (section self.now.schema.now self.now.own title.now ids.now))
+        ensures { Adds
+            (text_of (drawn_section self.now.schema.now self.now.own self.now.depth title.now
+            ids.now))
             (P.output page.old paper.old) (P.output page.new paper.new) }
     {
         self.section(title, "", Schema::ROOT, ids, paper, page);
@@ -91,7 +94,8 @@ impl Drawing<'_> {
         requires children { All (IsChild self.now.schema.now parent) ids.now }
         requires trees { AreTrees self.now.schema.now ids.now }
         ensures { Adds
-            (text_of (section self.now.schema.now self.now.own (word.now ++ argument.now) ids.now))
+            (text_of (drawn_section self.now.schema.now self.now.own self.now.depth
+            (word.now ++ argument.now) ids.now))
             (P.output page.old paper.old) (P.output page.new paper.new) }
     {
         if !ids.is_empty() {
@@ -99,7 +103,7 @@ impl Drawing<'_> {
             paper.put(page, word);
             paper.put(page, argument);
             paper.put(page, ":\n");
-            self.nodes(parent, ids, &Margin::Section, paper, page);
+            self.nodes(parent, ids, self.depth, &Margin::Section, paper, page);
         }
     }
 

@@ -1,9 +1,10 @@
 //! The diagram of a module, which is drawn in memory or written to a stream.
 ghost use Rattle.std.specs.{Prelude.{◌≡◌, ◌++◌, ◌∷◌, [], ◌↔◌, ℕ, true, false, Some, IfOk, codes, option_map, string_bytes, take}, Io.KnownBytes.{Appends}};
 ghost use Rattle.yv_base_streams.specs.{Stream.{has_failed, stream_inner, FailsOnceAtMost}, Pages.{Adds}};
-ghost use Rattle.yv_tree.specs.Diagram.{diagram_lines, diagram_of, module_in, text_of};
+ghost use Rattle.yv_tree.specs.{Diagram.{diagram_of, module_in, text_of}, DrawnDiagram.{drawn_lines, drawn_of}};
 
-use crate::draw::Drawing;
+use crate::draw::Subject;
+use crate::drawings::{Drawing, Missing};
 use crate::margin::Margin;
 use crate::modules::Modules;
 use crate::paper::Paper;
@@ -22,6 +23,7 @@ use yv_schema_tables::{Module, Schema};
 pub struct TreeDiagram<'a> {
     schema: &'a Schema,
     shown: &'a Module,
+    depth: Option<u32>,
     modules: Modules<'a>,
     data_nodes: Vec<NodeId>,
     rpcs: Vec<NodeId>,
@@ -30,11 +32,11 @@ pub struct TreeDiagram<'a> {
 
 impl<'a> Model for TreeDiagram<'a> {
     ghost use Rattle.std.specs.Prelude.{◌≡◌, ℕ, List};
-    ghost use Rattle.yv_tree.specs.{Diagram.{diagram_lines, text_of}, InnerTops.{AreReady}};
+    ghost use Rattle.yv_tree.specs.{Diagram.{text_of}, DrawnDiagram.{drawn_lines}, InnerTops.{AreReady}};
 
     ghost Value = { List ℕ };
 
-    ghost view = { λ d. text_of (diagram_lines d.schema.now d.shown.now.name d.shown.now.module_file) };
+    ghost view = { λ d. text_of (drawn_lines d.schema.now d.shown.now.name d.shown.now.module_file d.depth) };
 
     ghost invariant = { λ d.
         AreReady d.schema.now d.shown.now.module_file d.modules
@@ -74,25 +76,43 @@ impl<'a> TreeDiagram<'a> {
         ensures { IfOk result (λ found. found ≡ diagram_of schema.now name.now) }
     {
         match module_named(schema.modules(), name) {
-            Some(shown) => Ok(Some(TreeDiagram::ready(alloc, schema, shown)?)),
+            Some(shown) => Ok(Some(TreeDiagram::ready(alloc, schema, shown, None)?)),
             None => Ok(None),
         }
     }
 
-    // The diagram of this module.
+    /// The diagram of a module with a drawing, or what is missing of what was asked for.
+    pub fn with_drawing(
+        alloc: Global,
+        schema: &'a Schema,
+        name: &str,
+        drawing: &Drawing,
+    ) -> Result<Result<TreeDiagram<'a>, Missing>, AllocError>
+        // The lines that the definition of a diagram with a drawing gives, or what is missing.
+        ensures { IfOk result (λ found. found ≡ drawn_of schema.now name.now drawing.now) }
+    {
+        match module_named(schema.modules(), name) {
+            Some(shown) => Ok(Ok(TreeDiagram::ready(alloc, schema, shown, drawing.depth)?)),
+            None => Ok(Err(Missing::Module)),
+        }
+    }
+
+    // The diagram of this module, with so many levels of nodes.
     fn ready(
         alloc: Global,
         schema: &'a Schema,
         shown: &'a Module,
+        depth: Option<u32>,
     ) -> Result<TreeDiagram<'a>, AllocError>
         ensures { IfOk result (λ found. found
-            ≡ text_of (diagram_lines schema.now shown.now.name shown.now.module_file)) }
+            ≡ text_of (drawn_lines schema.now shown.now.name shown.now.module_file depth)) }
     {
         let modules = Modules::of(alloc, schema.modules())?;
-        let drawing = Drawing {
+        let drawing = Subject {
             schema,
             modules: &modules,
             own: shown.module_file,
+            depth,
         };
         let data_nodes = drawing.tops(alloc, Part::Data)?;
         let rpcs = drawing.tops(alloc, Part::Rpcs)?;
@@ -100,6 +120,7 @@ impl<'a> TreeDiagram<'a> {
         Ok(TreeDiagram {
             schema,
             shown,
+            depth,
             modules,
             data_nodes,
             rpcs,
@@ -144,14 +165,22 @@ impl<'a> TreeDiagram<'a> {
         ensures { Adds self.now (P.output page.old paper.old) (P.output page.new paper.new) }
     {
         let shown = self.shown;
-        let drawing = Drawing {
+        let drawing = Subject {
             schema: self.schema,
             modules: &self.modules,
             own: shown.module_file,
+            depth: self.depth,
         };
         let data_nodes = self.data_nodes.as_slice();
         put_header(shown.name.as_str(), paper, page);
-        drawing.nodes(Schema::ROOT, data_nodes, &Margin::Top, paper, page);
+        drawing.nodes(
+            Schema::ROOT,
+            data_nodes,
+            self.depth,
+            &Margin::Top,
+            paper,
+            page,
+        );
         drawing.augments(paper, page);
         drawing.tops_section("rpcs", self.rpcs.as_slice(), paper, page);
         let notifications = self.notifications.as_slice();

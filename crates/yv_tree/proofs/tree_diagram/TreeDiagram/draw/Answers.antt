@@ -6,7 +6,7 @@ use Rattle.yv_tree.proofs.tree_diagram.TreeDiagram.draw.Goals as goal
 pub returns : goal.returns
 returns g c =
     let all = c.self.inside in
-    ready_put all.schema.now all.shown.now all.modules c.shown.inside.module_file c.as_str.result.now c.args.self.now
+    ready_put all.schema.now all.shown.now all.modules c.shown.inside.module_file all.depth c.as_str.result.now c.args.self.now
     all.data_nodes.items all.rpcs.items all.notifications.items
     c.as_slice-data_nodes.result.now c.as_slice.result.now c.as_slice-notifications.result.now
     (g.P.Paper.output c.args.page.now c.args.paper.now)

@@ -3,7 +3,7 @@ use Rattle.yv_nodes.specs.declared.node.NodeId.{NodeId}
 use Rattle.yv_nodes.specs.Rows.{Row, is_root, row_at}
 use Rattle.yv_tree.specs.Diagram.{first_module_file}
 use Rattle.yv_tree.proofs.Tops.{at_top, one_up, parent_before}
-use Rattle.yv_tree.proofs.draw.Drawing.+first.Goals as goal
+use Rattle.yv_tree.proofs.draw.Subject.+first.Goals as goal
 
 pub returns-then-eq-clause-value : goal.returns-then-eq-clause-value
 returns-then-eq-clause-value t c =

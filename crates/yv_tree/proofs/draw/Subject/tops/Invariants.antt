@@ -1,7 +1,7 @@
 use Rattle.std.proofs.Common.{◌≡◌, ◌++◌, drop}
 use Rattle.std.specs.Prelude.{filter}
 use Rattle.yv_tree.specs.Diagram.{is_top}
-use Rattle.yv_tree.proofs.draw.Drawing.tops.Given as goal
+use Rattle.yv_tree.proofs.draw.Subject.tops.Given as goal
 
 -- with those among the nodes that are left, these are all
 abbrev pub invariant-loop-id : goal.invariant-loop-id

@@ -4,7 +4,7 @@ use Rattle.yv_base_streams.specs.Pages.{Adds}
 use Rattle.yv_tree.specs.InnerMargin.{margin_text}
 use Rattle.yv_tree.specs.Lines.{line}
 use Rattle.yv_tree.proofs.Parts.{adds_both}
-use Rattle.yv_tree.proofs.draw.Drawing.line.Goals as goal
+use Rattle.yv_tree.proofs.draw.Subject.line.Goals as goal
 
 pub returns : goal.returns
 returns g c =

@@ -3,7 +3,7 @@ use Rattle.std.specs.Prelude.{not}
 use Rattle.yv_nodes.specs.Rows.{pick, trees_from}
 use Rattle.yv_tree.specs.Lines.{are_some}
 use Rattle.yv_tree.proofs.ParentNodes.{some_picked}
-use Rattle.yv_tree.proofs.draw.Drawing.has_children.Goals as goal
+use Rattle.yv_tree.proofs.draw.Subject.has_children.Goals as goal
 
 pub returns : goal.returns
 returns c =

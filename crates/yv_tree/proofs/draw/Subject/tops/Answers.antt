@@ -2,7 +2,7 @@ use Rattle.yv_nodes.specs.Rows.{root}
 use Rattle.yv_schema_tables.specs.Sound.{IsChild}
 use Rattle.yv_tree.specs.Diagram.{is_top}
 use Rattle.yv_tree.proofs.FilterLoop.{found_all, found_each}
-use Rattle.yv_tree.proofs.draw.Drawing.tops.Goals as goal
+use Rattle.yv_tree.proofs.draw.Subject.tops.Goals as goal
 
 pub returns-clause-children : goal.returns-clause-children
 returns-clause-children c =

@@ -2,7 +2,7 @@ use Rattle.std.proofs.Common.{ap, sym, ◌∙◌, subst, All, List}
 use Rattle.yv_nodes.specs.declared.node.NodeId.{NodeId}
 use Rattle.yv_nodes.specs.Rows.{Note}
 use Rattle.yv_schema_tables.specs.Sound.{IsChild}
-use Rattle.yv_tree.proofs.draw.Drawing.augment.Goals as goal
+use Rattle.yv_tree.proofs.draw.Subject.augment.Goals as goal
 
 pub section-requires-clause-trees : goal.section-requires-clause-trees
 section-requires-clause-trees g c =
