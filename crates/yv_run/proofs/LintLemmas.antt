@@ -1,8 +1,9 @@
 -- What a run of `lint` leaves, from what its parts answer.
-use Rattle.std.proofs.Common.{◌≡◌, ℕ, List, ap, subst, sym}
+use Rattle.std.proofs.Common.{◌≡◌, ℕ, zero, suc, List, [], ◌∷◌, map, take, string_bytes, refl, ap, subst, sym}
 use Rattle.std.specs.List.{AllZip}
 use Rattle.std.specs.declared.option.Option.{Option}
-use Rattle.yv_base_streams.specs.Files.{File}
+use Rattle.yv_base_streams.specs.Files.{File, file_of}
+use Rattle.yv_base_streams.specs.declared.input.Input.{Input}
 use Rattle.yv_job.specs.Jobs.{Task}
 use Rattle.yv_lint.specs.Findings.{findings}
 use Rattle.yv_lint.specs.RuleChoice.{RuleChoice}
@@ -46,3 +47,9 @@ pub unread_lint : {A : Type 0} (task : Task) (asked : RuleChoice) (named : ℕ) 
     → ((r : Refusal) → failed A Stop stop ≡ failed A Stop (Fault r) → IsUnreadAt files r) → RunsLint task asked named files e old new
 unread_lint task asked named files stop e old new h unread =
     refused_lint task asked named files stop e old new h (λ r is. refuses_unread task.choice task.limit files r (unread r is))
+
+-- the names of the first inputs are those of the first files
+pub first_paths : (n : ℕ) (inputs : List Input) → map (λ (i : Input). string_bytes i.name) (take n inputs) ≡ named_paths n (map file_of inputs)
+first_paths zero inputs = refl
+first_paths (suc n) [] = refl
+first_paths (suc n) (i ∷ inputs) = ap (λ (ps : List (List ℕ)). string_bytes i.name ∷ ps) (first_paths n inputs)

@@ -172,8 +172,9 @@ fn names_of(alloc: Global, inputs: &[Input], named: usize) -> Result<Vec<&str>, 
     ensures { IfOk result (λ names. map (λ n. n.now) names.items
         ≡ named_paths named (map file_of inputs.now)) }
 {
+    let front = &inputs[..named.min(inputs.len())];
     let mut names = Vec::new(alloc);
-    for input in &inputs[..named.min(inputs.len())] {
+    for input in front {
         names.push(input.name.as_str())?;
     }
     Ok(names)
