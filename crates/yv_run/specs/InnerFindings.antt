@@ -1,6 +1,5 @@
 -- Only private clauses cite this: a finding of which the column is known.
-use Rattle.std.specs.Prelude.{ℕ, List, ◌∷◌, ◌++◌, codes, slice_get}
-use Rattle.std.specs.Fmt.{decimal}
+use Rattle.std.specs.Prelude.{ℕ, List, slice_get}
 use Rattle.yv_base_positions.specs.LineStart.{IsLineStart}
 use Rattle.yv_base_streams.specs.Files.{File}
 use Rattle.yv_job.specs.declared.job.OutputForm.{OutputForm}

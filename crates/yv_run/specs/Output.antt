@@ -6,7 +6,7 @@ use Rattle.std.specs.Fmt.{decimal}
 use Rattle.serde_json.specs.Data.{Data}
 use Rattle.yv_text_statement.specs.Codes.{name_of}
 use Rattle.yv_text_statement.specs.declared.refusal.Refusal.{Refusal}
-use Rattle.yv_nodes.specs.Tree.{Forest, count as node_count}
+use Rattle.yv_nodes.specs.Tree.{count as node_count}
 use Rattle.yv_nodes.specs.Rows.{Rows, whole}
 use Rattle.yv_text_statement.specs.declared.document_kind.Kind.{Kind}
 use Rattle.yv_schema_tables.specs.Measures.{measures_of}
