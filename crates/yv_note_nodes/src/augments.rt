@@ -1,9 +1,8 @@
 //! Augments and refines.
+use crate::explanation::Explanation;
 use crate::mandatory::first_mandatory;
-use crate::nodes::{Steps, Way, follow, node_below, nodes_below, root_of, say_no_node};
-use crate::step_modules::say_foreign_step;
+use crate::nodes::{Steps, Way, follow, node_below, nodes_below, root_of};
 use crate::tree::Tree;
-use crate::unprefixed_paths::say_prefixed;
 use std::alloc::AllocError;
 use yv_link_scopes::local;
 use yv_note_statements::{Message, Site, is_among};
@@ -34,11 +33,8 @@ pub fn tell_refine_target<'a>(
     telling: &mut Message<'a>,
     site: &Site<'_, 'a>,
 ) -> Result<(), AllocError> {
-    let mut tree = Tree::explain(telling, Code::RefineTarget, site)?;
-    match way_of(&mut tree, site)? {
-        Way::Until(node, name) => say_no_node(telling, &mut tree, &node, name, Steps::Schema),
-        _ => Ok(()),
-    }
+    let mut explanation = Explanation::of(telling, Code::RefineTarget, site)?;
+    explanation.say_refine_target(site)
 }
 
 // A property that a `refine` may change, and the nodes that have it.
@@ -129,38 +125,48 @@ pub fn tell_augment_target<'a>(
     telling: &mut Message<'a>,
     site: &Site<'_, 'a>,
 ) -> Result<(), AllocError> {
-    let mut tree = Tree::explain(telling, Code::AugmentTarget, site)?;
-    let is_absolute = site.argument().starts_with('/');
-    match way_of(&mut tree, site)? {
-        Way::Until(node, name) => say_missing_step(telling, &mut tree, &node, name)?,
-        Way::To(node) => {
-            if is_absolute && say_foreign_step(telling, &mut tree, site, Steps::Schema)? {
-                return Ok(());
-            }
-            say_no_target(telling, &node);
-        }
-        _ => telling.say(" Look at the prefixes of its steps."),
-    }
-    if is_absolute {
-        say_prefixed(telling, &mut tree, site, site.argument(), Steps::Schema)?;
-    }
-    Ok(())
+    let mut explanation = Explanation::of(telling, Code::AugmentTarget, site)?;
+    explanation.say_augment_target(site)
 }
 
-// Adds that a node has none of this name below it, or in which case there is one.
-fn say_missing_step<'s, 'a>(
-    telling: &mut Message<'a>,
-    tree: &mut Tree<'s, 'a>,
-    node: &Site<'s, 'a>,
-    name: &'a str,
-) -> Result<(), AllocError> {
-    if node.is("choice") {
-        if let Some(inner) = node_below(tree, node, name, Steps::Data)? {
-            say_case(telling, &inner);
-            return Ok(());
+impl<'s, 'a> Explanation<'_, 's, 'a> {
+    // Adds where the path of a `refine` leads wrong.
+    fn say_refine_target(&mut self, site: &Site<'s, 'a>) -> Result<(), AllocError> {
+        match way_of(&mut self.tree, site)? {
+            Way::Until(node, name) => self.say_no_node(&node, name, Steps::Schema),
+            _ => Ok(()),
         }
     }
-    say_no_node(telling, tree, node, name, Steps::Schema)
+
+    // Adds where the path of an `augment` leads wrong.
+    fn say_augment_target(&mut self, site: &Site<'s, 'a>) -> Result<(), AllocError> {
+        let is_absolute = site.argument().starts_with('/');
+        match way_of(&mut self.tree, site)? {
+            Way::Until(node, name) => self.say_missing_step(&node, name)?,
+            Way::To(node) => {
+                if is_absolute && self.say_foreign_step(site, Steps::Schema)? {
+                    return Ok(());
+                }
+                say_no_target(self.message, &node);
+            }
+            _ => self.message.say(" Look at the prefixes of its steps."),
+        }
+        if is_absolute {
+            self.say_prefixed(site, Steps::Schema)?;
+        }
+        Ok(())
+    }
+
+    // Adds that a node has none of this name below it, or in which case there is one.
+    fn say_missing_step(&mut self, node: &Site<'s, 'a>, name: &'a str) -> Result<(), AllocError> {
+        if node.is("choice") {
+            if let Some(inner) = node_below(&mut self.tree, node, name, Steps::Data)? {
+                say_case(self.message, &inner);
+                return Ok(());
+            }
+        }
+        self.say_no_node(node, name, Steps::Schema)
+    }
 }
 
 // Adds the case of a node, which a path leaves out.

@@ -5,6 +5,7 @@
 mod augment_names;
 mod augments;
 mod default_cases;
+mod explanation;
 mod lists;
 mod mandatory;
 mod nodes;

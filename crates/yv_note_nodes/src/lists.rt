@@ -1,5 +1,6 @@
 //! Keys and unique leafs of lists.
-use crate::nodes::{Steps, Way, follow, node_below, say_no_node};
+use crate::explanation::Explanation;
+use crate::nodes::{Steps, Way, follow, node_below};
 use crate::tree::Tree;
 use std::alloc::AllocError;
 use yv_note_statements::{Message, Site, is_among, words_of};
@@ -11,34 +12,14 @@ pub fn tell_key<'a>(telling: &mut Message<'a>, list: &Site<'_, 'a>) -> Result<()
         return Ok(());
     };
     telling.subject("The key of list ", " is wrong.");
-    let mut tree = Tree::around(telling.alloc(), list)?;
-    for name in words_of(telling.alloc(), key.argument())?.iter() {
-        if say_key(telling, &mut tree, list, name)? {
+    let names = words_of(telling.alloc(), key.argument())?;
+    let mut explanation = Explanation::around(telling, list)?;
+    for name in names.iter() {
+        if explanation.say_key(list, name)? {
             break;
         }
     }
     Ok(())
-}
-
-// Adds why a key can't have a name, if something is known. Whether no further name is looked at.
-fn say_key<'s, 'a>(
-    telling: &mut Message<'a>,
-    tree: &mut Tree<'s, 'a>,
-    list: &Site<'s, 'a>,
-    name: &'a str,
-) -> Result<bool, AllocError> {
-    let Some(leaf) = node_below(tree, list, name, Steps::Data)? else {
-        if !tree.is_spent() {
-            say_no_node(telling, tree, list, name, Steps::Data)?;
-        }
-        return Ok(true);
-    };
-    let Some(objection) = objection_to(tree, list, &leaf) else {
-        return Ok(false);
-    };
-    telling.statement(objection.before, &leaf, objection.between);
-    telling.point(" at ", &objection.place, objection.after);
-    Ok(true)
 }
 
 // Why a node can't be a key: words around the node and the place that shows it.
@@ -87,48 +68,93 @@ fn objection_to<'s, 'a>(
 /// Adds what is wrong with a `unique` of a list.
 pub fn tell_unique<'a>(telling: &mut Message<'a>, list: &Site<'_, 'a>) -> Result<(), AllocError> {
     telling.subject("A `unique` of list ", " is wrong.");
-    let mut tree = Tree::around(telling.alloc(), list)?;
+    let mut explanation = Explanation::around(telling, list)?;
     for unique in list.children().filter(|child| child.is("unique")) {
-        if tree.is_spent() || say_unique(telling, &mut tree, list, &unique)? {
+        if explanation.tree.is_spent() || explanation.say_unique(list, &unique)? {
             break;
         }
     }
     Ok(())
 }
 
-// Adds what is wrong with a `unique`, if something is known.
-fn say_unique<'s, 'a>(
-    telling: &mut Message<'a>,
-    tree: &mut Tree<'s, 'a>,
-    list: &Site<'s, 'a>,
-    unique: &Site<'s, 'a>,
-) -> Result<bool, AllocError> {
-    let mut state = None;
-    let mut configuration = None;
-    for path in unique.argument().split(is_blank) {
-        if path.is_empty() {
-            continue;
-        }
-        let way = follow(tree, list, path, Steps::Data)?;
-        if say_way(telling, tree, unique, &way)? {
+impl<'s, 'a> Explanation<'_, 's, 'a> {
+    // Adds why a key can't have a name, if something is known. Whether no further name is looked
+    // at.
+    fn say_key(&mut self, list: &Site<'s, 'a>, name: &'a str) -> Result<bool, AllocError> {
+        let Some(leaf) = node_below(&mut self.tree, list, name, Steps::Data)? else {
+            if !self.tree.is_spent() {
+                self.say_no_node(list, name, Steps::Data)?;
+            }
             return Ok(true);
-        }
-        if let Way::To(node) = way {
-            if let Some(between) = list_between(tree, list, &node) {
-                say_between(telling, unique, path, &between);
+        };
+        let Some(objection) = objection_to(&self.tree, list, &leaf) else {
+            return Ok(false);
+        };
+        self.message
+            .statement(objection.before, &leaf, objection.between);
+        self.message
+            .point(" at ", &objection.place, objection.after);
+        Ok(true)
+    }
+
+    // Adds what is wrong with a `unique`, if something is known.
+    fn say_unique(
+        &mut self,
+        list: &Site<'s, 'a>,
+        unique: &Site<'s, 'a>,
+    ) -> Result<bool, AllocError> {
+        let mut state = None;
+        let mut configuration = None;
+        for path in unique.argument().split(is_blank) {
+            if path.is_empty() {
+                continue;
+            }
+            let way = follow(&mut self.tree, list, path, Steps::Data)?;
+            if self.say_unique_way(unique, &way)? {
                 return Ok(true);
             }
-            if tree.state_above(&node).is_some() {
-                state = Some(node);
-            } else {
-                configuration = Some(node);
+            if let Way::To(node) = way {
+                if let Some(between) = list_between(&self.tree, list, &node) {
+                    say_between(self.message, unique, path, &between);
+                    return Ok(true);
+                }
+                if self.tree.state_above(&node).is_some() {
+                    state = Some(node);
+                } else {
+                    configuration = Some(node);
+                }
+            }
+            if self.tree.is_spent() {
+                return Ok(false);
             }
         }
-        if tree.is_spent() {
-            return Ok(false);
+        Ok(say_mixed(self.message, unique, state, configuration))
+    }
+
+    // Adds why a path of a `unique` leads to no leaf, if something is known.
+    fn say_unique_way(
+        &mut self,
+        unique: &Site<'s, 'a>,
+        way: &Way<'s, 'a>,
+    ) -> Result<bool, AllocError> {
+        match way {
+            Way::Until(node, name) => {
+                self.message.point(" It is at ", unique, ".");
+                self.say_no_node(node, name, Steps::Data)?;
+                Ok(true)
+            }
+            Way::To(node) if !node.is("leaf") => {
+                self.message.point(" It is at ", unique, ".");
+                self.message.statement_at(
+                    " A path has to lead to a leaf; this one leads to the ",
+                    node,
+                    ".",
+                );
+                Ok(true)
+            }
+            _ => Ok(false),
         }
     }
-    Ok(say_mixed(telling, unique, state, configuration))
 }
 
 fn is_blank(character: char) -> bool {
@@ -182,32 +208,6 @@ fn say_mixed<'a>(
     telling.statement_at(" The ", &state, " is state, and");
     telling.statement_at(" the ", &configuration, " is configuration.");
     true
-}
-
-// Adds why a path leads to no leaf, if something is known.
-fn say_way<'s, 'a>(
-    telling: &mut Message<'a>,
-    tree: &mut Tree<'s, 'a>,
-    unique: &Site<'s, 'a>,
-    way: &Way<'s, 'a>,
-) -> Result<bool, AllocError> {
-    match way {
-        Way::Until(node, name) => {
-            telling.point(" It is at ", unique, ".");
-            say_no_node(telling, tree, node, name, Steps::Data)?;
-            Ok(true)
-        }
-        Way::To(node) if !node.is("leaf") => {
-            telling.point(" It is at ", unique, ".");
-            telling.statement_at(
-                " A path has to lead to a leaf; this one leads to the ",
-                node,
-                ".",
-            );
-            Ok(true)
-        }
-        _ => Ok(false),
-    }
 }
 
 /// Whether a statement's keyword is one of nodes with a value.

@@ -1,5 +1,6 @@
 //! Nodes that are mandatory.
 use crate::augments::way_of;
+use crate::explanation::Explanation;
 use crate::nodes::{Steps, Way, node_named, nodes_below};
 use crate::tree::Tree;
 use std::alloc::AllocError;
@@ -48,33 +49,57 @@ fn say_both<'a>(telling: &mut Message<'a>, site: &Site<'_, 'a>) -> Result<(), Al
         );
         "mandatory"
     };
-    let mut tree = Tree::around(telling.alloc(), site)?;
-    telling.say(" The default ");
-    say_place(telling, &mut tree, site, "default")?;
-    telling.say(", and `");
-    telling.say(demand);
-    telling.say("` ");
-    say_place(telling, &mut tree, site, demand)?;
-    telling.say(".");
+    let mut explanation = Explanation::around(telling, site)?;
+    explanation.message.say(" The default ");
+    explanation.say_place(site, "default")?;
+    explanation.message.say(", and `");
+    explanation.message.say(demand);
+    explanation.message.say("` ");
+    explanation.say_place(site, demand)?;
+    explanation.message.say(".");
     Ok(())
 }
 
-// Adds where a property of a node is said.
-fn say_place<'s, 'a>(
-    telling: &mut Message<'a>,
-    tree: &mut Tree<'s, 'a>,
-    node: &Site<'s, 'a>,
-    keyword: &str,
-) -> Result<(), AllocError> {
-    if let Some(property) = node.child(keyword) {
-        telling.point("is at ", &property, "");
-        return Ok(());
+impl<'s, 'a> Explanation<'_, 's, 'a> {
+    // Adds where a property of a node is said.
+    fn say_place(&mut self, node: &Site<'s, 'a>, keyword: &str) -> Result<(), AllocError> {
+        if let Some(property) = node.child(keyword) {
+            self.message.point("is at ", &property, "");
+            return Ok(());
+        }
+        match refine_of(&mut self.tree, node, keyword)? {
+            Some(refine) => self.message.point("comes by the `refine` at ", &refine, ""),
+            None => self.message.say("comes by a `refine`"),
+        }
+        Ok(())
     }
-    match refine_of(tree, node, keyword)? {
-        Some(refine) => telling.point("comes by the `refine` at ", &refine, ""),
-        None => telling.say("comes by a `refine`"),
+
+    // Adds which mandatory node the case of a choice has that its default names.
+    fn say_mandatory_of(
+        &mut self,
+        choice: &Site<'s, 'a>,
+        default: &Site<'s, 'a>,
+    ) -> Result<(), AllocError> {
+        let cases = nodes_below(&mut self.tree, choice, Steps::Schema)?;
+        if let Some(case) = node_named(&cases, local(default.argument())) {
+            self.say_mandatory_node(&case)?;
+        }
+        self.message.say(".");
+        Ok(())
     }
-    Ok(())
+
+    // Adds the first node of a case that is mandatory by itself.
+    fn say_mandatory_node(&mut self, case: &Site<'s, 'a>) -> Result<(), AllocError> {
+        if !case.is("case") {
+            self.message.say(", namely itself");
+            return Ok(());
+        }
+        let nodes = nodes_below(&mut self.tree, case, Steps::Schema)?;
+        if let Some(node) = first_mandatory(&nodes) {
+            self.message.statement_at(", the ", &node, "");
+        }
+        Ok(())
+    }
 }
 
 // The first `refine` of a node that has a property.
@@ -111,35 +136,13 @@ fn leads_to<'s, 'a>(
 }
 
 // Adds which mandatory node the default case of a choice has.
-fn tell_mandatory_case<'a>(
+fn tell_mandatory_case<'s, 'a>(
     telling: &mut Message<'a>,
-    choice: &Site<'_, 'a>,
-    default: &Site<'_, 'a>,
+    choice: &Site<'s, 'a>,
+    default: &Site<'s, 'a>,
 ) -> Result<(), AllocError> {
     telling.quote("The default case ", default.argument(), "");
     telling.subject(" of choice ", " has a mandatory node");
-    let mut tree = Tree::around(telling.alloc(), choice)?;
-    let cases = nodes_below(&mut tree, choice, Steps::Schema)?;
-    if let Some(case) = node_named(&cases, local(default.argument())) {
-        say_mandatory_node(telling, &mut tree, &case)?;
-    }
-    telling.say(".");
-    Ok(())
-}
-
-// Adds the first node of a case that is mandatory by itself.
-fn say_mandatory_node<'s, 'a>(
-    telling: &mut Message<'a>,
-    tree: &mut Tree<'s, 'a>,
-    case: &Site<'s, 'a>,
-) -> Result<(), AllocError> {
-    if !case.is("case") {
-        telling.say(", namely itself");
-        return Ok(());
-    }
-    let nodes = nodes_below(tree, case, Steps::Schema)?;
-    if let Some(node) = first_mandatory(&nodes) {
-        telling.statement_at(", the ", &node, "");
-    }
-    Ok(())
+    let mut explanation = Explanation::around(telling, choice)?;
+    explanation.say_mandatory_of(choice, default)
 }

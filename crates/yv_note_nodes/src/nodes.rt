@@ -1,9 +1,10 @@
 //! The nodes of the schema that statements define.
 use crate::augment_names::NamedAugments;
+use crate::explanation::Explanation;
 use crate::tree::Tree;
 use std::alloc::AllocError;
 use yv_link_scopes::local;
-use yv_note_statements::{Message, Site, module_of, nearest_site, say_guess};
+use yv_note_statements::{Site, module_of, nearest_site, say_guess};
 
 /// A step of a path takes as long as so many looks at statements, beside those at nodes.
 const LOOKS_OF_STEP: usize = 10;
@@ -267,17 +268,18 @@ pub(crate) fn root_of<'s, 'a>(site: &Site<'s, 'a>, path: &str) -> Option<Site<'s
     module_of(site, first)
 }
 
-/// Adds that a node has none of this name below it, and which one may be meant.
-pub(crate) fn say_no_node<'s, 'a>(
-    telling: &mut Message<'a>,
-    tree: &mut Tree<'s, 'a>,
-    node: &Site<'s, 'a>,
-    name: &'a str,
-    steps: Steps,
-) -> Result<(), AllocError> {
-    telling.quote(" There is no node ", name, "");
-    telling.statement_at(" in ", node, ".");
-    let nodes = nodes_below(tree, node, steps)?;
-    say_guess(telling, nearest_site(local(name), &nodes));
-    Ok(())
+impl<'s, 'a> Explanation<'_, 's, 'a> {
+    /// Adds that a node has none of this name below it, and which one may be meant.
+    pub(crate) fn say_no_node(
+        &mut self,
+        node: &Site<'s, 'a>,
+        name: &'a str,
+        steps: Steps,
+    ) -> Result<(), AllocError> {
+        self.message.quote(" There is no node ", name, "");
+        self.message.statement_at(" in ", node, ".");
+        let nodes = nodes_below(&mut self.tree, node, steps)?;
+        say_guess(self.message, nearest_site(local(name), &nodes));
+        Ok(())
+    }
 }

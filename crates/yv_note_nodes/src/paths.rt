@@ -1,9 +1,8 @@
 //! Paths of leafrefs.
+use crate::explanation::Explanation;
 use crate::lists::has_value;
-use crate::nodes::{Steps, Way, follow, root_of, say_no_node};
-use crate::step_modules::say_foreign_step;
+use crate::nodes::{Steps, Way, follow, root_of};
 use crate::tree::Tree;
-use crate::unprefixed_paths::say_prefixed;
 use std::alloc::{AllocError, Global};
 use yv_note_statements::{Message, Site, chain, say_ring};
 use yv_text_statement::Code;
@@ -79,40 +78,72 @@ pub fn tell_path<'a>(telling: &mut Message<'a>, leaf: &Site<'_, 'a>) -> Result<(
         telling.point(" at ", &path, "");
     }
     telling.say(".");
-    let mut tree = Tree::around(telling.alloc(), leaf)?;
-    let is_absolute = path.argument().starts_with('/');
-    let way = way_of(&mut tree, leaf, &path)?;
-    match way {
-        Way::Until(node, name) => say_no_node(telling, &mut tree, &node, name, Steps::Data)?,
-        _ => {
-            if is_absolute && say_foreign_step(telling, &mut tree, &path, Steps::Data)? {
-                return Ok(());
-            }
-            say_way(telling, &tree, leaf, &way);
-        }
-    }
-    if is_absolute {
-        say_prefixed(telling, &mut tree, &path, path.argument(), Steps::Data)
-    } else {
-        say_climb(telling, &mut tree, leaf, path.argument())
-    }
+    let mut explanation = Explanation::around(telling, leaf)?;
+    explanation.say_path_of(leaf, &path)
 }
 
-// Adds the path with one `..` more or less, if that leads to a leaf or a leaf-list.
-fn say_climb<'s, 'a>(
-    telling: &mut Message<'a>,
-    tree: &mut Tree<'s, 'a>,
-    leaf: &Site<'s, 'a>,
-    path: &'a str,
-) -> Result<(), AllocError> {
-    if is_way(tree, leaf, path, true)? {
-        telling.quote_joined(" Did you mean ", "../", path, "?");
-    } else if let Some(shorter) = path.strip_prefix("../") {
-        if shorter.starts_with("../") && is_way(tree, leaf, shorter, false)? {
-            telling.quote(" Did you mean ", shorter, "?");
+impl<'s, 'a> Explanation<'_, 's, 'a> {
+    // Adds where the path of a leafref leads wrong, and how it may be written.
+    fn say_path_of(&mut self, leaf: &Site<'s, 'a>, path: &Site<'s, 'a>) -> Result<(), AllocError> {
+        let is_absolute = path.argument().starts_with('/');
+        let way = way_of(&mut self.tree, leaf, path)?;
+        match way {
+            Way::Until(node, name) => self.say_no_node(&node, name, Steps::Data)?,
+            _ => {
+                if is_absolute && self.say_foreign_step(path, Steps::Data)? {
+                    return Ok(());
+                }
+                self.say_way(leaf, &way);
+            }
+        }
+        if is_absolute {
+            self.say_prefixed(path, Steps::Data)
+        } else {
+            self.say_climb(leaf, path.argument())
         }
     }
-    Ok(())
+
+    // Adds the path with one `..` more or less, if that leads to a leaf or a leaf-list.
+    fn say_climb(&mut self, leaf: &Site<'s, 'a>, path: &'a str) -> Result<(), AllocError> {
+        if is_way(&mut self.tree, leaf, path, true)? {
+            self.message
+                .quote_joined(" Did you mean ", "../", path, "?");
+        } else if let Some(shorter) = path.strip_prefix("../") {
+            if shorter.starts_with("../") && is_way(&mut self.tree, leaf, shorter, false)? {
+                self.message.quote(" Did you mean ", shorter, "?");
+            }
+        }
+        Ok(())
+    }
+
+    // Adds where the path of a leafref leads.
+    fn say_way(&mut self, leaf: &Site<'s, 'a>, way: &Way<'s, 'a>) {
+        match way {
+            Way::Above => self.message.say(
+                " It goes above the top of the module: it has a `..` too many.",
+            ),
+            Way::To(node) => self.say_target(leaf, node),
+            _ => {}
+        }
+    }
+
+    // Adds why the path of a leafref can't lead to this node.
+    fn say_target(&mut self, leaf: &Site<'s, 'a>, node: &Site<'s, 'a>) {
+        let (before, after) = if !has_value(node) {
+            (
+                " It leads to the ",
+                ", and has to lead to a leaf or leaf-list.",
+            )
+        } else if self.tree.state_above(node).is_some() && self.tree.state_above(leaf).is_none() {
+            (" The ", " is state, and this leafref is configuration.")
+        } else {
+            (
+                " The ",
+                " can't be referred to: look at the prefixes and the conditions on the way.",
+            )
+        };
+        self.message.statement_at(before, node, after);
+    }
 }
 
 // Whether a path leads from a leaf, or from the node above it, to another leaf or leaf-list.
@@ -142,40 +173,6 @@ fn is_way<'s, 'a>(
 fn is_within(path: &Site<'_, '_>, leaf: &Site<'_, '_>) -> bool {
     path.parent()
         .is_some_and(|around| around.entry.scope == leaf.number)
-}
-
-// Adds where a path leads.
-fn say_way<'s, 'a>(
-    telling: &mut Message<'a>,
-    tree: &Tree<'s, 'a>,
-    leaf: &Site<'s, 'a>,
-    way: &Way<'s, 'a>,
-) {
-    match way {
-        Way::Above => telling.say(" It goes above the top of the module: it has a `..` too many."),
-        Way::To(node) if !has_value(node) => {
-            telling.statement_at(
-                " It leads to the ",
-                node,
-                ", and has to lead to a leaf or leaf-list.",
-            );
-        }
-        Way::To(node) if tree.state_above(node).is_some() && tree.state_above(leaf).is_none() => {
-            telling.statement_at(
-                " The ",
-                node,
-                " is state, and this leafref is configuration.",
-            );
-        }
-        Way::To(node) => {
-            telling.statement_at(
-                " The ",
-                node,
-                " can't be referred to: look at the prefixes and the conditions on the way.",
-            );
-        }
-        _ => {}
-    }
 }
 
 /// How many leafrefs of a cycle are followed.

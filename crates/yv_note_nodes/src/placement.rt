@@ -6,6 +6,15 @@ use std::alloc::{AllocError, Global};
 use yv_note_statements::{Message, Site, Sites, is_among};
 use yv_text_statement::Code;
 
+/// How many `uses` of a grouping are looked at.
+const MOST_USES: usize = 64;
+
+/// How many groupings and augments are followed to where their nodes are.
+const MOST_FOLLOWED: usize = 16;
+
+/// How many places of a node are compared.
+const MOST_PLACES: usize = 256;
+
 /// Adds which node above a node of configuration is state.
 pub fn tell_config<'a>(telling: &mut Message<'a>, site: &Site<'_, 'a>) {
     telling.subject("The node ", " is `config true`, and ");
@@ -174,15 +183,6 @@ fn hinders(node: &Site<'_, '_>) -> bool {
         _ => false,
     }
 }
-
-/// How many `uses` of a grouping are looked at.
-const MOST_USES: usize = 64;
-
-/// How many groupings and augments are followed to where their nodes are.
-const MOST_FOLLOWED: usize = 16;
-
-/// How many places of a node are compared.
-const MOST_PLACES: usize = 256;
 
 // Where a node is: the block, and the last `uses` by which it comes there.
 #[derive(Clone, Copy)]

@@ -1,4 +1,5 @@
 //! Steps of a path whose prefix is that of another module than the node's.
+use crate::explanation::Explanation;
 use crate::nodes::{MOST_STEPS, Steps, node_in_block, root_of};
 use crate::tree::Tree;
 use std::alloc::AllocError;
@@ -17,6 +18,13 @@ struct Reached<'s, 'a> {
     is_added: bool,
 }
 
+// A node or an `augment` in whose block nodes are, and the module whose namespace has their names.
+#[derive(Clone, Copy)]
+struct Block<'s, 'a> {
+    site: Site<'s, 'a>,
+    module: Site<'s, 'a>,
+}
+
 impl<'s, 'a> Reached<'s, 'a> {
     // Whether a step that means this module, or any, can lead here.
     fn is_of(&self, module: Option<Site<'s, 'a>>) -> bool {
@@ -24,38 +32,39 @@ impl<'s, 'a> Reached<'s, 'a> {
     }
 }
 
-/// Adds which step of an absolute path has a prefix that is not that of the node's module, and how
-/// the step is written. Whether there is such a step.
-pub(crate) fn say_foreign_step<'s, 'a>(
-    telling: &mut Message<'a>,
-    tree: &mut Tree<'s, 'a>,
-    site: &Site<'s, 'a>,
-    steps: Steps,
-) -> Result<bool, AllocError> {
-    let path = site.argument();
-    let Some(root) = root_of(site, path) else {
-        return Ok(false);
-    };
-    let mut at = Reached {
-        node: root,
-        module: root,
-        is_added: false,
-    };
-    for step in path.split('/').take(MOST_STEPS) {
-        if step.is_empty() {
-            continue;
-        }
-        let module = module_meant(site, step);
-        match node_reached(tree, &at, local(step), module, steps)? {
-            Some(next) if next.is_of(module) => at = next,
-            Some(next) => {
-                say_step(telling, site, &at.node, step, &next);
-                return Ok(true);
+impl<'s, 'a> Explanation<'_, 's, 'a> {
+    /// Adds which step of an absolute path has a prefix that is not that of the node's module, and
+    /// how the step is written. Whether there is such a step.
+    pub(crate) fn say_foreign_step(
+        &mut self,
+        site: &Site<'s, 'a>,
+        steps: Steps,
+    ) -> Result<bool, AllocError> {
+        let path = site.argument();
+        let Some(root) = root_of(site, path) else {
+            return Ok(false);
+        };
+        let mut at = Reached {
+            node: root,
+            module: root,
+            is_added: false,
+        };
+        for step in path.split('/').take(MOST_STEPS) {
+            if step.is_empty() {
+                continue;
             }
-            None => return Ok(false),
+            let module = module_meant(site, step);
+            match node_reached(&mut self.tree, &at, local(step), module, steps)? {
+                Some(next) if next.is_of(module) => at = next,
+                Some(next) => {
+                    say_step(self.message, site, &at.node, step, &next);
+                    return Ok(true);
+                }
+                None => return Ok(false),
+            }
         }
+        Ok(false)
     }
-    Ok(false)
 }
 
 // The module that a step of a path means. A step without a prefix means that of the file, or in a
@@ -68,71 +77,49 @@ fn module_meant<'s, 'a>(site: &Site<'s, 'a>, step: &str) -> Option<Site<'s, 'a>>
     }
 }
 
-// The node of a name below another one: of the module that is meant, if there is one.
+// The node of a name below another one, in its block or in an `augment` of it: the first one of the
+// module that is meant, if there is one, else the first one.
 fn node_reached<'s, 'a>(
     tree: &mut Tree<'s, 'a>,
     at: &Reached<'s, 'a>,
-    name: &'a str,
+    name: &str,
     module: Option<Site<'s, 'a>>,
     steps: Steps,
 ) -> Result<Option<Reached<'s, 'a>>, AllocError> {
     let mut first = None;
-    if let Some(node) = node_in_block(tree, &at.node, steps, name)? {
-        let own = Reached {
-            node,
-            module: at.module,
-            is_added: false,
-        };
-        if own.is_of(module) {
-            return Ok(Some(own));
-        }
-        first = Some(own);
-    }
-    match node_added(tree, &at.node, name, module, steps)? {
-        Some(added) if first.is_none() || added.is_of(module) => Ok(Some(added)),
-        _ => Ok(first),
-    }
-}
-
-// The same of the nodes that augments add.
-fn node_added<'s, 'a>(
-    tree: &mut Tree<'s, 'a>,
-    node: &Site<'s, 'a>,
-    name: &'a str,
-    module: Option<Site<'s, 'a>>,
-    steps: Steps,
-) -> Result<Option<Reached<'s, 'a>>, AllocError> {
-    let mut first = None;
-    for augment in tree.augments_at(node, MOST_AUGMENTS)?.iter() {
-        let Some(added) = node_of_augment(tree, augment, name, steps)? else {
+    for block in blocks_of(tree, at)?.iter() {
+        let Some(node) = node_in_block(tree, &block.site, steps, name)? else {
             continue;
         };
-        if added.is_of(module) {
-            return Ok(Some(added));
+        let reached = Reached {
+            node,
+            module: block.module,
+            is_added: block.site.is("augment"),
+        };
+        if reached.is_of(module) {
+            return Ok(Some(reached));
         }
-        first = first.or(Some(added));
+        first = first.or(Some(reached));
     }
     Ok(first)
 }
 
-// The node of a name that an `augment` adds.
-fn node_of_augment<'s, 'a>(
-    tree: &mut Tree<'s, 'a>,
-    augment: &Site<'s, 'a>,
-    name: &'a str,
-    steps: Steps,
-) -> Result<Option<Reached<'s, 'a>>, AllocError> {
-    let Some(module) = augment.module() else {
-        return Ok(None);
-    };
-    match node_in_block(tree, augment, steps, name)? {
-        Some(node) => Ok(Some(Reached {
-            node,
-            module,
-            is_added: true,
-        })),
-        None => Ok(None),
+// The blocks that the nodes below one may be in: its own, and those of the augments of it.
+fn blocks_of<'s, 'a>(
+    tree: &Tree<'s, 'a>,
+    at: &Reached<'s, 'a>,
+) -> Result<Vec<Block<'s, 'a>>, AllocError> {
+    let mut blocks = Vec::new(tree.alloc());
+    blocks.push(Block {
+        site: at.node,
+        module: at.module,
+    })?;
+    for site in tree.augments_of(&at.node).take(MOST_AUGMENTS) {
+        if let Some(module) = site.module() {
+            blocks.push(Block { site, module })?;
+        }
     }
+    Ok(blocks)
 }
 
 // Adds that a node has none below it as this step says, and how the step to this one is written.

@@ -133,15 +133,6 @@ impl<'s, 'a> Tree<'s, 'a> {
         }
     }
 
-    /// The same, no more than so many.
-    pub(crate) fn augments_at(
-        &self,
-        node: &Site<'s, 'a>,
-        most: usize,
-    ) -> Result<Vec<Site<'s, 'a>>, AllocError> {
-        self.augments_of(node).take(most).collect(self.alloc)
-    }
-
     /// None of the `augment` statements.
     pub(crate) fn no_augments(&self) -> NamedAugments<'_, 's, 'a> {
         NamedAugments::none(self.entries)

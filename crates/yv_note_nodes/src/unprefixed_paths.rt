@@ -1,6 +1,6 @@
 //! Paths whose steps lack the prefix of another module.
+use crate::explanation::Explanation;
 use crate::nodes::{Steps, Way, follow};
-use crate::tree::Tree;
 use std::alloc::{AllocError, Global};
 use yv_link_scopes::prefix_of;
 use yv_note_statements::{Message, Site, Sites};
@@ -27,28 +27,29 @@ fn has_plain_step(path: &str) -> bool {
         .any(|step| !step.is_empty() && prefix_of(step).is_none())
 }
 
-/// Adds how an absolute path is written, if it leads to a node of an imported module whose prefix
-/// its steps lack.
-pub(crate) fn say_prefixed<'s, 'a>(
-    telling: &mut Message<'a>,
-    tree: &mut Tree<'s, 'a>,
-    site: &Site<'s, 'a>,
-    path: &'a str,
-    steps: Steps,
-) -> Result<(), AllocError> {
-    if !has_plain_step(path) {
-        return Ok(());
-    }
-    for prefix in imports_of(telling.alloc(), site)?.iter() {
-        let Some(module) = prefix.meaning() else {
-            continue;
-        };
-        if let Way::To(_) = follow(tree, &module, path, steps)? {
-            say_path(telling, prefix.argument(), path);
+impl<'s, 'a> Explanation<'_, 's, 'a> {
+    /// Adds how the absolute path of a statement is written, if it leads to a node of an imported
+    /// module whose prefix its steps lack.
+    pub(crate) fn say_prefixed(
+        &mut self,
+        site: &Site<'s, 'a>,
+        steps: Steps,
+    ) -> Result<(), AllocError> {
+        let path = site.argument();
+        if !has_plain_step(path) {
             return Ok(());
         }
+        for prefix in imports_of(self.tree.alloc(), site)?.iter() {
+            let Some(module) = prefix.meaning() else {
+                continue;
+            };
+            if let Way::To(_) = follow(&mut self.tree, &module, path, steps)? {
+                say_path(self.message, prefix.argument(), path);
+                return Ok(());
+            }
+        }
+        Ok(())
     }
-    Ok(())
 }
 
 // Adds a path with a prefix for each step that has none.
