@@ -88,17 +88,23 @@ def files_below(folder):
     return sorted(os.path.relpath(path, folder) for path in found)
 
 
-def arguments(about):
-    """The arguments of a part: the program, and the text that names of tests must contain."""
+def arguments(about, has_release=False):
+    """The arguments of a part: the program, the text that names of tests must contain, and, if it has that, whether it is for a release."""
     words = argparse.ArgumentParser(description=about, formatter_class=argparse.RawDescriptionHelpFormatter)
     words.add_argument("--program", default=PROGRAM, metavar="PATH", help="the program to test (bin/yangcheck)")
     words.add_argument("--only", default="", metavar="TEXT", help="only the tests whose names contain TEXT")
+    if has_release:
+        words.add_argument("--release", action="store_true", help="fail where a test would be skipped")
     return words.parse_args()
 
 
 def run_part(about, names):
-    """Runs the tests among the names of a module, prints the number that passed, failed and were skipped, and returns the exit status."""
-    given = arguments(about)
+    """Runs the tests among the names of a module by the arguments of the process, and returns the exit status."""
+    return run_tests(names, arguments(about))
+
+
+def run_tests(names, given):
+    """Runs the tests among some names, prints the number that passed, failed and were skipped, and returns the exit status."""
     program = os.path.abspath(given.program)
     if not os.access(program, os.X_OK):
         print(f"FAILED: there is no program {program}\n0 passed, 1 failed")
@@ -107,19 +113,19 @@ def run_part(about, names):
     for name, test in names.items():
         name = name.replace("_", "-")
         if name.startswith("test-") and given.only in name[5:]:
-            counts[run_test(name[5:], test, program)] += 1
+            counts[run_test(name[5:], test, program, getattr(given, "release", False))] += 1
     print(f"{counts['passed']} passed, {counts['failed']} failed" + (f", {counts['skipped']} skipped" if counts["skipped"] else ""))
     return 1 if counts["failed"] else 0
 
 
-def run_test(name, test, program):
+def run_test(name, test, program, skips_none=False):
     """Runs a test, and returns whether it passed, failed or was skipped."""
     try:
         test(program)
         return "passed"
     except Skipped as reason:
-        print(f"SKIPPED {name}: {reason}", flush=True)
-        return "skipped"
+        print(f"{'FAILED' if skips_none else 'SKIPPED'} {name}: {reason}", flush=True)
+        return "failed" if skips_none else "skipped"
     except Exception as error:  # pylint: disable=broad-except  # whatever goes wrong in a test is a failure of that test
         kind = "" if isinstance(error, AssertionError) else f"{type(error).__name__}: "
         print(f"FAILED {name}: {kind}{error}", flush=True)
