@@ -1,16 +1,10 @@
 -- The command line is one of those whose matches clap's clauses give exactly.
-use Rattle.std.proofs.Common.{◌≡◌, ◌∙◌, sym, ap, subst, true, refl, arith, codes, ℕ, List, [], ◌∷◌, Option, Some, None, Result, Ok, Err, IfOk, IfErr}
-use Rattle.clap.specs.Words.{App, Text, Row, first_of, is_simple, is_simple_and_free, fault_of, FailsBy, HasKind, HasMatchesOf, subcommand_of, subcommand_rows_of}
+use Rattle.std.proofs.Common.{◌≡◌, ap, subst, true, refl, arith, codes, ℕ, List, [], ◌∷◌, Result, Ok, Err, IfOk, IfErr}
+use Rattle.clap.specs.Words.{App, Text, is_simple, is_simple_and_free, fault_of, FailsBy, HasKind, HasMatchesOf, subcommand_of, subcommand_rows_of}
 use Rattle.clap.specs.declared.parser.matches.ArgMatches.{ArgMatches}
 use Rattle.clap.specs.declared.error.Error.{Error}
 use Rattle.clap.proofs.OnLiterals.{clap_on_literals}
 use Rattle.yv_job.specs.CommandLine.{yangcheck_app}
-use Rattle.yv_job.specs.Asks.{IsAsked, IsRulesFor}
-use Rattle.yv_job.specs.Jobs.{Compiles, Draws, Checks}
-use Rattle.yv_job.specs.Requests.{ActionAsked, Lists, Does, ChecksAll, Lints}
-use Rattle.yv_lint.specs.declared.rule.Rule.{Rule}
-use Rattle.yv_job.specs.declared.job.OutputForm.{OutputForm}
-use Rattle.yv_job.specs.declared.request.Each.{Each}
 
 pub app_simple : is_simple yangcheck_app ≡ true
 unfolding clap_on_literals
@@ -39,22 +33,3 @@ first_letter (b ∷ bs) = b
 
 pub tree_is_not_lint : codes "tree" ≡ codes "lint" → ⊥
 tree_is_not_lint f = let e : 116 ≡ 108 = ap first_letter f in absurd (omega (arith, e))
-
--- a command that lacks its name is none
-pub no_module : (name : Text) (rows : List Row) (each : Option Each) (o : OutputForm) → name ≡ codes "tree" → None ≡ first_of (codes "module") rows → (a : ActionAsked) → IsAsked name rows each o a → ⊥
-no_module name rows each o e f Lists h = let g : codes "files" ≡ codes "tree" = sym h ∙ e in cc
-no_module name rows each o e f (Does Compiles) h = let g : codes "compile" ≡ codes "tree" = sym h ∙ e in cc
-no_module name rows each o e f (Does (Draws m)) h = let g : None ≡ Some m = f ∙ h.1 in cc
-no_module name rows each o e f (Does (Checks d)) h = let g : codes "validate" ≡ codes "tree" = sym h.0 ∙ e in cc
-no_module name rows each o e f (ChecksAll ds) h = let g : codes "validate" ≡ codes "tree" = sym h.0 ∙ e in cc
-no_module name rows each o e f (Lints rs) h = absurd (tree_is_not_lint (sym e ∙ h.0))
-
--- nor is `lint` with what names no rules
-pub no_rules : (name : Text) (rows : List Row) (each : Option Each) (o : OutputForm) → name ≡ codes "lint" → ((rs : List Rule) → IsRulesFor (first_of (codes "rules") rows) rs → ⊥)
-    → (a : ActionAsked) → IsAsked name rows each o a → ⊥
-no_rules name rows each o e f Lists h = let g : codes "files" ≡ codes "lint" = sym h ∙ e in cc
-no_rules name rows each o e f (Does Compiles) h = let g : codes "compile" ≡ codes "lint" = sym h ∙ e in cc
-no_rules name rows each o e f (Does (Draws m)) h = absurd (tree_is_not_lint (sym h.0 ∙ e))
-no_rules name rows each o e f (Does (Checks d)) h = let g : codes "validate" ≡ codes "lint" = sym h.0 ∙ e in cc
-no_rules name rows each o e f (ChecksAll ds) h = let g : codes "validate" ≡ codes "lint" = sym h.0 ∙ e in cc
-no_rules name rows each o e f (Lints rs) h = f rs h.1

@@ -1,12 +1,11 @@
 -- No words ask for two requests: each part of a request is determined by what clap matched.
-use Rattle.std.proofs.Common.{◌≡◌, ◌≤◌, ◌<◌, inl, inr, ◌++◌, ℕ, List, [], ◌∷◌, length, map, Bool, true, false, codes, refl, sym, ap, ap₂, subst, ◌∙◌, arith, Option, Some, None, IsSome}
-use Rattle.std.specs.List.{AllByRecursion, slice_split, join_with_byte}
+use Rattle.std.proofs.Common.{◌≡◌, ◌≤◌, ◌<◌, inl, inr, ◌++◌, ℕ, List, [], ◌∷◌, length, Bool, true, false, codes, refl, sym, ap, ap₂, subst, ◌∙◌, arith, Option, Some, None, IsSome}
+use Rattle.std.specs.List.{slice_split, join_with_byte}
 use Rattle.std.proofs.lemmas.List.{append_cancel_left}
 use Rattle.std.proofs.lemmas.List.Elements.{recursion_from_All}
-use Rattle.std.proofs.lemmas.List.Splits.{slice_split_at}
 use Rattle.std.proofs.Math.Dec.{eqb}
 use Rattle.clap.specs.Words.{Text, Row, subcommand_of}
-use Rattle.yv_job.specs.Asks.{IsCommand, IsAsked, IsRulesFor, AreSources, data_of, each_word, IsEachFor, IsFormFor, IsFlag, IsOutput, IsLimit, IsExplainFor, IsSupportFor, IsImportsFor, IsKindFor, IsChoice, IsFiles, Asks, AsksIn, WordsAsk}
+use Rattle.yv_job.specs.Asks.{IsCommand, IsAsked, IsRulesFor, AreSources, data_of, each_word, IsEachFor, IsFormFor, IsFlag, IsOutput, IsLimit, IsExplainFor, IsSupportFor, IsImportsFor, IsKindFor, IsChoice, IsDepthFor, IsBelowFor, IsTree, IsFiles, Asks, AsksIn, WordsAsk}
 use Rattle.yv_job.specs.CommandLine.{yangcheck_app}
 use Rattle.yv_job.specs.Jobs.{CommandAsked, Compiles, Draws, Checks}
 use Rattle.yv_job.specs.Requests.{ActionAsked, Lists, Does, ChecksAll, Lints, RequestAsked}
@@ -21,14 +20,46 @@ use Rattle.yv_text_statement.specs.declared.document_kind.Kind.{Kind}
 use Rattle.yv_text_statement.specs.declared.document_kind.Kind.TheVariants.{All, ConfigOnly}
 use Rattle.yv_job.specs.Names.{JoinsNames, IsNames, IsIdentifier, HasIdentifiers, entry_text}
 use Rattle.yv_job.proofs.AppFacts.{tree_is_not_lint}
-use Rattle.yv_job.proofs.NameLemmas.{free_name, split_names, split_entries}
+use Rattle.yv_job.proofs.NameLemmas.{free_entry, joins_support, same_joins, split_names}
+use Rattle.yv_job.proofs.WayLemmas.{module_first, same_way}
+use Rattle.yv_tree_drawing.specs.Steps.{Step}
+use Rattle.yv_tree_drawing.specs.Trees.{DrawingAsked, TreeAsked}
+
+same_flag : (t : Option Text) (a b : Bool) → IsFlag t a → IsFlag t b → a ≡ b
+same_flag t true true h i = refl
+same_flag t true false h i = absurd (i h)
+same_flag t false true h i = absurd (h i)
+same_flag t false false h i = refl
+
+same_depth : (t : Option Text) (d e : Option ℕ) → IsDepthFor t d → IsDepthFor t e → d ≡ e
+same_depth None d e h i = h ∙ sym i
+same_depth (Some t) None e h i = absurd h
+same_depth (Some t) (Some m) None h i = absurd i
+same_depth (Some t) (Some m) (Some n) h i = ap (λ (x : ℕ). Some x) (sym h.0.1 ∙ i.0.1)
+
+same_below : (t : Option Text) (xs ys : List Step) → IsBelowFor t xs → IsBelowFor t ys → xs ≡ ys
+same_below None xs ys h i = h ∙ sym i
+same_below (Some t) xs ys h i = same_way t xs ys h i
+
+same_tree : (rows : List Row) (t u : TreeAsked) → IsTree rows t → IsTree rows u → t ≡ u
+same_tree rows t u h i =
+    let modules = sym h.modules ∙ i.modules in
+    let named = sym h.files ∙ i.files in
+    let depth = same_depth _ t.drawing.depth u.drawing.depth h.depth i.depth in
+    let below = same_below _ t.drawing.below u.drawing.below h.below i.below in
+    let columns = same_flag _ t.drawing.columns u.drawing.columns h.columns i.columns in
+    let drawing : t.drawing ≡ u.drawing =
+    ap₂ (λ (d : Option ℕ) (xs : List Step). record { depth = d; below = xs; columns = t.drawing.columns }) depth below
+    ∙ ap (λ (c : Bool). record { depth = u.drawing.depth; below = u.drawing.below; columns = c }) columns in
+    ap₂ (λ (ms : List Text) (n : ℕ). record { modules = ms; named_files = n; drawing = t.drawing }) modules named
+    ∙ ap (λ (d : DrawingAsked). record { modules = u.modules; named_files = u.named_files; drawing = d }) drawing
 
 same_command : (name : Text) (rows : List Row) (e : Option Each) (o : OutputForm) (a b : CommandAsked) → IsCommand name rows e o a → IsCommand name rows e o b → a ≡ b
 same_command name rows e o Compiles Compiles h i = refl
 same_command name rows e o Compiles (Draws m) h i = let f : codes "compile" ≡ codes "tree" = sym h ∙ i.0 in cc
 same_command name rows e o Compiles (Checks d) h i = let f : codes "compile" ≡ codes "validate" = sym h ∙ i.0 in cc
 same_command name rows e o (Draws m) Compiles h i = let f : codes "compile" ≡ codes "tree" = sym i ∙ h.0 in cc
-same_command name rows e o (Draws m) (Draws n) h i = let f : Some m ≡ Some n = sym h.1 ∙ i.1 in cc
+same_command name rows e o (Draws t) (Draws u) h i = ap (λ (x : TreeAsked). Draws x) (same_tree rows t u h.1 i.1)
 same_command name rows e o (Draws m) (Checks d) h i = let f : codes "tree" ≡ codes "validate" = sym h.0 ∙ i.0 in cc
 same_command name rows e o (Checks d) Compiles h i = let f : codes "compile" ≡ codes "validate" = sym i ∙ h.0 in cc
 same_command name rows e o (Checks d) (Draws m) h i = let f : codes "tree" ≡ codes "validate" = sym i.0 ∙ h.0 in cc
@@ -121,12 +152,6 @@ same_form (Some t) form.Text form.Json h i = let e : 116 ≡ 106 = ap first_byte
 same_form (Some t) form.Json form.Text h i = let e : 106 ≡ 116 = ap first_byte (sym h ∙ i) in absurd (omega (arith, e))
 same_form (Some t) form.Json form.Json h i = refl
 
-same_flag : (t : Option Text) (a b : Bool) → IsFlag t a → IsFlag t b → a ≡ b
-same_flag t true true h i = refl
-same_flag t true false h i = absurd (i h)
-same_flag t false true h i = absurd (h i)
-same_flag t false false h i = refl
-
 same_output : (rows : List Row) (o p : OutputOptions) → IsOutput rows o → IsOutput rows p → o ≡ p
 same_output rows o p h i =
     ap₂ (λ (f : OutputForm) (m : Bool). record { form = f; measures = m }) (same_form _ o.form p.form h.form i.form) (same_flag _ o.measures p.measures h.measures i.measures)
@@ -174,10 +199,6 @@ same_features t (m ∷ ms) (n ∷ ns) h i =
     let second : IsNames t (n ∷ ns) = record { joined = i; some = omega arith } in
     sym (split_names t (m ∷ ms) first) ∙ split_names t (n ∷ ns) second
 
--- a module's name ends at the first colon
-module_first : (m rest : Text) → IsIdentifier m → slice_split (λ b. eqb b 58) (m ++ 58 ∷ rest) ≡ m ∷ slice_split (λ b. eqb b 58) rest
-module_first m rest h = slice_split_at _ m 58 rest (free_name 58 refl m h) refl
-
 same_entry : (e f : Entry) → HasIdentifiers e → HasIdentifiers f → entry_text e ≡ entry_text f → e ≡ f
 same_entry e f h i same =
     let rest = λ (x : Entry). join_with_byte 44 x.features in
@@ -188,20 +209,9 @@ same_entry e f h i same =
     let features = same_features (rest f) e.features f.features (record { spelled = joined; each = h.1 }) (record { spelled = refl; each = i.1 }) in
     ap₂ (λ (m : List ℕ) (fs : List (List ℕ)). record { «module» = m; features = fs }) modules features
 
-same_entries : (es fs : List Entry) → AllByRecursion HasIdentifiers es → AllByRecursion HasIdentifiers fs → map entry_text es ≡ map entry_text fs → es ≡ fs
-same_entries [] [] h i same = refl
-same_entries [] (f ∷ fs) h i same = cc
-same_entries (e ∷ es) [] h i same = cc
-same_entries (e ∷ es) (f ∷ fs) h i same =
-    let firsts : entry_text e ≡ entry_text f = cc in
-    let others : map entry_text es ≡ map entry_text fs = cc in
-    ap₂ (λ (x : Entry) (xs : List Entry). x ∷ xs) (same_entry e f h.0 i.0 firsts) (same_entries es fs h.1 i.1 others)
-
 same_support : (t : Option Text) (es fs : List Entry) → IsSupportFor t es → IsSupportFor t fs → es ≡ fs
 same_support None es fs h i = h ∙ sym i
-same_support (Some t) es fs h i =
-    same_entries es fs (recursion_from_All HasIdentifiers es h.each) (recursion_from_All HasIdentifiers fs i.each)
-    (sym (split_entries t es h) ∙ split_entries t fs i)
+same_support (Some t) es fs h i = same_joins entry_text HasIdentifiers free_entry same_entry t es fs (joins_support t es h) (joins_support t fs i)
 
 same_choice : (rows : List Row) (c d : ModuleChoice) → IsChoice rows c → IsChoice rows d → c ≡ d
 same_choice rows c d h i =

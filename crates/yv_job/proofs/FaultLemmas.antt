@@ -3,16 +3,18 @@ use Rattle.std.proofs.Common.{◌≡◌, ◌⊎◌, ◌∙◌, inl, inr, ℕ, Li
 use Rattle.clap.specs.Words.{Text, Row, first_of, fault_of, IsAmong}
 use Rattle.clap.specs.declared.error.kind.ErrorKind.{ErrorKind}
 use Rattle.clap.specs.declared.error.kind.ErrorKind.TheVariants as kind
-use Rattle.yv_job.specs.Asks.{AreUnderstood, Asks, IsAsked, IsEachFor, IsFormFor, IsImportsFor, IsExplainFor, IsKindFor, IsLimit, IsSupportFor}
+use Rattle.yv_job.specs.Asks.{AreUnderstood, Asks, IsAsked, IsEachFor, IsFormFor, IsImportsFor, IsExplainFor, IsKindFor, IsLimit, IsSupportFor, IsRulesFor, IsDepthFor, IsBelowFor}
 use Rattle.yv_job.specs.CommandLine.{yangcheck_app}
-use Rattle.yv_job.specs.Faults.{IfUsage, AreRefused, IsReason, command_line, of_command, of_each, of_explain, of_form, of_imports, of_kind, of_limit, of_rules, of_support, value_line}
-use Rattle.yv_job.specs.Requests.{ActionAsked, Lints, RequestAsked}
+use Rattle.yv_job.specs.Faults.{IfUsage, AreRefused, IsReason, of_each, of_explain, of_form, of_imports, of_kind, of_limit, of_rules, of_depth, of_below, of_support, value_line}
+use Rattle.yv_job.specs.Requests.{ActionAsked, RequestAsked}
 use Rattle.yv_job.specs.declared.job.OutputForm.{OutputForm}
 use Rattle.yv_job.specs.declared.request.Each.{Each}
 use Rattle.yv_job.proofs.AskLemmas.{same_each, same_form}
+use Rattle.yv_lint.specs.declared.rule.Rule.{Rule}
+use Rattle.yv_tree_drawing.specs.Steps.{Step}
 use Rattle.yv_text_statement.specs.Selection.{Entry}
 use Rattle.yv_text_statement.specs.declared.document_kind.Kind.{Kind}
-use Rattle.yv_job.specs.Matches.{IsActionLine, IsFaultFor, IsReport}
+use Rattle.yv_job.specs.Matches.{IsFaultFor, IsReport}
 use Rattle.yv_job.specs.declared.matches.ReportOptions.{ReportOptions}
 use Rattle.yv_job.specs.declared.request.JobFault.{JobFault}
 use Rattle.yv_job.specs.declared.request.JobFault.TheVariants.{Usage, Help, NoMemory}
@@ -63,6 +65,21 @@ pub form_line : (name : Text) (rows : List Row) (value : Option Text) (line : Te
 form_line name rows value line same unfit is =
     of_form (λ f h. unfit f (subst (λ v. IsFormFor v f) (sym same) h)) (is ∙ ap (value_line (codes "format") (codes "text or json")) same)
 
+pub rules_line : (name : Text) (rows : List Row) (value : Option Text) (line : Text) → value ≡ first_of (codes "rules") rows → ((rs : List Rule) → IsRulesFor value rs → ⊥)
+    → line ≡ value_line (codes "rules") (codes "names of rules joined by commas") value → IsReason name rows line
+rules_line name rows value line same unfit is =
+    of_rules (λ rs h. unfit rs (subst (λ v. IsRulesFor v rs) (sym same) h)) (is ∙ ap (value_line (codes "rules") (codes "names of rules joined by commas")) same)
+
+pub depth_line : (name : Text) (rows : List Row) (value : Option Text) (line : Text) → value ≡ first_of (codes "depth") rows → ((d : Option ℕ) → IsDepthFor value d → ⊥)
+    → line ≡ value_line (codes "depth") (codes "a number from 1 to 128") value → IsReason name rows line
+depth_line name rows value line same unfit is =
+    of_depth (λ d h. unfit d (subst (λ v. IsDepthFor v d) (sym same) h)) (is ∙ ap (value_line (codes "depth") (codes "a number from 1 to 128")) same)
+
+pub below_line : (name : Text) (rows : List Row) (value : Option Text) (line : Text) → value ≡ first_of (codes "below") rows → ((xs : List Step) → IsBelowFor value xs → ⊥)
+    → line ≡ value_line (codes "below") (codes "/MODULE:NAME/NAME") value → IsReason name rows line
+below_line name rows value line same unfit is =
+    of_below (λ xs h. unfit xs (subst (λ v. IsBelowFor v xs) (sym same) h)) (is ∙ ap (value_line (codes "below") (codes "/MODULE:NAME/NAME")) same)
+
 -- where nothing can be reported, the words ask for nothing
 pub no_report : (name : Text) (rows : List Row) → ((o : ReportOptions) → IsReport rows o → ⊥) → (w : RequestAsked) → Asks name rows w → ⊥
 no_report name rows none w asks =
@@ -82,19 +99,3 @@ pub no_request : (name : Text) (rows : List Row) (e : Option Each) (f : OutputFo
     → ((a : ActionAsked) → IsAsked name rows e f a → ⊥) → (w : RequestAsked) → Asks name rows w → ⊥
 no_request name rows e f is_each is_form none w asks =
     no_action name rows e f is_each is_form none w.each w.output.form w.action asks.each asks.output.form asks.asked
-
--- and the reason is that
-pub action_line : (name : Text) (rows : List Row) (e : Option Each) (f : OutputForm) (line : Text) → IsEachFor (first_of (codes "each") rows) e → IsFormFor (first_of (codes "format") rows) f
-    → ((a : ActionAsked) → IsAsked name rows e f a → ⊥) → line ≡ command_line → IsReason name rows line
-action_line name rows e f line is_each is_form none is = of_command (no_action name rows e f is_each is_form none) is
-
--- or, where rules are asked for that there are not, the line about these
-pub rules_line : (name : Text) (rows : List Row) (e : Option Each) (f : OutputForm) (line : Text) → ((a : ActionAsked) → IsAsked name rows e f a → ⊥) → name ≡ codes "lint"
-    → line ≡ value_line (codes "rules") (codes "names of rules joined by commas") (first_of (codes "rules") rows) → IsReason name rows line
-rules_line name rows e f line none is said = of_rules (λ rules h. none (Lints rules) (is, h)) said
-
--- the line says why the words ask for no action
-pub no_action_line : (name : Text) (rows : List Row) (e : Option Each) (f : OutputForm) (line : Text) → IsEachFor (first_of (codes "each") rows) e → IsFormFor (first_of (codes "format") rows) f
-    → ((a : ActionAsked) → IsAsked name rows e f a → ⊥) → IsActionLine name rows line → IsReason name rows line
-no_action_line name rows e f line is_each is_form none (inl said) = rules_line name rows e f line none said.0 said.1
-no_action_line name rows e f line is_each is_form none (inr said) = action_line name rows e f line is_each is_form none said

@@ -18,18 +18,49 @@ use Rattle.yv_text_statement.specs.Selection.{ModuleChoice, Entry}
 use Rattle.yv_text_statement.specs.declared.document_kind.Kind.{Kind}
 use Rattle.yv_text_statement.specs.declared.document_kind.Kind.TheVariants.{All, ConfigOnly}
 use Rattle.yv_job.specs.CommandLine.{yangcheck_app}
-use Rattle.yv_job.specs.Names.{IsNames, IsSupport}
+use Rattle.yv_job.specs.Names.{IsNames, IsSupport, IsWay}
+use Rattle.yv_tree_drawing.specs.Steps.{Step}
+use Rattle.yv_tree_drawing.specs.Trees.{TreeAsked}
 
 -- the documents that were named, in order: one or more
 abbrev pub data_of : List Row → Option (List Text)
 data_of rows = all_of (codes "data") rows
 
+-- the text is decimal digits alone, and writes the number
+abbrev pub IsDecimal : Text → ℕ → Type 0
+IsDecimal t n = IsNumeral 10 t × (digits_value 10 t ≡ n)
+
+-- the number of levels is a decimal number from 1 to 128, and all levels are drawn where none was
+-- named
+abbrev pub IsDepthFor : Option Text → Option ℕ → Type 0
+IsDepthFor None d = d ≡ None
+IsDepthFor (Some t) None = ⊥
+IsDepthFor (Some t) (Some n) = IsDecimal t n × (1 ≤ n) × (n ≤ 128)
+
+-- the steps are those of the way, none where there is no way
+abbrev pub IsBelowFor : Option Text → List Step → Type 0
+IsBelowFor None steps = steps ≡ []
+IsBelowFor (Some t) steps = IsWay t steps
+
+-- a flag was given: then clap's value for it is `true`
+abbrev pub IsFlag : Option Text → Bool → Type 0
+IsFlag value true = value ≡ Some (codes "true")
+IsFlag value false = value ≡ Some (codes "true") → ⊥
+
+-- what `--module`, `--depth`, `--below` and `--columns` ask for, with the number of files that were
+-- named
+pub record IsTree (rows : List Row) (t : TreeAsked) : Type 0 where
+  pub modules : unwrap_or (all_of (codes "module") rows) [] ≡ t.modules
+  pub files : length (unwrap_or (all_of (codes "file") rows) []) ≡ t.named_files
+  pub depth : IsDepthFor (first_of (codes "depth") rows) t.drawing.depth
+  pub below : IsBelowFor (first_of (codes "below") rows) t.drawing.below
+  pub columns : IsFlag (first_of (codes "columns") rows) t.drawing.columns
+
 -- the command of this name, with the values of its arguments, compiles, draws, or checks one
 -- document, which is a whole file, in text
 abbrev pub IsCommand : Text → List Row → Option Each → OutputForm → CommandAsked → Type 0
 IsCommand name rows each f Compiles = name ≡ codes "compile"
-IsCommand name rows each f (Draws m) =
-    (name ≡ codes "tree") × (first_of (codes "module") rows ≡ Some m)
+IsCommand name rows each f (Draws t) = (name ≡ codes "tree") × IsTree rows t
 IsCommand name rows each f (Checks d) =
     (name ≡ codes "validate") × (data_of rows ≡ Some (d ∷ [])) × (each ≡ None) × (f ≡ form.Text)
 
@@ -60,10 +91,6 @@ IsAsked name rows each f (Lints rules) =
 -- the folders that were named, none where none were
 abbrev pub IsFolders : List Row → List Text → Type 0
 IsFolders rows folders = unwrap_or (all_of (codes "path") rows) [] ≡ folders
-
--- the text is decimal digits alone, and writes the number
-abbrev pub IsDecimal : Text → ℕ → Type 0
-IsDecimal t n = IsNumeral 10 t × (digits_value 10 t ≡ n)
 
 -- the limit is a decimal number from 1 to 1,000,000, and 100,000 where none was named
 abbrev pub IsLimit : Option Text → ℕ → Type 0
@@ -118,11 +145,6 @@ form_word form.Json = codes "json"
 abbrev pub IsFormFor : Option Text → OutputForm → Type 0
 IsFormFor None f = f ≡ form.Text
 IsFormFor (Some t) f = t ≡ form_word f
-
--- a flag was given: then clap's value for it is `true`
-abbrev pub IsFlag : Option Text → Bool → Type 0
-IsFlag value true = value ≡ Some (codes "true")
-IsFlag value false = value ≡ Some (codes "true") → ⊥
 
 -- the form is that of `--format`, and measures are wanted where `--measures` was given
 pub record IsOutput (rows : List Row) (o : OutputOptions) : Type 0 where

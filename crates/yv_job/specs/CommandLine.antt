@@ -8,10 +8,6 @@ use Rattle.clap.specs.declared.builder.action.ArgAction.TheVariants.{Set, Append
 abbrev pub option_rule : Text → Rule
 option_rule id = record (new_rule id) { long = Some id; value_names = 1; action = Some Set }
 
--- `--id VALUE`, exactly once
-abbrev pub required_rule : Text → Rule
-required_rule id = record (option_rule id) { required = true }
-
 -- `--id VALUE`, any number of times
 abbrev pub repeated_rule : Text → Rule
 repeated_rule id = record (option_rule id) { action = Some Append }
@@ -52,9 +48,13 @@ with_shared a =
 abbrev pub compile_app : App
 compile_app = with_shared (with_output (new_app (codes "compile")))
 
--- `tree --module M`
+-- `tree`, with `--module M..`, `--depth N`, `--below P` and `--columns`
 abbrev pub tree_app : App
-tree_app = with_shared (with_rule (new_app (codes "tree")) (required_rule (codes "module")))
+tree_app =
+    let naming = with_rule (new_app (codes "tree")) (repeated_rule (codes "module")) in
+    let stopping = with_rule naming (option_rule (codes "depth")) in
+    let choosing = with_rule stopping (option_rule (codes "below")) in
+    with_shared (with_rule choosing (flag_rule (codes "columns")))
 
 -- `validate --data F..`, with `--each W`, `--kind K`, `--explain N`, `--format F` and `--measures`
 abbrev pub validate_app : App

@@ -5,11 +5,12 @@ use Rattle.std.specs.Fmt.{decimal}
 use Rattle.clap.specs.Words.{Text, Row, fault_of, all_of, first_of, IsAmong}
 use Rattle.clap.specs.declared.error.kind.ErrorKind.{ErrorKind}
 use Rattle.clap.specs.declared.error.kind.ErrorKind.TheVariants as kind
-use Rattle.yv_job.specs.Asks.{WordsAsk, IsAsked, IsFiles, IsLimit, IsExplainFor, IsSupportFor, IsImportsFor, IsKindFor, IsEachFor, IsFormFor, IsRulesFor}
+use Rattle.yv_job.specs.Asks.{WordsAsk, IsAsked, IsFiles, IsLimit, IsExplainFor, IsSupportFor, IsImportsFor, IsKindFor, IsEachFor, IsFormFor, IsRulesFor, IsDepthFor, IsBelowFor}
 use Rattle.yv_job.specs.CommandLine.{yangcheck_app}
 use Rattle.yv_job.specs.Requests.{ActionAsked, RequestAsked}
 use Rattle.yv_lint.specs.declared.rule.Rule.{Rule}
 use Rattle.yv_text_statement.specs.Selection.{Entry}
+use Rattle.yv_tree_drawing.specs.Steps.{Step}
 use Rattle.yv_text_statement.specs.declared.document_kind.Kind.{Kind}
 use Rattle.yv_job.specs.declared.job.OutputForm.{OutputForm}
 use Rattle.yv_job.specs.declared.request.Each.{Each}
@@ -83,6 +84,14 @@ pub data IsReason (name : Text) (rows : List Row) (line : Text) : Type 0 where
   of_rules : ((rules : List Rule) → IsRulesFor (first_of (codes "rules") rows) rules → ⊥)
       → line ≡ value_line (codes "rules") (codes "names of rules joined by commas")
       (first_of (codes "rules") rows)
+      → IsReason name rows line
+  of_depth : ((d : Option ℕ) → IsDepthFor (first_of (codes "depth") rows) d → ⊥)
+      → line ≡ value_line (codes "depth") (codes "a number from 1 to 128")
+      (first_of (codes "depth") rows)
+      → IsReason name rows line
+  of_below : ((steps : List Step) → IsBelowFor (first_of (codes "below") rows) steps → ⊥)
+      → line ≡ value_line (codes "below") (codes "/MODULE:NAME/NAME")
+      (first_of (codes "below") rows)
       → IsReason name rows line
   of_files : ((fs : List Text) → IsFiles rows fs → ⊥)
       → line ≡ files_line (all_of (codes "file") rows) → IsReason name rows line

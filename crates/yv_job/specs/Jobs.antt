@@ -5,12 +5,13 @@ use Rattle.yv_job.specs.declared.job.Command.{Command}
 use Rattle.yv_job.specs.declared.job.OutputOptions.{OutputOptions}
 use Rattle.yv_job.specs.declared.job.Command.TheVariants.{Compile, Tree, Validate}
 use Rattle.yv_text_statement.specs.Selection.{ModuleChoice, selected_of}
+use Rattle.yv_tree_drawing.specs.Trees.{TreeAsked}
 use Rattle.yv_text_statement.specs.declared.document_kind.Kind.{Kind}
 
--- a command: it compiles, or it draws the tree of a module, or it checks the document of a file
+-- a command: it compiles, or it draws tree diagrams, or it checks the document of a file
 pub data CommandAsked : Type 0 where
   Compiles : CommandAsked
-  Draws : List ℕ → CommandAsked
+  Draws : TreeAsked → CommandAsked
   Checks : List ℕ → CommandAsked
 
 -- a job, as clauses see it
@@ -26,7 +27,7 @@ pub record Task : Type 0 where
 -- what a command asks for
 abbrev pub asked_of : Command → CommandAsked
 asked_of Compile = Compiles
-asked_of (Tree m) = Draws (string_bytes m)
+asked_of (Tree t) = Draws t
 asked_of (Validate f) = Checks (string_bytes f)
 
 -- the task that a job is

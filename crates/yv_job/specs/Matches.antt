@@ -1,10 +1,10 @@
 -- Cited by private clauses only: what comes of one command, and of one error of clap.
-use Rattle.std.specs.Prelude.{◌≡◌, ◌≢◌, ◌⊎◌, List, Option, codes}
+use Rattle.std.specs.Prelude.{◌≢◌, List, Option, codes}
 use Rattle.clap.specs.Words.{Text, Row, first_of}
 use Rattle.clap.specs.declared.error.kind.ErrorKind.{ErrorKind}
 use Rattle.clap.specs.declared.error.kind.ErrorKind.TheVariants as kind
 use Rattle.yv_job.specs.Asks.{AsksIn, IsKindFor, IsEachFor, IsOutput, IsExplainFor}
-use Rattle.yv_job.specs.Faults.{IsHelp, command_line, value_line}
+use Rattle.yv_job.specs.Faults.{IsHelp}
 use Rattle.yv_job.specs.Requests.{RequestAsked}
 use Rattle.yv_job.specs.declared.matches.ReportOptions.{ReportOptions}
 use Rattle.yv_job.specs.declared.request.JobFault.{JobFault}
@@ -20,13 +20,6 @@ pub record IsReport (rows : List Row) (o : ReportOptions) : Type 0 where
   pub each : IsEachFor (first_of (codes "each") rows) o.each
   pub output : IsOutput rows o.output
   pub explain : IsExplainFor (first_of (codes "explain") rows) o.explain
-
--- the line about a command that asks for no action: of `lint` it says what `--rules` takes
-abbrev pub IsActionLine : Text → List Row → Text → Type 0
-IsActionLine name rows line = ((name ≡ codes "lint")
-    × (line ≡ value_line (codes "rules") (codes "names of rules joined by commas")
-    (first_of (codes "rules") rows)))
-    ⊎ (line ≡ command_line)
 
 -- a fault of usage, or want of memory
 abbrev pub IsUsage : JobFault → Type 0

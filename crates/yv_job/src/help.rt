@@ -14,8 +14,9 @@ pub(crate) struct CommandHelp {
 pub(crate) const PROGRAM: CommandHelp = CommandHelp {
     about: "Compiles YANG modules, draws their trees and validates JSON documents",
     details: "\
-Compiles YANG 1.1 modules (RFC 7950), draws their tree diagrams (RFC 8340) and
-validates JSON documents (RFC 7951) against them.
+Compiles YANG 1.1 modules (RFC 7950), draws their tree diagrams (RFC 8340),
+validates JSON documents (RFC 7951) against them, and lists what to mend in modules
+before they are published.
 
 Invalid modules are rejected with one line, FILE:LINE: NAME, for the first error.
 Modules that expand to more than 100000 nodes are rejected too; --max-nodes N sets
@@ -24,14 +25,14 @@ KIND PATH. With --path DIR, the files of imported modules are found in the folde
     closing: "\
 Examples:
   yangcheck compile --path models example.yang
-  yangcheck tree --module example --path models example.yang
+  yangcheck tree --path models example.yang
   yangcheck validate --data config.json --path models example.yang
   yangcheck lint --path models example.yang
   yangcheck files --path models example.yang
 
 Exit status:
-  0  compiled, drawn, valid, or files listed
-  1  modules rejected, no such module, or faults found
+  0  compiled, drawn, valid, no findings, or files listed
+  1  modules rejected, no such module or node, faults found, or findings
   2  usage error, document too large, or not JSON
   3  out of memory, pattern not built, cannot read, or cannot write",
 };
@@ -62,25 +63,36 @@ Exit status:
 };
 
 pub(crate) const TREE: CommandHelp = CommandHelp {
-    about: "Draw the tree diagram of a module",
+    about: "Draw the tree diagrams of modules",
     details: "\
-Draws the tree diagram (RFC 8340) of a YANG 1.1 module (RFC 7950).
+Draws the tree diagrams (RFC 8340) of YANG 1.1 modules (RFC 7950).
 
 The modules are compiled first. If they are invalid, one line, FILE:LINE: NAME,
-reports the first error. Otherwise the named module is drawn: its data nodes, then
-what it adds to other modules, its operations and its notifications. If no file
-has a module of that name, or the module is imported but not implemented, the
-output is `tree: no such module`. Every module or submodule that a module imports
-or includes must be among the files, or in a folder that --path names. No document
-is read.",
+reports the first error. Otherwise each module that --module names is drawn, and
+without --module each implemented module whose own file is named: its data nodes,
+then what it adds to other modules, its operations and its notifications. An empty
+line comes between two diagrams. If no file has a module of a name, or the module is
+imported but not implemented, the output is `tree: no such module`. Every module or
+submodule that a module imports or includes must be among the files, or in a folder
+that --path names. No document is read.
+
+With --depth N, nodes below level N are left out; `...` marks where. With --below
+/MODULE:NAME/NAME only a node is drawn, with the nodes on the way to it and all below
+it. Each name is that of a node, from the top of the schema, choices and cases too; a
+name has its module in front where the node above is of another module. If the names
+lead to no node, the output is `tree: no such node`. Without --module, the module that
+P begins with is drawn. With --columns types begin in columns, and cases are drawn
+that a choice leaves out, as other tools do.",
     closing: "\
 Examples:
-  yangcheck tree --module example example.yang types.yang
+  yangcheck tree example.yang types.yang
   yangcheck tree --module example --support example: --path models example.yang
+  yangcheck tree --depth 2 --path models example.yang
+  yangcheck tree --below /example:top/servers --columns --path models example.yang
 
 Exit status:
   0  drawn
-  1  modules rejected, or no such module
+  1  modules rejected, or no such module or node
   2  usage error
   3  out of memory, pattern not built, cannot read, or cannot write",
 };
@@ -210,7 +222,15 @@ pub const RULES: &str = "The rules whose findings are listed: RULE,RULE [default
 
 pub const FILE: &str = "The files of the YANG modules and submodules (at most 256)";
 
-pub const MODULE: &str = "The name of the module to draw";
+pub const MODULE: &str = "\
+The name of a module to draw; may be repeated [default: the modules of the named files]";
+
+pub const DEPTH: &str = "How many levels of nodes are drawn, from 1 to 128 [default: all]";
+
+pub const BELOW: &str = "\
+The node to draw with all below it: /MODULE:NAME/NAME, names of nodes from the top";
+
+pub const COLUMNS: &str = "Write types in columns, and cases that a choice leaves out";
 
 pub const MAX_NODES: &str = "\
 The limit on nodes and expanded `uses`, from 1 to 1000000 [default: 100000]";

@@ -5,12 +5,21 @@ const FOLDER_WORDS: &[&str] = &["-p", "--searchpath", "--search-path", "-D", "--
 
 const TREE_WORDS: &[&str] = &["-f", "-ftree", "--tree"];
 
+const DEPTH_WORDS: &[&str] = &["--tree-depth"];
+
+const PART_WORDS: &[&str] = &["--tree-path", "--schema-node"];
+
 const CHECK_WORDS: &[&str] = &["check", "--lint", "--strict", "--canonical", "--ietf"];
 
 const FOLDERS: &str = "\
 hint: name the files of modules; to search a folder for those that they import, write --path DIR\n";
 
-const TREES: &str = "hint: to draw a tree, write yangcheck tree --module NAME FILE\n";
+const TREES: &str = "hint: to draw a tree, write yangcheck tree FILE\n";
+
+const DEPTHS: &str = "hint: to draw N levels of a tree, write yangcheck tree --depth N FILE\n";
+
+const PARTS: &str = "\
+hint: to draw a node with all below it, write yangcheck tree --below /MODULE:NAME/NAME FILE\n";
 
 const CHECKS: &str = "hint: to check modules, write yangcheck lint FILE\n";
 
@@ -66,6 +75,8 @@ fn hint_on(word: &str) -> Option<&'static str> {
     let hints = [
         (FOLDER_WORDS, FOLDERS),
         (TREE_WORDS, TREES),
+        (DEPTH_WORDS, DEPTHS),
+        (PART_WORDS, PARTS),
         (CHECK_WORDS, CHECKS),
     ];
     for (words, hint) in hints {

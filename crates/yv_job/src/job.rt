@@ -2,14 +2,15 @@
 
 use crate::folder_search::FolderSearch;
 use yv_text_statement::{Kind, Selection};
+use yv_tree_drawing::TreeOptions;
 
 /// The command: what is to be done with the modules.
 #[derive(Debug, Drop)]
 pub enum Command {
     /// Count the nodes of the schema.
     Compile,
-    /// Draw the tree of the module of this name (RFC 8340).
-    Tree(String),
+    /// Draw the trees of modules (RFC 8340).
+    Tree(TreeOptions),
     /// Check the document of this file's name, which is `-` for standard input (RFC 7951).
     Validate(String),
 }

@@ -12,6 +12,7 @@ mod options;
 mod reasons;
 mod request;
 mod syntax;
+mod way;
 mod words;
 
 pub use folder_search::FolderSearch;
@@ -20,3 +21,4 @@ pub use laws::words_ask_once;
 pub use request::{Action, Each, JobFault, Request};
 pub use words::read_request;
 pub use yv_text_statement::Kind;
+pub use yv_tree_drawing::{Drawing, TreeOptions, WayStep};

@@ -2,24 +2,28 @@
 ghost use Rattle.std.specs.Prelude.{◌≡◌, ◌≤◌, ℕ, List, length, IfSome, IfOk, IfErr, MatchOption, [], codes, map, option_map, string_bytes};
 ghost use Rattle.std.specs.Option.{unwrap_or};
 ghost use Rattle.clap.specs.Words.{subcommand_rows_of, found_of, rows_of, all_of, first_of};
-ghost use Rattle.yv_job.specs.{Asks.{AsksIn, Asks, IsChoice, IsAsked, IsFiles, IsFlag, IsOutput}, Requests.{ActionAsked, request_of, action_of, NamesFiles, IsLimited}, Faults.{IsReason, TellsReason}, Matches.{AsksForNothing, IsActionLine, IsReport}};
+ghost use Rattle.yv_job.specs.{Asks.{AsksIn, Asks, IsChoice, IsAsked, IsEachFor, IsFiles, IsFlag, IsFormFor, IsOutput, IsRulesFor, IsTree}, Requests.{ActionAsked, request_of, action_of, rules_of, NamesFiles, IsLimited}, Faults.{IsReason, TellsReason}, Matches.{AsksForNothing, IsReport}};
+ghost use Rattle.yv_lint.specs.declared.rule.Rule.{Rule as TheRule};
 ghost use Rattle.yv_text_statement.specs.Selection.{ModuleChoice, selected_of};
+ghost use Rattle.yv_tree_drawing.specs.Trees.{TreeAsked};
 ghost use Rattle.yv_job.specs.declared.{job.OutputOptions.{OutputOptions as TheOutput}, matches.ReportOptions.{ReportOptions as TheReport}};
 
 use crate::job::{Command, OutputForm, OutputOptions};
 use crate::names::copy_texts;
 use crate::options::{
-    each_value, explain_value, form_value, imports_value, kind_value, limit_of, rules_value,
-    support_value,
+    below_value, depth_value, each_value, explain_value, form_value, imports_value, kind_value,
+    limit_of, rules_value, support_value,
 };
 use crate::reasons::{
-    COMMAND, EACH, EXPLAIN, FORMS, IMPORTS, KINDS, NODES, RULES, SUPPORT, files_line, usage,
-    value_line,
+    BELOW, COMMAND, DEPTH, EACH, EXPLAIN, FORMS, IMPORTS, KINDS, NODES, RULES, SUPPORT, files_line,
+    usage, value_line,
 };
 use crate::request::{Action, Each, Request};
 use clap::ArgMatches;
 use std::alloc::{AllocError, Global};
+use yv_lint::Rules;
 use yv_text_statement::{Kind, Selection};
+use yv_tree_drawing::{Drawing, TreeOptions};
 
 const MOST_FILES: usize = 256;
 
@@ -60,52 +64,25 @@ fn check_of(
     }
 }
 
-// The action that the command of this name asks for.
-fn action_of(
-    alloc: Global,
-    name: &str,
-    below: &ArgMatches<'_>,
-    each: Option<Each>,
-    form: OutputForm,
-) -> Result<Option<Action>, AllocError>
+// All values of an argument, in memory of their own: none where it was not given.
+fn texts_of(alloc: Global, below: &ArgMatches<'_>, id: &str) -> Result<Vec<String>, AllocError>
     ensures { let rows = rows_of (found_of below.now) in
-        IfOk result
-        (λ o. MatchOption o ((a : ActionAsked) → IsAsked name.now rows each form a → ⊥)
-        (λ a. IsAsked name.now rows each form (action_of a))) }
+        IfOk result (λ v. unwrap_or (all_of id.now rows) [] ≡ map string_bytes v.items) }
 {
-    if name == "compile" {
-        return Ok(Some(Action::Run(Command::Compile)));
+    match all(below, id) {
+        Some(texts) => copy_texts(alloc, texts),
+        None => Ok(Vec::new(alloc)),
     }
-    if name == "files" {
-        return Ok(Some(Action::Files));
-    }
-    if name == "lint" {
-        return Ok(rules_value(first(below, "rules")).map(|rules| Action::Lint(rules)));
-    }
-    if name == "tree" {
-        return match first(below, "module") {
-            Some(module) => {
-                let name = String::from_str(alloc, module)?;
-                Ok(Some(Action::Run(Command::Tree(name))))
-            }
-            None => Ok(None),
-        };
-    }
-    if name == "validate" {
-        return check_of(alloc, below, each, form);
-    }
-    Ok(None)
 }
 
-// The line about a command of this name that asks for no action.
-fn action_line(alloc: Global, name: &str, below: &ArgMatches<'_>) -> Result<String, AllocError>
+// How many values an argument has.
+fn text_count(below: &ArgMatches<'_>, id: &str) -> usize
     ensures { let rows = rows_of (found_of below.now) in
-        IfOk result (λ line. IsActionLine name.now rows (string_bytes line)) }
+        length (unwrap_or (all_of id.now rows) []) ≡ result }
 {
-    if name == "lint" {
-        value_line(alloc, "rules", RULES, first(below, "rules"))
-    } else {
-        String::from_str(alloc, COMMAND)
+    match all(below, id) {
+        Some(texts) => texts.len(),
+        None => 0,
     }
 }
 
@@ -117,6 +94,101 @@ fn has_flag(matches: &ArgMatches<'_>, id: &str) -> bool
         Some(text) => text == "true",
         None => false,
     }
+}
+
+// The rules whose findings are to be listed, or the line about what names no rules.
+fn rules_of(alloc: Global, below: &ArgMatches<'_>) -> Result<Result<Rules, String>, AllocError>
+    ensures rules { let rows = rows_of (found_of below.now) in
+        IfOk result (λ r. IfOk r (λ rules.
+        IsRulesFor (first_of (codes "rules") rows) (rules_of rules))) }
+    ensures nothing { let rows = rows_of (found_of below.now) in
+        IfOk result (λ r. IfErr r (λ _. (rules : List TheRule)
+        → IsRulesFor (first_of (codes "rules") rows) rules → ⊥)) }
+    ensures reason { let rows = rows_of (found_of below.now) in
+        IfOk result
+        (λ r. IfErr r (λ line. (name : List ℕ) → IsReason name rows (string_bytes line))) }
+{
+    let names = first(below, "rules");
+    let Some(rules) = rules_value(names) else {
+        return Ok(Err(value_line(alloc, "rules", RULES, names)?));
+    };
+    Ok(Ok(rules))
+}
+
+// Which tree diagrams are to be drawn and how, or the line about the option that is wrong.
+fn tree_of(alloc: Global, below: &ArgMatches<'_>) -> Result<Result<TreeOptions, String>, AllocError>
+    ensures tree { let rows = rows_of (found_of below.now) in
+        IfOk result (λ r. IfOk r (λ t. IsTree rows t)) }
+    ensures nothing { let rows = rows_of (found_of below.now) in
+        IfOk result (λ r. IfErr r (λ _. (t : TreeAsked) → IsTree rows t → ⊥)) }
+    ensures reason { let rows = rows_of (found_of below.now) in
+        IfOk result
+        (λ r. IfErr r (λ line. (name : List ℕ) → IsReason name rows (string_bytes line))) }
+{
+    let number = first(below, "depth");
+    let Some(depth) = depth_value(number) else {
+        return Ok(Err(value_line(alloc, "depth", DEPTH, number)?));
+    };
+    let way = first(below, "below");
+    let Some(steps) = below_value(alloc, way)? else {
+        return Ok(Err(value_line(alloc, "below", BELOW, way)?));
+    };
+    let modules = texts_of(alloc, below, "module")?;
+    Ok(Ok(TreeOptions {
+        modules,
+        named_files: text_count(below, "file"),
+        drawing: Drawing {
+            depth,
+            below: steps,
+            columns: has_flag(below, "columns"),
+        },
+    }))
+}
+
+// The action that the command of this name asks for, or the line about what is wrong, after what
+// was read of `--each` and `--format`.
+fn action_of(
+    alloc: Global,
+    name: &str,
+    below: &ArgMatches<'_>,
+    each: Option<Each>,
+    form: OutputForm,
+) -> Result<Result<Action, String>, AllocError>
+    requires each { IsEachFor (first_of (codes "each") (rows_of (found_of below.now))) each }
+    requires form { IsFormFor (first_of (codes "format") (rows_of (found_of below.now))) form }
+    ensures action { let rows = rows_of (found_of below.now) in
+        IfOk result (λ r. IfOk r (λ a. IsAsked name.now rows each form (action_of a))) }
+    ensures nothing { let rows = rows_of (found_of below.now) in
+        IfOk result
+        (λ r. IfErr r (λ _. (a : ActionAsked) → IsAsked name.now rows each form a → ⊥)) }
+    ensures reason { let rows = rows_of (found_of below.now) in
+        IfOk result (λ r. IfErr r (λ line. IsReason name.now rows (string_bytes line))) }
+{
+    if name == "compile" {
+        return Ok(Ok(Action::Run(Command::Compile)));
+    }
+    if name == "files" {
+        return Ok(Ok(Action::Files));
+    }
+    if name == "lint" {
+        return match rules_of(alloc, below)? {
+            Ok(rules) => Ok(Ok(Action::Lint(rules))),
+            Err(line) => Ok(Err(line)),
+        };
+    }
+    if name == "tree" {
+        return match tree_of(alloc, below)? {
+            Ok(tree) => Ok(Ok(Action::Run(Command::Tree(tree)))),
+            Err(line) => Ok(Err(line)),
+        };
+    }
+    if name == "validate" {
+        return match check_of(alloc, below, each, form)? {
+            Some(check) => Ok(Ok(check)),
+            None => Ok(Err(String::from_str(alloc, COMMAND)?)),
+        };
+    }
+    Ok(Err(String::from_str(alloc, COMMAND)?))
 }
 
 // What standard output is to be like, or the line about the option that is wrong.
@@ -184,17 +256,6 @@ fn report_of(
         output,
         explain,
     }))
-}
-
-// The folders that are to be searched.
-fn folders_of(alloc: Global, below: &ArgMatches<'_>) -> Result<Vec<String>, AllocError>
-    ensures { let rows = rows_of (found_of below.now) in
-        IfOk result (λ v. unwrap_or (all_of (codes "path") rows) [] ≡ map string_bytes v.items) }
-{
-    match all(below, "path") {
-        Some(folders) => copy_texts(alloc, folders),
-        None => Ok(Vec::new(alloc)),
-    }
 }
 
 fn files_of(alloc: Global, below: &ArgMatches<'_>) -> Result<Option<Vec<String>>, AllocError>
@@ -271,13 +332,14 @@ fn request_of_command(
         Ok(report) => report,
         Err(line) => return Ok(Err(line)),
     };
-    let Some(action) = action_of(alloc, name, below, each, output.form)? else {
-        return Ok(Err(action_line(alloc, name, below)?));
+    let action = match action_of(alloc, name, below, each, output.form)? {
+        Ok(action) => action,
+        Err(line) => return Ok(Err(line)),
     };
     let Some(files) = files_of(alloc, below)? else {
         return Ok(Err(files_line(alloc, all(below, "file"))?));
     };
-    let folders = folders_of(alloc, below)?;
+    let folders = texts_of(alloc, below, "path")?;
     Ok(Ok(Request {
         action,
         limit,

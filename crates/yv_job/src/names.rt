@@ -7,15 +7,16 @@ ghost use Rattle.yv_text_statement.specs.Selection.{Entry, entry_of};
 use std::alloc::{AllocError, Global};
 use yv_text_if_feature::is_identifier;
 
-// The parts of a text between the places where a character is.
-fn pieces<'a>(alloc: Global, text: &'a str, at: char) -> Result<Vec<&'a str>, AllocError>
+/// The parts of a text between the places where a character is.
+pub fn pieces<'a>(alloc: Global, text: &'a str, at: char) -> Result<Vec<&'a str>, AllocError>
     requires { at < 128 }
     ensures { IfOk result (λ v. map (λ p. p.now) v.items ≡ slice_split (λ b. b == at) text.now) }
 {
     text.split(at).collect(alloc)
 }
 
-fn is_name(text: &str) -> bool
+/// Whether a text is a name: an identifier (RFC 7950, section 6.2).
+pub fn is_name(text: &str) -> bool
     ensures { result ≡ is_identifier text.now }
 {
     is_identifier(text.as_bytes())
@@ -63,8 +64,8 @@ fn features_of(alloc: Global, text: &str) -> Result<Option<Vec<String>>, AllocEr
     }
 }
 
-// What comes before a text's first colon, and after it.
-fn cut(text: &str) -> Option<(&str, &str)>
+/// What comes before a text's first colon, and after it.
+pub fn cut(text: &str) -> Option<(&str, &str)>
     ensures joins { IfSome result (λ p. p.0.now ++ (58 ∷ p.1.now) ≡ text.now) }
     ensures first { (before after : List ℕ) → IsIdentifier before
         → before ++ (58 ∷ after) ≡ text.now

@@ -1,15 +1,18 @@
-//! The values of the options that all commands share.
+//! The values of options.
 ghost use Rattle.std.specs.Prelude.{◌≡◌, ◌≤◌, ◌==◌, ℕ, List, Option, slice_index, IfSome, IfOk, MatchOption, map, option_map, string_bytes};
-ghost use Rattle.yv_job.specs.{Asks.{IsDecimal, IsLimit, IsExplainFor, IsSupportFor, IsImportsFor, IsKindFor, IsEachFor, IsFormFor, IsRulesFor}, Requests.{rules_of}, declared.{job.OutputForm.{OutputForm as TheForm}, request.Each.{Each as TheEach}}};
+ghost use Rattle.yv_job.specs.{Asks.{IsDecimal, IsLimit, IsExplainFor, IsSupportFor, IsImportsFor, IsKindFor, IsEachFor, IsFormFor, IsRulesFor, IsDepthFor, IsBelowFor}, Requests.{rules_of}, declared.{job.OutputForm.{OutputForm as TheForm}, request.Each.{Each as TheEach}}};
 ghost use Rattle.yv_lint.specs.declared.rule.Rule.{Rule as TheRule};
 ghost use Rattle.yv_text_statement.specs.{Selection.{Entry, entry_of}, declared.document_kind.Kind.{Kind as TheKind}};
+ghost use Rattle.yv_tree_drawing.specs.Steps.{Step};
 
 use crate::job::OutputForm;
 use crate::names::{names_of, support_of};
 use crate::request::Each;
+use crate::way::way_of;
 use std::alloc::{AllocError, Global};
 use yv_lint::Rules;
 use yv_text_statement::Kind;
+use yv_tree_drawing::WayStep;
 
 const MOST_NODES: u32 = 1_000_000;
 
@@ -18,6 +21,8 @@ const USUAL_NODES: u32 = 100_000;
 const MOST_EXPLAIN: u32 = 10_000;
 
 const USUAL_EXPLAIN: u32 = 20;
+
+const MOST_DEPTH: u32 = 128;
 
 const USUAL_KIND: Kind = Kind::All;
 
@@ -164,5 +169,31 @@ pub fn rules_value(value: Option<&str>) -> Option<Rules>
     match value {
         None => Some(Rules::all()),
         Some(names) => Rules::read(names),
+    }
+}
+
+/// How many levels of nodes the value of `--depth` asks for: all where there is no value.
+pub fn depth_value(value: Option<&str>) -> Option<Option<u32>>
+    ensures { let text = option_map (λ t. t.now) value.entry in
+        MatchOption result ((d : Option ℕ) → IsDepthFor text d → ⊥) (IsDepthFor text) }
+{
+    let Some(text) = value else {
+        return Some(None);
+    };
+    match number_of(text) {
+        Some(n) if n >= 1 && n <= MOST_DEPTH => Some(Some(n)),
+        _ => None,
+    }
+}
+
+/// The steps of the value of `--below`: none where there is no value.
+pub fn below_value(alloc: Global, value: Option<&str>) -> Result<Option<Vec<WayStep>>, AllocError>
+    ensures { let text = option_map (λ t. t.now) value.entry in
+        IfOk result (λ o. MatchOption o ((steps : List Step) → IsBelowFor text steps → ⊥)
+        (λ v. IsBelowFor text v.items)) }
+{
+    match value {
+        None => Ok(Some(Vec::new(alloc))),
+        Some(text) => way_of(alloc, text),
     }
 }

@@ -28,6 +28,12 @@ pub const IMPORTS: &str = "MODULE,MODULE";
 /// What `--rules` takes.
 pub const RULES: &str = "names of rules joined by commas";
 
+/// What `--depth` takes.
+pub const DEPTH: &str = "a number from 1 to 128";
+
+/// What `--below` takes.
+pub const BELOW: &str = "/MODULE:NAME/NAME";
+
 /// That there is no command, or not what it needs. clap asks for both, so this is not seen.
 pub const COMMAND: &str = "no command was given, or not what it needs\n";
 

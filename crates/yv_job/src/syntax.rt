@@ -1,7 +1,7 @@
 //! The command line's syntax, for clap.
 ghost use Rattle.std.specs.Prelude.{◌≡◌, IfOk, false, codes};
 ghost use Rattle.clap.specs.{Words.{app_of, rule_of, new_app, with_rule, with_subcommand}, declared.builder.command.Command.TheViews.{out-Command as fields_of}};
-ghost use Rattle.yv_job.specs.CommandLine.{option_rule, required_rule, repeated_rule, required_repeated_rule, flag_rule, files_rule, with_output, with_shared, compile_app, tree_app, validate_app, lint_app, top_app, yangcheck_app};
+ghost use Rattle.yv_job.specs.CommandLine.{option_rule, repeated_rule, required_repeated_rule, flag_rule, files_rule, with_output, with_shared, compile_app, tree_app, validate_app, lint_app, top_app, yangcheck_app};
 
 use crate::help::{self, CommandHelp};
 use clap::{Arg, ArgAction, Command};
@@ -17,14 +17,6 @@ fn option<'a>(alloc: Global, id: &'a str, value: &'a str, help: &'a str) -> Arg<
         .value_name(value)
         .help(help)
         .action(ArgAction::Set)
-}
-
-// `--id VALUE`, exactly once.
-fn required_option<'a>(alloc: Global, id: &'a str, value: &'a str, help: &'a str) -> Arg<'a>
-    ensures rule { rule_of result ≡ required_rule id.entry.now }
-    ensures local { result.global ≡ false }
-{
-    option(alloc, id, value, help).required(true)
 }
 
 // `--id VALUE`, any number of times.
@@ -158,8 +150,14 @@ fn tree<'a>(alloc: Global) -> Result<Command<'a>, AllocError>
     ensures local { IfOk result (λ c. (fields_of c).has_globals ≡ false) }
 {
     let command = command(alloc, "tree", &help::TREE);
-    let module = required_option(alloc, "module", "M", help::MODULE);
-    let drawing = with_arg(command, module)?;
+    let module = repeated_option(alloc, "module", "M", help::MODULE);
+    let depth = option(alloc, "depth", "N", help::DEPTH);
+    let naming = with_arg(command, module)?;
+    let below = option(alloc, "below", "P", help::BELOW);
+    let stopping = with_arg(naming, depth)?;
+    let choosing = with_arg(stopping, below)?;
+    let columns = flag(alloc, "columns", help::COLUMNS);
+    let drawing = with_arg(choosing, columns)?;
     with_shared_options(alloc, drawing)
 }
 

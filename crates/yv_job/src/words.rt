@@ -47,8 +47,8 @@ fn with_hint(alloc: Global, text: String, words: &[String]) -> JobFault
 
 /// The request that the words make. The first word is the program's name.
 pub fn read_request(alloc: Global, words: &[String]) -> Result<Request, JobFault>
-    // The words ask for this: command, document or module, folders and files in order, limit,
-    // selection, kind.
+    // The words ask for this: the action with all that it needs, folders and files in order,
+    // limit, selection, kind.
     ensures request { IfOk result (λ r. WordsAsk (map string_bytes words.now) (request_of r)) }
     // It names 1 to 256 files.
     ensures files { IfOk result NamesFiles }

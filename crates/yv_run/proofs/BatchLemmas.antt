@@ -1,5 +1,5 @@
 -- What a run over many documents leaves, from what its parts answer.
-use Rattle.std.proofs.Common.{◌≡◌, ◌∙◌, ◌⊎◌, ◌↔◌, inl, inr, ℕ, List, [], ◌∷◌, ◌++◌, Bool, true, map, flat_map, codes, refl, sym, ap, subst, append_assoc, append-nil, IfOk, Result, Ok, Err}
+use Rattle.std.proofs.Common.{◌≡◌, ◌∙◌, ◌⊎◌, ◌↔◌, inl, inr, ℕ, List, [], ◌∷◌, ◌++◌, Bool, true, map, flat_map, codes, refl, sym, ap, subst, append_assoc, append-nil}
 use Rattle.std.specs.declared.option.Option.{Option}
 use Rattle.std.specs.declared.option.Option.TheVariants.{None, Some}
 use Rattle.yv_text_statement.specs.declared.document_kind.Kind.{Kind}
@@ -24,7 +24,7 @@ use Rattle.yv_documents.specs.AskedText.{asked_text, asked_total}
 use Rattle.yv_documents.specs.DocumentLines.{asked_level, cost_lines, count_line, data_lines, faults_lines, reading_lines}
 use Rattle.yv_documents.specs.Lines.{ended_line}
 use Rattle.yv_documents.specs.Steps.{cost_if, steps_line}
-use Rattle.yv_run.specs.Batches.{AnswersAll, IsAll, IsFound, RunsAll, StopsBefore, answered, refused}
+use Rattle.yv_run.specs.Batches.{IsAll, IsFound, RunsAll, StopsBefore, answered, refused}
 use Rattle.yv_run.specs.Compiles.{AreRefused}
 use Rattle.yv_run.specs.Output.{IsStopped, cost_end, data_printed, faults_printed, reading_printed}
 use Rattle.yv_run.specs.Status.{batch_status, level_status}

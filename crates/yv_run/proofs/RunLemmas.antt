@@ -9,6 +9,7 @@ use Rattle.yv_job.specs.Jobs.{CommandAsked, Compiles, Draws, Checks, Task}
 use Rattle.yv_job.specs.declared.job.OutputOptions.{OutputOptions}
 use Rattle.yv_text_statement.specs.declared.document_kind.Kind.{Kind}
 use Rattle.yv_nodes.specs.Rows.{Rows}
+use Rattle.yv_tree_drawing.specs.Trees.{TreeAsked}
 use Rattle.yv_data_faults.specs.Flaw.{Flaw}
 use Rattle.yv_base_streams.specs.Files.{File}
 use Rattle.yv_base_streams.specs.Stream.{TakesAtMost}
@@ -16,8 +17,8 @@ use Rattle.yv_run.specs.Compiles.{FilesCompile, RefusedAt, HasSchema}
 use Rattle.yv_documents.specs.Document.{DocumentText, document_text}
 use Rattle.yv_documents.specs.DocumentLines.{faults_in}
 use Rattle.yv_documents.specs.Notes.{NotesReading}
-use Rattle.yv_run.specs.Output.{Gives, IsStopped, Page, ReadsData, count_printed, diagram_printed, refusal_printed}
-use Rattle.yv_run.specs.PersonNotes.{NotesData, NotesDiagram}
+use Rattle.yv_run.specs.Output.{Gives, IsStopped, Page, count_printed, refusal_printed, tree_printed}
+use Rattle.yv_run.specs.PersonNotes.{NotesData, NotesTree}
 use Rattle.yv_run.specs.declared.status.Status.{Status}
 use Rattle.yv_run.specs.InnerRun.{HasNote, RunsData, RunsSchema}
 use Rattle.yv_run.specs.Notes.{RunsWithNote, TellsRefusal}
@@ -67,12 +68,12 @@ module _ (old new : Option (List ℕ)) (ended : RunEnd) where
       record { given = d.0; gives = d.1; consumed = Consumes-nil known; writes = writes; noted = noted } in
       subst (λ (a : CommandAsked). RunsSchema most a o k s ended known known old new) (sym is) runs
 
-  -- and so is a diagram
-  pub runs_diagram : (known : Option (List ℕ)) (most : ℕ) (asked : CommandAsked) (name : List ℕ) (o : OutputOptions) (k : Kind) (s : Rows) → asked ≡ Draws name
-      → Writes (diagram_printed s name) ended.status old new → HasNote (NotesDiagram s name) ended → RunsSchema most asked o k s ended known known old new
-  runs_diagram known most asked name o k s is writes noted =
+  -- and so are diagrams
+  pub runs_tree : (known : Option (List ℕ)) (most : ℕ) (asked : CommandAsked) (t : TreeAsked) (o : OutputOptions) (k : Kind) (s : Rows) → asked ≡ Draws t
+      → Writes (tree_printed s t) ended.status old new → HasNote (NotesTree s t) ended → RunsSchema most asked o k s ended known known old new
+  runs_tree known most asked t o k s is writes noted =
       let d = some_given known in
-      let runs : RunsSchema most (Draws name) o k s ended known known old new =
+      let runs : RunsSchema most (Draws t) o k s ended known known old new =
       record { given = d.0; gives = d.1; consumed = Consumes-nil known; writes = writes; noted = noted } in
       subst (λ (a : CommandAsked). RunsSchema most a o k s ended known known old new) (sym is) runs
 

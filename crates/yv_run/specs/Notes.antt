@@ -13,7 +13,7 @@ use Rattle.yv_note_refusals.specs.Explanations.{Explains, Speaks, bytes_at}
 use Rattle.yv_note_refusals.specs.OtherRefusals.{AreOtherLines}
 use Rattle.yv_note_patterns.specs.PatternFailure.{TellsPattern}
 use Rattle.yv_run.specs.Compiles.{Compilation, HasSchema, RefusedAt}
-use Rattle.yv_run.specs.PersonNotes.{NotesData, NotesDiagram}
+use Rattle.yv_run.specs.PersonNotes.{NotesData, NotesTree}
 use Rattle.yv_run.specs.Runs.{Runs}
 use Rattle.yv_run.specs.declared.whole_run.RunEnd.{RunEnd}
 
@@ -35,7 +35,7 @@ NotesPattern files note = IsSomeAnd note (TellsPattern files)
 abbrev pub NotesSchema : (most : ℕ) → CommandAsked → Kind → Rows → (given : List ℕ)
     → (note : Option (List ℕ)) → Type 0
 NotesSchema most Compiles k s given note = note ≡ None
-NotesSchema most (Draws name) k s given note = NotesDiagram s name note
+NotesSchema most (Draws t) k s given note = NotesTree s t note
 NotesSchema most (Checks f) k s given note = NotesData most f k s given note
 
 -- the note on what files come to: why they are refused, or the one on what was asked of their

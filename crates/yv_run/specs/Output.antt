@@ -2,6 +2,8 @@
 use Rattle.std.specs.Prelude.{◌≡◌, ℕ, List, [], ◌∷◌, ◌++◌, Bool, true, false, take, codes, IfSome, map, string_bytes, option_map, slice_get}
 use Rattle.std.specs.declared.option.Option.{Option}
 use Rattle.std.specs.declared.option.Option.TheVariants.{Some, None}
+use Rattle.std.specs.declared.result.Result.{Result}
+use Rattle.std.specs.declared.result.Result.TheVariants.{Ok, Err}
 use Rattle.std.specs.Fmt.{decimal}
 use Rattle.serde_json.specs.Data.{Data}
 use Rattle.yv_text_statement.specs.Codes.{name_of}
@@ -11,7 +13,10 @@ use Rattle.yv_nodes.specs.Rows.{Rows, whole}
 use Rattle.yv_text_statement.specs.declared.document_kind.Kind.{Kind}
 use Rattle.yv_schema_tables.specs.Measures.{measures_of}
 use Rattle.yv_schema_tables.specs.declared.measures.Measures.{Measures}
-use Rattle.yv_tree.specs.Diagram.{diagram_of}
+use Rattle.yv_tree.specs.DrawnModules.{diagrams_of}
+use Rattle.yv_tree.specs.declared.diagrams.Missing.{Missing}
+use Rattle.yv_tree.specs.declared.diagrams.Missing.TheVariants as missing
+use Rattle.yv_tree_drawing.specs.Trees.{TreeAsked}
 use Rattle.yv_job.specs.Jobs.{CommandAsked, Compiles, Draws, Checks, Task}
 use Rattle.yv_job.specs.declared.job.OutputForm.{OutputForm}
 use Rattle.yv_job.specs.declared.job.OutputForm.TheVariants as form
@@ -30,7 +35,7 @@ use Rattle.yv_run.specs.Compiles.{Compilation, RefusedAt, HasSchema, FilesCompil
 use Rattle.yv_documents.specs.Document.{DocumentText, TooLarge, NotJson, Reads, document_text}
 use Rattle.yv_base_streams.specs.Files.{File, file_of}
 use Rattle.yv_run.specs.declared.print.Body.{Body}
-use Rattle.yv_run.specs.declared.print.Body.TheVariants.{Text, Diagram, Faults, Compiled}
+use Rattle.yv_run.specs.declared.print.Body.TheVariants.{Text, Diagrams, Faults, Compiled}
 use Rattle.yv_run.specs.declared.print.CompilationResult.{CompilationResult}
 use Rattle.yv_run.specs.declared.print.CompilationResult.TheVariants as compilation
 use Rattle.yv_run.specs.declared.print.Output.{Output}
@@ -119,19 +124,24 @@ count_printed o s = record {
   verdict = Clean;
 }
 
--- a diagram, or that there is no module to draw
-abbrev pub drawn_printed : (diagram : Option (List ℕ)) → Page
-drawn_printed None = record { text = ended_line (codes "tree: no such module"); verdict = Refused }
-drawn_printed (Some text) = record { text = text; verdict = Clean }
+-- what is missing of what is to be drawn
+abbrev pub missing_line : Missing → List ℕ
+missing_line missing.Module = codes "tree: no such module"
+missing_line missing.Node = codes "tree: no such node"
 
--- the diagram of the module of this name, where it is implemented
-abbrev pub diagram_printed : Rows → (name : List ℕ) → Page
-diagram_printed s name = drawn_printed (diagram_of s name)
+-- diagrams, or what is missing
+abbrev pub drawn_printed : (diagrams : Result (List ℕ) Missing) → Page
+drawn_printed (Err what) = record { text = ended_line (missing_line what); verdict = Refused }
+drawn_printed (Ok text) = record { text = text; verdict = Clean }
+
+-- the diagrams that are asked for
+abbrev pub tree_printed : Rows → TreeAsked → Page
+tree_printed s t = drawn_printed (diagrams_of s t)
 
 -- what is said of a schema, by what was asked
 abbrev pub schema_printed : CommandAsked → OutputOptions → Kind → Rows → List ℕ → Page
 schema_printed Compiles o k s given = count_printed o s
-schema_printed (Draws name) o k s given = diagram_printed s name
+schema_printed (Draws t) o k s given = tree_printed s t
 schema_printed (Checks f) o k s given = data_printed o.measures k s given
 
 -- what is printed of refused files
@@ -182,10 +192,10 @@ compilation_text (compilation.Refusal file at code) =
 compilation_text (compilation.Findings f inputs fs) =
     findings_text f (map file_of inputs.now) fs.now
 
--- the bytes of a text, of a diagram, of the lines of faults, or of the result of a compilation
+-- the bytes of a text, of diagrams, of the lines of faults, or of the result of a compilation
 abbrev pub body_text : Body → List ℕ
 body_text (Text text) = string_bytes text
-body_text (Diagram text) = text
+body_text (Diagrams text) = text
 body_text (Faults list end) = with_end (checked_text list.items) (option_map string_bytes end)
 body_text (Compiled r) = compilation_text r
 

@@ -3,17 +3,17 @@
 ghost use Rattle.std.specs.Prelude.{◌≡◌, ◌↔◌, ◌⊎◌, true, map, IfErr, IfOk, IsErrOf, IsSomeAnd, OnErr, None, option_map, string_bytes};
 ghost use Rattle.yv_job.specs.Jobs.{asked_of};
 ghost use Rattle.yv_base_streams.specs.{Stream.{stream_inner, has_failed, IsFresh, FailsOnceAtMost, TakesAtMost}, Files.{file_of}};
-ghost use Rattle.yv_run.specs.{Output.{ReadsData, IsStopped, count_printed, data_printed, diagram_printed, refusal_printed}, PersonNotes.{NotesData, NotesDiagram}, declared.status.Status.{Status}, InnerRun.{HasNote, RunsData, RunsSchema}, Notes.{TellsRefusal}, Runs.{Writes, most_read}};
+ghost use Rattle.yv_run.specs.{Output.{ReadsData, IsStopped, count_printed, data_printed, refusal_printed, tree_printed}, PersonNotes.{NotesData, NotesTree}, declared.status.Status.{Status}, InnerRun.{HasNote, RunsData, RunsSchema}, Notes.{TellsRefusal}, Runs.{Writes, most_read}};
 
 use crate::checks::of_data;
-use crate::notes::diagram_note;
+use crate::notes::tree_note;
 use crate::output::write_output;
-use crate::print::{of_count, of_diagram, of_refusal};
+use crate::print::{of_count, of_refusal, of_tree};
 use crate::whole_run::{Halt, Holdings, RunEnd};
 use std::alloc::{AllocError, Global};
 use std::io::{Read, Write};
 use yv_base_streams::{Counted, Input, InputFault, read_up_to};
-use yv_job::{Command, Job, OutputOptions};
+use yv_job::{Command, Job, OutputOptions, TreeOptions};
 use yv_note_refusals::{explanation, other_refusals};
 use yv_schema::Schema;
 use yv_text_statement::Refusal;
@@ -102,7 +102,7 @@ pub(crate) fn write_answer<R: Read, W: Write>(
 {
     match &job.command {
         Command::Compile => write_count(schema, job.output, writer),
-        Command::Tree(name) => write_diagram(alloc, job, schema, name.as_str(), writer),
+        Command::Tree(options) => write_tree(alloc, job, schema, options, writer),
         Command::Validate(name) => {
             validate_document(alloc, job, inputs, schema, name.as_str(), reader, writer)
         }
@@ -135,19 +135,19 @@ fn write_count<W: Write>(
     })
 }
 
-// Writes the diagram of a module, or that there is none.
-fn write_diagram<W: Write>(
+// Writes the diagrams that are asked for, or what is missing.
+fn write_tree<W: Write>(
     alloc: Global,
     job: &Job,
     schema: Schema,
-    name: &str,
+    options: &TreeOptions,
     writer: &mut Counted<W>,
 ) -> Result<RunEnd, Halt>
     requires { IsFresh writer.old }
     ensures writes { IfOk result
-        (λ e. Writes (diagram_printed schema name.now) e.status
+        (λ e. Writes (tree_printed schema options.now) e.status
         (W.contents (stream_inner writer.old)) (W.contents (stream_inner writer.new))) }
-    ensures notes { IfOk result (HasNote (NotesDiagram schema name.now)) }
+    ensures notes { IfOk result (HasNote (NotesTree schema options.now)) }
     ensures ends { IfOk result (λ e. IsStopped e.status → ⊥) }
     ensures write_fault { IfOk result
         (λ e. e.status ≡ Status.WriteFault ↔ (has_failed writer.new ≡ true)) }
@@ -156,9 +156,9 @@ fn write_diagram<W: Write>(
     ensures no_memory { IfErr result (λ h. h ≡ Halt.NoMemory) }
 {
     let (status, note) = {
-        let output = of_diagram(alloc, &schema, name)?;
+        let output = of_tree(alloc, &schema, options)?;
         let status = write_output(&output, writer);
-        let note = diagram_note(alloc, job, &schema, name, &output);
+        let note = tree_note(alloc, job, &schema, options, &output);
         (status, note)
     };
     Ok(RunEnd {

@@ -1,17 +1,17 @@
-//! What helps a person to fix what was found of a document, or to name a module that has a diagram.
-//! It is made after the outcome is written, so that it delays nothing.
+//! What helps a person to fix what was found of a document, or to name a module or a node that is
+//! there. It is made after the outcome is written, so that it delays nothing.
 ghost use Rattle.std.specs.Prelude.{◌≡◌, IfOk, option_map, string_bytes};
 ghost use Rattle.yv_documents.specs.{Document.{document_view, document_text}, Notes.{NotesReading}};
-ghost use Rattle.yv_run.specs.{Output.{diagram_printed, printed_of}, PersonNotes.{NotesDiagram, faults_of}};
+ghost use Rattle.yv_run.specs.{Output.{printed_of, tree_printed}, PersonNotes.{NotesTree, faults_of}};
 
 use crate::checks::CheckResult;
-use crate::modules::modules_note;
+use crate::missing_module::missing_note;
 use crate::print::{Body, Output};
 use crate::status::Verdict;
 use std::alloc::{AllocError, Global};
 use yv_base_streams::Input;
 use yv_documents::{DocumentSource, NoteBasis, document_note};
-use yv_job::Job;
+use yv_job::{Job, TreeOptions};
 use yv_schema::Schema;
 use yv_validate::Fault;
 
@@ -53,26 +53,26 @@ impl Body<'_> {
         ensures { result.now ≡ faults_of self.now }
     {
         match self {
-            Body::Text(_) | Body::Diagram(_) | Body::Compiled(_) => &[],
+            Body::Text(_) | Body::Diagrams(_) | Body::Compiled(_) => &[],
             Body::Faults(faults, _) => faults.as_slice(),
         }
     }
 }
 
-/// Why there is no diagram of the module of this name, and of which modules there is one; none, if
-/// this output is a diagram.
-pub fn diagram_note(
+/// Which module or node is missing of those that are to be drawn, and what there is instead; none,
+/// if this output is of diagrams.
+pub fn tree_note(
     alloc: Global,
     job: &Job,
     schema: &Schema,
-    name: &str,
+    options: &TreeOptions,
     output: &Output<'_>,
 ) -> Result<Option<String>, AllocError>
-    ensures { printed_of output.now ≡ diagram_printed schema.now name.now
-        → IfOk result (λ note. NotesDiagram schema.now name.now (option_map string_bytes note)) }
+    ensures { printed_of output.now ≡ tree_printed schema.now options.now
+        → IfOk result (λ note. NotesTree schema.now options.now (option_map string_bytes note)) }
 {
     match output.verdict {
-        Verdict::Refused => Ok(Some(modules_note(alloc, schema.modules(), job, name)?)),
+        Verdict::Refused => Ok(Some(missing_note(alloc, schema, job, options)?)),
         Verdict::Clean | Verdict::BadInput => Ok(None),
     }
 }

@@ -61,7 +61,7 @@ fn put_body<W: Write>(writer: &mut Counted<W>, body: &Body<'_>) -> bool
 {
     match body {
         Body::Text(text) => write_whole(writer, text.as_bytes()),
-        Body::Diagram(diagram) => diagram.write(writer),
+        Body::Diagrams(diagrams) => diagrams.write(writer),
         Body::Faults(faults, None) => write_checked(writer, faults.as_slice(), None),
         Body::Faults(faults, Some(end)) => {
             write_checked(writer, faults.as_slice(), Some(end.as_str()))

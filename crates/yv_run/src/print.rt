@@ -1,20 +1,20 @@
 //! The text of an outcome.
-ghost use Rattle.std.specs.Prelude.{◌≡◌, map, slice_get, IfOk, None};
+ghost use Rattle.std.specs.Prelude.{◌≡◌, map, slice_get, IfOk, Err};
 ghost use Rattle.yv_base_streams.specs.Files.{file_of};
 ghost use Rattle.yv_job.specs.declared.job.OutputForm.TheVariants as form;
-ghost use Rattle.yv_run.specs.{FileParts.{bytes_of_file, name_of_file}, Lints.{findings_printed, findings_verdict}, Output.{body_text, count_printed, diagram_printed, drawn_printed, measures_if, printed_of, refusal_printed, refusal_text}};
+ghost use Rattle.yv_run.specs.{FileParts.{bytes_of_file, name_of_file}, Lints.{findings_printed, findings_verdict}, Output.{body_text, count_printed, drawn_printed, measures_if, printed_of, refusal_printed, refusal_text, tree_printed}};
 
 use crate::status::Verdict;
 use std::alloc::{AllocError, Global};
 use yv_base_positions::column_of;
 use yv_base_streams::Input;
-use yv_job::{OutputForm, OutputOptions};
+use yv_job::{OutputForm, OutputOptions, TreeOptions};
 use yv_json_lines::Position;
 use yv_lint::Finding;
 use yv_schema::Schema;
 use yv_schema_tables::Measures;
 use yv_text_statement::Refusal;
-use yv_tree::TreeDiagram;
+use yv_tree::{Missing, TreeDiagrams};
 use yv_validate::Fault;
 
 /// The result of a compilation, which is put on a page when it is written.
@@ -28,14 +28,14 @@ pub enum CompilationResult<'a> {
     Findings(OutputForm, &'a [Input], &'a [Finding]),
 }
 
-/// The body of an outcome: what is written of it. A diagram and the lines of faults aren't text:
+/// The body of an outcome: what is written of it. Diagrams and the lines of faults aren't text:
 /// they may be more than memory holds, since what is short in a module may be shown many times, and
 /// a fault has all the names on its way.
 #[derive(Drop)]
 pub enum Body<'a> {
     Text(String),
-    /// The diagram of a module, which is drawn as it is written.
-    Diagram(TreeDiagram<'a>),
+    /// The diagrams of modules, which are drawn as they are written.
+    Diagrams(TreeDiagrams<'a>),
     /// The faults of a document, of which there may be none, and a text that follows their lines.
     Faults(Vec<Fault>, Option<String>),
     /// The result of a compilation.
@@ -150,29 +150,35 @@ fn measures_if(schema: &Schema, is_asked: bool) -> Option<Measures>
     }
 }
 
-/// The tree diagram of the implemented module of this name, or that there is no such module.
-pub fn of_diagram<'a>(
+/// The tree diagrams that are asked for, or which there is not: a module, or the node.
+pub fn of_tree<'a>(
     alloc: Global,
     schema: &'a Schema,
-    name: &str,
+    options: &'a TreeOptions,
 ) -> Result<Output<'a>, AllocError>
-    ensures { IfOk result (λ o. printed_of o ≡ diagram_printed schema.now name.now) }
+    ensures { IfOk result
+        (λ o. printed_of o ≡ tree_printed schema.entry.now options.entry.now) }
 {
-    match TreeDiagram::of(alloc, schema, name)? {
-        Some(diagram) => Ok(Output {
-            body: Body::Diagram(diagram),
-            verdict: Verdict::Clean,
-        }),
-        None => no_module(alloc),
-    }
+    let diagrams = match TreeDiagrams::of(alloc, schema, options)? {
+        Ok(diagrams) => diagrams,
+        Err(missing) => return of_missing(alloc, missing),
+    };
+    Ok(Output {
+        body: Body::Diagrams(diagrams),
+        verdict: Verdict::Clean,
+    })
 }
 
-fn no_module(alloc: Global) -> Result<Output<'static>, AllocError>
-    ensures { IfOk result (λ o. printed_of o ≡ drawn_printed None) }
+// That there is no such module or node.
+fn of_missing(alloc: Global, missing: Missing) -> Result<Output<'static>, AllocError>
+    ensures { IfOk result (λ o. printed_of o ≡ drawn_printed (Err missing)) }
 {
-    let text = String::from_str(alloc, "tree: no such module\n")?;
+    let line = match missing {
+        Missing::Module => "tree: no such module\n",
+        Missing::Node => "tree: no such node\n",
+    };
     Ok(Output {
-        body: Body::Text(text),
+        body: Body::Text(String::from_str(alloc, line)?),
         verdict: Verdict::Refused,
     })
 }

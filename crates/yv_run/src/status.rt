@@ -9,7 +9,7 @@ use yv_batch::{BatchEnd, Level};
 pub enum Status {
     /// Nothing is wrong with the modules and the document.
     Clean,
-    /// The modules were refused, the document has faults, or there is no such module.
+    /// The modules were refused, the document has faults, or there is no such module or node.
     Refused,
     /// The document is too large, or not JSON.
     BadInput,

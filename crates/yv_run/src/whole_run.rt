@@ -79,9 +79,10 @@ impl Holdings {
 pub struct RunEnd {
     pub status: Status,
     /// If the files were refused, the place and the cause; if a pattern isn't built, its place; if
-    /// there is no such module, its name and those that there are; if the document is not JSON, the
-    /// place and why; if it is too large, of what it has too many; if it has faults, sentences on
-    /// the first of them. None otherwise. An error if memory ran out when all was written.
+    /// there is no such module or node, its name and what there is instead; if the document is not
+    /// JSON, the place and why; if it is too large, of what it has too many; if it has faults,
+    /// sentences on the first of them. None otherwise. An error if memory ran out when all was
+    /// written.
     pub note: Result<Option<String>, AllocError>,
     pub holdings: Holdings,
 }
@@ -111,7 +112,7 @@ impl RunEnd {
 }
 
 /// Compiles the files of a job, and writes the outcome: the refusal's line, or how many nodes the
-/// schema has, or the tree diagram of one of its modules, or, where the job is to check a document,
+/// schema has, or tree diagrams of its modules, or, where the job is to check a document,
 /// what is wrong with what the reader gives, or that it is valid. A refusal and the number of nodes
 /// have the form that the job asks for; all else is text: `run_all` writes what is wrong with
 /// documents as JSON. After `WriteFault` the writer holds the front of what was to be written;
@@ -167,9 +168,10 @@ pub fn run<R: Read, W: Write>(
 }
 
 /// Does what `run` does, and adds a note that helps a person: why the files are refused, or which
-/// of their patterns isn't built, or that there is no such module to draw, or why the document is
-/// not JSON, or what is wrong with it. It is made when all is written, so that a note that takes
-/// long delays nothing, and want of memory for it changes neither what is written nor the status.
+/// of their patterns isn't built, or that there is no such module or node to draw, or why the
+/// document is not JSON, or what is wrong with it. It is made when all is written, so that a note
+/// that takes long delays nothing, and want of memory for it changes neither what is written nor
+/// the status.
 pub fn run_with_note<R: Read, W: Write>(
     alloc: Global,
     job: &Job,

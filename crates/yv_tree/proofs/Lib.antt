@@ -1,9 +1,16 @@
 pub mod Tops
+pub mod Ways
+pub mod ShownNodes
 pub mod ParentNodes
 pub mod FilterLoop
 pub mod ModulePlaces
 pub mod Parts
 pub mod Texts
 pub mod TextRemainder
+pub mod Blanks
 pub mod PendingLines
+pub mod Groups
+pub mod Spaces
 pub mod WholeDrawings
+pub mod EnoughLevels
+pub mod TypeColumns

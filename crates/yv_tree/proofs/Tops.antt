@@ -61,21 +61,21 @@ parent_before s c sound lt inner =
     omega arith
 
 -- an element at the front of a longer list
-in_front : {X : Type 0} (xs ys : List X) (k : ℕ) (d : X) → k < length xs → get_or (xs ++ ys) k d ≡ get_or xs k d
+pub in_front : {X : Type 0} (xs ys : List X) (k : ℕ) (d : X) → k < length xs → get_or (xs ++ ys) k d ≡ get_or xs k d
 in_front [] ys k d lt = absurd (omega arith)
 in_front (x ∷ xs) ys zero d lt = refl
 in_front (x ∷ xs) ys (suc k) d lt = in_front xs ys k d (omega arith)
 
 -- the element behind it
-right_behind : {X : Type 0} (xs : List X) (y d : X) → get_or (xs ++ y ∷ []) (length xs) d ≡ y
+pub right_behind : {X : Type 0} (xs : List X) (y d : X) → get_or (xs ++ y ∷ []) (length xs) d ≡ y
 right_behind [] y d = refl
 right_behind (x ∷ xs) y d = right_behind xs y d
 
 -- what a row adds
-abbrev pub added : List ℕ → Row → ℕ
-added done r = if is_root r.parent then r.label.module_file else get_or done r.parent.0 0
+abbrev pub added_group : List ℕ → Row → ℕ
+added_group done r = if is_root r.parent then r.label.module_file else get_or done r.parent.0 0
 
-length_more : {X : Type 0} (xs : List X) (y : X) → length (xs ++ y ∷ []) ≡ suc (length xs)
+pub length_more : {X : Type 0} (xs : List X) (y : X) → length (xs ++ y ∷ []) ≡ suc (length xs)
 length_more [] y = refl
 length_more (x ∷ xs) y = ap suc (length_more xs y)
 
@@ -83,8 +83,8 @@ length_more (x ∷ xs) y = ap suc (length_more xs y)
 kept : (done : List ℕ) (rs : List Row) (k : ℕ) → k < length done → get_or (module_files_from done rs) k 0 ≡ get_or done k 0
 kept done [] k lt = refl
 kept done (r ∷ rs) k lt =
-    let more : length (done ++ added done r ∷ []) ≡ suc (length done) = length_more done (added done r) in
-    kept (done ++ added done r ∷ []) rs k (omega arith) ∙ in_front done (added done r ∷ []) k 0 lt
+    let more : length (done ++ added_group done r ∷ []) ≡ suc (length done) = length_more done (added_group done r) in
+    kept (done ++ added_group done r ∷ []) rs k (omega arith) ∙ in_front done (added_group done r ∷ []) k 0 lt
 
 same_added : (b : Bool) (m u v : ℕ) → (b ≡ false → u ≡ v) → (if b then m else u) ≡ (if b then m else v)
 same_added true m u v h = refl
@@ -92,10 +92,10 @@ same_added false m u v h = h refl
 
 -- of a row here, where its parent stands before it
 at_row : (done : List ℕ) (rs : List Row) (k : ℕ) → k < length rs → (is_root (get_or rs k blank_row).parent ≡ false → (get_or rs k blank_row).parent.0 < length done + k)
-    → get_or (module_files_from done rs) (length done + k) 0 ≡ added (module_files_from done rs) (get_or rs k blank_row)
+    → get_or (module_files_from done rs) (length done + k) 0 ≡ added_group (module_files_from done rs) (get_or rs k blank_row)
 at_row done [] k lt before = absurd (omega arith)
 at_row done (r ∷ rs) zero lt before =
-    let x : ℕ = added done r in
+    let x : ℕ = added_group done r in
     let more : length (done ++ x ∷ []) ≡ suc (length done) = length_more done x in
     let here : length done + zero ≡ length done = omega arith in
     let own : get_or (module_files_from (done ++ x ∷ []) rs) (length done) 0 ≡ x =
@@ -105,7 +105,7 @@ at_row done (r ∷ rs) zero lt before =
     sym (kept (done ++ x ∷ []) rs r.parent.0 (omega arith) ∙ in_front done (x ∷ []) r.parent.0 0 (omega arith)) in
     ap (λ n. get_or (module_files_from (done ++ x ∷ []) rs) n 0) here ∙ own ∙ same_added (is_root r.parent) r.label.module_file _ _ up
 at_row done (r ∷ rs) (suc k) lt before =
-    let x : ℕ = added done r in
+    let x : ℕ = added_group done r in
     let more : length (done ++ x ∷ []) ≡ suc (length done) = length_more done x in
     let shifted : length done + suc k ≡ length (done ++ x ∷ []) + k = omega arith in
     let low : is_root (get_or rs k blank_row).parent ≡ false → (get_or rs k blank_row).parent.0 < length (done ++ x ∷ []) + k =
@@ -113,7 +113,7 @@ at_row done (r ∷ rs) (suc k) lt before =
     ap (λ n. get_or (module_files_from (done ++ x ∷ []) rs) n 0) shifted ∙ at_row (done ++ x ∷ []) rs k (omega arith) low
 
 -- what stands at a node
-at_node : (s : Rows) (c : NodeId) → IsSound s → c.0 < length s.nodes → first_module_file s c ≡ added (module_files_from [] s.nodes) (row_at s c)
+at_node : (s : Rows) (c : NodeId) → IsSound s → c.0 < length s.nodes → first_module_file s c ≡ added_group (module_files_from [] s.nodes) (row_at s c)
 at_node s c sound lt =
     let from_zero : c.0 ≡ 0 + c.0 = omega arith in
     let low : is_root (row_at s c).parent ≡ false → (row_at s c).parent.0 < 0 + c.0 =

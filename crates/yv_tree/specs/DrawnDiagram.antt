@@ -1,48 +1,64 @@
--- The tree diagram of a module with a drawing: how much of it is shown.
-use Rattle.std.specs.Prelude.{ℕ, ◌+◌, List, [], ◌∷◌, ◌++◌, Option, Some, None, max, Ok, Err, Result, if◌then◌else◌, codes}
+-- The tree diagram of a module with a drawing: how much of it is shown, and in what form.
+use Rattle.std.specs.Prelude.{ℕ, ◌+◌, List, [], ◌∷◌, ◌++◌, Bool, false, Option, None, map, max, if◌then◌else◌, codes}
 use Rattle.std.specs.List.{flat_map}
 use Rattle.yv_nodes.specs.declared.node.NodeId.{NodeId}
 use Rattle.yv_nodes.specs.Tree.{Forest, Tree, no_trees, node, tree}
-use Rattle.yv_nodes.specs.Rows.{Rows, Module, Note, forest, trees_from}
+use Rattle.yv_nodes.specs.Rows.{Rows, Note, forest, row_at, trees_from}
+use Rattle.yv_tree.specs.Columns.{Sheet, is_choice}
 use Rattle.yv_tree.specs.DrawnNodes.{drawn_nodes}
-use Rattle.yv_tree.specs.Diagram.{is_shown, module_in, text_of, tops}
-use Rattle.yv_tree.specs.declared.drawings.Drawing.{Drawing}
-use Rattle.yv_tree.specs.declared.drawings.Missing.{Missing}
-use Rattle.yv_tree.specs.declared.drawings.Missing.TheVariants as missing
+use Rattle.yv_tree.specs.Diagram.{is_shown, tops}
+use Rattle.yv_tree.specs.Part.{augment_part, part}
 use Rattle.yv_tree.specs.declared.sections.Part.TheVariants.{Data, Rpcs, Notifications}
+use Rattle.yv_tree_drawing.specs.Trees.{DrawingAsked}
 
--- after an empty line a title at two blanks, and nodes at four; nothing without nodes
-abbrev pub drawn_section : Rows → (own : ℕ) → (depth : Option ℕ) → (title : List ℕ)
-    → List NodeId → List (List ℕ)
-drawn_section s own depth title [] = []
-drawn_section s own depth title (c ∷ cs) =
-    [] ∷ (codes "  " ++ title ++ codes ":")
-    ∷ drawn_nodes s.modules own depth (codes "    ") (forest s (c ∷ cs))
+-- the sheet of the diagram of the module of this number
+abbrev pub sheet_of : Rows → (own : ℕ) → DrawingAsked → Sheet
+sheet_of s own d = record { modules = s.modules; own = own; columns = d.columns }
+
+-- a title at two blanks, and nodes at four; nothing without nodes
+abbrev pub drawn_section : Sheet → (in_choice : Bool) → (depth : Option ℕ) → (title : List ℕ)
+    → Forest → List (List ℕ)
+drawn_section sheet in_choice depth title no_trees = []
+drawn_section sheet in_choice depth title (tree t ts) =
+    (codes "  " ++ title ++ codes ":")
+    ∷ drawn_nodes sheet in_choice depth (codes "    ") (tree t ts)
 
 -- the section of an augment, where it is shown
-abbrev pub drawn_augment : Rows → (own : ℕ) → (depth : Option ℕ) → Note → List (List ℕ)
-drawn_augment s own depth a =
+abbrev pub drawn_augment : Rows → (own : ℕ) → DrawingAsked → Note → List (List ℕ)
+drawn_augment s own d a =
     if is_shown s own a
-    then drawn_section s own depth (codes "augment " ++ a.argument) a.nodes else []
+    then drawn_section (sheet_of s own d) (is_choice (row_at s a.target).label.defined.kind) d.depth
+    (codes "augment " ++ a.argument) (augment_part s d.below a)
+    else []
 
--- the lines of the diagram of a module of this name: the header, the data nodes, and the sections,
--- each with as many levels of nodes as are asked for
-abbrev pub drawn_lines : Rows → (name : List ℕ) → (own : ℕ) → (depth : Option ℕ) → List (List ℕ)
-drawn_lines s name own depth =
+-- sections of augments, with an empty line before each, and in columns only before the first
+abbrev pub spaced_sections : (columns : Bool) → List (List (List ℕ)) → List (List ℕ)
+spaced_sections columns [] = []
+spaced_sections columns ([] ∷ sections) = spaced_sections columns sections
+spaced_sections columns ((title ∷ lines) ∷ sections) =
+    [] ∷ title ∷ lines
+    ++ (if columns then flat_map (λ section. section) sections else spaced_sections columns sections)
+
+-- the nodes at the top of a part of the diagram
+abbrev pub drawn_tops : Rows → (own : ℕ) → DrawingAsked → List NodeId → Forest
+drawn_tops s own d cs = part None d.below (forest s cs)
+
+-- the section of nodes at the top, after an empty line
+abbrev pub tops_section : Rows → (own : ℕ) → DrawingAsked → (title : List ℕ) → List NodeId
+    → List (List ℕ)
+tops_section s own d title cs =
+    spaced_sections d.columns
+    (drawn_section (sheet_of s own d) false d.depth title (drawn_tops s own d cs) ∷ [])
+
+-- the lines of the diagram of a module of this name: the header, the data nodes, and the sections
+abbrev pub drawn_lines : Rows → (name : List ℕ) → (own : ℕ) → DrawingAsked → List (List ℕ)
+drawn_lines s name own d =
     (codes "module: " ++ name)
-    ∷ drawn_nodes s.modules own depth (codes "  ") (forest s (tops s own Data))
-    ++ flat_map (drawn_augment s own depth) s.augments
-    ++ drawn_section s own depth (codes "rpcs") (tops s own Rpcs)
-    ++ drawn_section s own depth (codes "notifications") (tops s own Notifications)
-
--- the diagram of a module that was found
-abbrev pub drawn_if : Rows → Drawing → Option Module → Result (List ℕ) Missing
-drawn_if s d None = Err missing.Module
-drawn_if s d (Some m) = Ok (text_of (drawn_lines s m.name m.module_file d.depth))
-
--- the diagram of the implemented module of this name, or what is missing
-abbrev pub drawn_of : Rows → (name : List ℕ) → Drawing → Result (List ℕ) Missing
-drawn_of s name d = drawn_if s d (module_in s.modules name)
+    ∷ drawn_nodes (sheet_of s own d) false d.depth (codes "  ")
+    (drawn_tops s own d (tops s own Data))
+    ++ spaced_sections d.columns (map (drawn_augment s own d) s.augments)
+    ++ tops_section s own d (codes "rpcs") (tops s own Rpcs)
+    ++ tops_section s own d (codes "notifications") (tops s own Notifications)
 
 -- how many levels there are
 abbrev mutual

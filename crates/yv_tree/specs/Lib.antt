@@ -1,8 +1,14 @@
 pub mod Lines
 pub mod Diagram
+pub mod Columns
+pub mod Part
 pub mod DrawnNodes
 pub mod DrawnDiagram
+pub mod DrawnModules
+pub mod LawWords
 pub mod InnerModules
 pub mod InnerMargin
 pub mod InnerTops
+pub mod InnerPart
+pub mod InnerSections
 pub mod InnerDraw

@@ -1,8 +1,8 @@
 //! Tree diagrams of YANG modules (RFC 8340).
 #![tactic(auto)]
 
+mod diagrams;
 mod draw;
-mod drawings;
 pub mod laws;
 mod line;
 mod margin;
@@ -11,6 +11,8 @@ mod paper;
 mod sections;
 mod text;
 mod tree_diagram;
+mod way;
 
-pub use drawings::{Drawing, Missing};
+pub use diagrams::{Missing, TreeDiagrams};
 pub use tree_diagram::{TreeDiagram, diagram};
+pub use way::is_step;

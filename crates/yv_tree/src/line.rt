@@ -1,21 +1,292 @@
 //! A node's line.
-ghost use Rattle.std.specs.Prelude.{◌≡◌, ◌++◌, Some, codes, map};
+ghost use Rattle.std.specs.Prelude.{◌≡◌, ◌≤◌, ◌+◌, ◌-◌, ◌^◌, ◌++◌, [], ◌∷◌, Some, codes, false, length, map, replicate, if◌then◌else◌};
 ghost use Rattle.yv_node_content.specs.Steps.{is_module_file};
 ghost use Rattle.yv_base_streams.specs.Pages.{Adds};
-ghost use Rattle.yv_tree.specs.Lines.{status_mark, access, flags, line_start, lead, full_name, shown_name, options, optional, list_options, key_name, between, behind, behind_each, written_prefix, shown_piece, shown_type, if_features, line};
+ghost use Rattle.yv_tree.specs.{Columns.{blanks_before, case_line, column_front, column_line, column_options, column_type, counts, indented_text, is_empty, label_width, sheet_line, shown_label}, InnerDraw.{is_list, sheet_with}, Lines.{status_mark, access, flags, line_start, lead, full_name, shown_name, options, optional, list_options, key_name, between, behind, behind_each, written_prefix, shown_piece, shown_type, if_features, line}};
 
 use crate::draw::Subject;
 use crate::paper::Paper;
 use yv_node_content::{NodeKind, NodeStatus, PathPiece, PathStep};
 use yv_nodes::Node;
 
-/// Puts the line of a node in a diagram, without its margin and its line feed.
-pub(crate) fn put_line<P: Paper>(
+/// Puts the line of a node in a group of this width, without its margin and its line feed.
+pub(crate) fn put_sheet_line<P: Paper>(
+    drawing: &Subject<'_>,
+    width: u128,
+    node: &Node,
+    paper: &mut P,
+    page: &mut P::Page,
+)
+    ensures { Adds
+        (sheet_line (sheet_with drawing.now.modules.now drawing.now.own drawing.now.columns) width
+        node.now.label)
+        (P.output page.old paper.old) (P.output page.new paper.new) }
+{
+    if drawing.columns {
+        put_column_line(drawing, width, node, paper, page);
+    } else {
+        put_line(drawing, node, paper, page);
+    }
+}
+
+/// Puts the line of the case that a choice leaves out, with what it holds, without its margin and
+/// its line feed.
+pub(crate) fn put_case_line<P: Paper>(
     drawing: &Subject<'_>,
     node: &Node,
     paper: &mut P,
     page: &mut P::Page,
 )
+    ensures { Adds
+        (case_line (sheet_with drawing.now.modules.now drawing.now.own drawing.now.columns)
+        node.now.label)
+        (P.output page.old paper.old) (P.output page.new paper.new) }
+{
+    let mark = mark_of(node.status());
+    paper.put(page, mark);
+    paper.put(page, "--:(");
+    put_full_name(drawing, node, paper, page);
+    paper.put(page, ")");
+}
+
+// The line of a node whose type begins in a column.
+fn put_column_line<P: Paper>(
+    drawing: &Subject<'_>,
+    width: u128,
+    node: &Node,
+    paper: &mut P,
+    page: &mut P::Page,
+)
+    ensures { Adds
+        (column_line (sheet_with drawing.now.modules.now drawing.now.own drawing.now.columns) width
+        node.now.label)
+        (P.output page.old paper.old) (P.output page.new paper.new) }
+{
+    put_front(drawing, node, paper, page);
+    put_column_options(node, paper, page);
+    put_column_type(drawing, width, node, paper, page);
+    put_if_features(node.features(), paper, page);
+}
+
+// The marks after the name: a list without keys has no brackets.
+fn put_column_options<P: Paper>(node: &Node, paper: &mut P, page: &mut P::Page)
+    ensures { Adds (column_options node.now.label.defined.kind node.now.label)
+        (P.output page.old paper.old) (P.output page.new paper.new) }
+{
+    match node.kind() {
+        NodeKind::List => put_keys_if_any(node.keys(), paper, page),
+        _ => put_options(node, paper, page),
+    }
+}
+
+fn put_keys_if_any<P: Paper>(keys: &[Option<PathStep>], paper: &mut P, page: &mut P::Page)
+    ensures { Adds (if is_empty keys.now then codes "*" else list_options keys.now)
+        (P.output page.old paper.old) (P.output page.new paper.new) }
+{
+    if keys.is_empty() {
+        paper.put(page, "*");
+    } else {
+        put_list_options(keys, paper, page);
+    }
+}
+
+// The type behind its blanks, where there is one.
+fn put_column_type<P: Paper>(
+    drawing: &Subject<'_>,
+    width: u128,
+    node: &Node,
+    paper: &mut P,
+    page: &mut P::Page,
+)
+    ensures { Adds
+        (indented_text
+        (blanks_before width
+        (sheet_with drawing.now.modules.now drawing.now.own drawing.now.columns) node.now.label)
+        (column_type node.now.label.defined.kind node.now.label))
+        (P.output page.old paper.old) (P.output page.new paper.new) }
+{
+    match node.kind() {
+        NodeKind::List => {}
+        NodeKind::Anydata => put_type_text(drawing, width, node, "anydata", paper, page),
+        NodeKind::Anyxml => put_type_text(drawing, width, node, "anyxml", paper, page),
+        _ => put_shown_type(drawing, width, node, paper, page),
+    }
+}
+
+// The type of a node that isn't a list behind its blanks: of a leafref an arrow and its path.
+fn put_shown_type<P: Paper>(
+    drawing: &Subject<'_>,
+    width: u128,
+    node: &Node,
+    paper: &mut P,
+    page: &mut P::Page,
+)
+    requires { is_list node.now.label.defined.kind ≡ false }
+    ensures { Adds
+        (indented_text
+        (blanks_before width
+        (sheet_with drawing.now.modules.now drawing.now.own drawing.now.columns) node.now.label)
+        (shown_type node.now.label.defined.path node.now.label))
+        (P.output page.old paper.old) (P.output page.new paper.new) }
+{
+    match node.path().split_first() {
+        Some((first, others)) => {
+            put_gap(width, shown_length(drawing, node), paper, page);
+            paper.put(page, "-> ");
+            put_path(node.module_file(), first, others, paper, page);
+        }
+        None => put_type_text(drawing, width, node, node.type_text(), paper, page),
+    }
+}
+
+// The text of a type of a node that isn't a list behind its blanks, or nothing where it is empty.
+fn put_type_text<P: Paper>(
+    drawing: &Subject<'_>,
+    width: u128,
+    node: &Node,
+    text: &str,
+    paper: &mut P,
+    page: &mut P::Page,
+)
+    requires { is_list node.now.label.defined.kind ≡ false }
+    ensures { Adds
+        (indented_text
+        (blanks_before width
+        (sheet_with drawing.now.modules.now drawing.now.own drawing.now.columns) node.now.label)
+        text.now)
+        (P.output page.old paper.old) (P.output page.new paper.new) }
+{
+    if !text.is_empty() {
+        put_gap(width, shown_length(drawing, node), paper, page);
+        paper.put(page, text);
+    }
+}
+
+// The blanks before a type in a group of this width, behind a name and marks of this length.
+fn put_gap<P: Paper>(width: u128, taken: u128, paper: &mut P, page: &mut P::Page)
+    ensures { Adds (replicate (4 + width - taken) 32)
+        (P.output page.old paper.old) (P.output page.new paper.new) }
+{
+    if taken <= width {
+        paper.put(page, "    ");
+        put_blanks(width - taken, paper, page);
+    } else {
+        put_blanks(less(4, taken - width), paper, page);
+    }
+}
+
+// So many blanks. A name may be very long, so they are put in pieces.
+fn put_blanks<P: Paper>(blanks: u128, paper: &mut P, page: &mut P::Page)
+    ensures { Adds (replicate blanks 32)
+        (P.output page.old paper.old) (P.output page.new paper.new) }
+{
+    let mut left = blanks;
+    while left > 0 {
+        let piece = blanks_within(left);
+        paper.put(page, piece);
+        left -= piece.len() as u128;
+    }
+}
+
+// Some of so many blanks.
+fn blanks_within(left: u128) -> &'static str
+    requires { 1 ≤ left }
+    ensures within { length result.now ≤ left }
+    ensures some { 1 ≤ length result.now }
+    ensures blanks { result.now ≡ replicate (length result.now) 32 }
+{
+    if left < 4 {
+        " "
+    } else if left < 16 {
+        "    "
+    } else if left < 64 {
+        "                "
+    } else {
+        "                                                                "
+    }
+}
+
+// The difference, or 0 where there is none.
+fn less(from: u128, amount: u128) -> u128
+    ensures { result ≡ from - amount }
+{
+    if amount < from { from - amount } else { 0 }
+}
+
+/// What a node with a line adds to the width of its group: the length of its name as it is shown,
+/// but nothing at a case, and at a list that has keys.
+pub(crate) fn label_width(drawing: &Subject<'_>, node: &Node) -> u128
+    ensures { result
+        ≡ label_width (sheet_with drawing.now.modules.now drawing.now.own drawing.now.columns)
+        node.now.label }
+{
+    if counts(node) {
+        name_length(drawing, node)
+    } else {
+        0
+    }
+}
+
+// Whether the name of a node counts in the width of its group.
+fn counts(node: &Node) -> bool
+    ensures { result ≡ counts node.now.label.defined.kind node.now.label }
+{
+    match node.kind() {
+        NodeKind::Case => false,
+        NodeKind::List => node.keys().is_empty(),
+        _ => true,
+    }
+}
+
+// The length of the name and the marks of a node that isn't a list.
+fn shown_length(drawing: &Subject<'_>, node: &Node) -> u128
+    requires { is_list node.now.label.defined.kind ≡ false }
+    ensures { result
+        ≡ length (shown_label
+        (sheet_with drawing.now.modules.now drawing.now.own drawing.now.columns) node.now.label
+        ++ column_options node.now.label.defined.kind node.now.label) }
+{
+    name_length(drawing, node) + options_of(node).len() as u128
+}
+
+// The length of the name of a node as a line shows it.
+fn name_length(drawing: &Subject<'_>, node: &Node) -> u128
+    ensures value { result
+        ≡ length (shown_label
+        (sheet_with drawing.now.modules.now drawing.now.own drawing.now.columns) node.now.label) }
+    ensures fits { result ≤ 2 ^ 66 }
+{
+    let full = full_length(drawing, node);
+    match node.kind() {
+        NodeKind::Choice | NodeKind::Case => full + 2,
+        _ => full,
+    }
+}
+
+// The length of the name of a node with its module.
+fn full_length(drawing: &Subject<'_>, node: &Node) -> u128
+    ensures value { result
+        ≡ length (full_name drawing.now.modules.now drawing.now.own node.now.label) }
+    ensures fits { result ≤ 2 ^ 65 + 1 }
+{
+    lead_length(drawing, node.module_file()) + node.name().len() as u128
+}
+
+// The length of the prefix of a node's module and a colon, where that isn't the module of the
+// diagram.
+fn lead_length(drawing: &Subject<'_>, module_file: u32) -> u128
+    ensures value { result ≡ length (lead drawing.now.modules.now drawing.now.own module_file) }
+    ensures fits { result ≤ 2 ^ 64 }
+{
+    if module_file == drawing.own {
+        0
+    } else {
+        drawing.modules.prefix(module_file).len() as u128 + 1
+    }
+}
+
+// The line of a node whose type stands one blank behind its name.
+fn put_line<P: Paper>(drawing: &Subject<'_>, node: &Node, paper: &mut P, page: &mut P::Page)
     ensures { Adds (line drawing.now.modules.now drawing.now.own node.now.label)
         (P.output page.old paper.old) (P.output page.new paper.new) }
 {
@@ -139,14 +410,31 @@ fn put_options<P: Paper>(node: &Node, paper: &mut P, page: &mut P::Page)
         (P.output page.old paper.old) (P.output page.new paper.new) }
 {
     match node.kind() {
-        NodeKind::Container => paper.put(page, if node.presence() { "!" } else { "" }),
-        NodeKind::Leaf | NodeKind::Choice | NodeKind::Anydata | NodeKind::Anyxml => {
-            paper.put(page, optional_of(node));
-        }
-        NodeKind::LeafList => paper.put(page, "*"),
         NodeKind::List => put_list_options(node.keys(), paper, page),
-        _ => {}
+        _ => paper.put(page, options_of(node)),
     }
+}
+
+// The marks after the name of a node that isn't a list.
+fn options_of(node: &Node) -> &'static str
+    requires { is_list node.now.label.defined.kind ≡ false }
+    ensures value { result.now ≡ options node.now.label.defined.kind node.now.label }
+    ensures short { length result.now ≤ 1 }
+{
+    match node.kind() {
+        NodeKind::Container => presence_of(node),
+        NodeKind::Leaf | NodeKind::Choice | NodeKind::Anydata | NodeKind::Anyxml => {
+            optional_of(node)
+        }
+        NodeKind::LeafList => "*",
+        _ => "",
+    }
+}
+
+fn presence_of(node: &Node) -> &'static str
+    ensures { result.now ≡ (if node.now.label.defined.has_presence then codes "!" else []) }
+{
+    if node.presence() { "!" } else { "" }
 }
 
 fn optional_of(node: &Node) -> &'static str
@@ -223,11 +511,25 @@ fn put_type<P: Paper>(node: &Node, paper: &mut P, page: &mut P::Page)
     match node.path().split_first() {
         Some((first, others)) => {
             paper.put(page, " -> ");
-            put_piece(node.module_file(), first, paper, page);
-            put_pieces(node.module_file(), others, paper, page);
+            put_path(node.module_file(), first, others, paper, page);
         }
         None => put_field(node.type_text(), paper, page),
     }
+}
+
+// The path of a leafref of the module of this number: its first piece, and the others.
+fn put_path<P: Paper>(
+    module_file: u32,
+    first: &PathPiece,
+    others: &[PathPiece],
+    paper: &mut P,
+    page: &mut P::Page,
+)
+    ensures { Adds (between (codes "/") (map (shown_piece module_file) (first.now ∷ others.now)))
+        (P.output page.old paper.old) (P.output page.new paper.new) }
+{
+    put_piece(module_file, first, paper, page);
+    put_pieces(module_file, others, paper, page);
 }
 
 // Pieces of the path of a leafref of the module of this number, each after a slash.

@@ -1,11 +1,9 @@
 //! The diagram of a module, which is drawn in memory or written to a stream.
-ghost use Rattle.std.specs.{Prelude.{◌≡◌, ◌++◌, ◌∷◌, [], ◌↔◌, ℕ, true, false, Some, IfOk, codes, option_map, string_bytes, take}, Io.KnownBytes.{Appends}};
+ghost use Rattle.std.specs.{Prelude.{◌≡◌, ◌++◌, ◌↔◌, ℕ, true, false, IfOk, codes, option_map, string_bytes, take}, Io.KnownBytes.{Appends}};
 ghost use Rattle.yv_base_streams.specs.{Stream.{has_failed, stream_inner, FailsOnceAtMost}, Pages.{Adds}};
-ghost use Rattle.yv_tree.specs.{Diagram.{diagram_of, module_in, text_of}, DrawnDiagram.{drawn_lines, drawn_of}};
+ghost use Rattle.yv_tree.specs.{Diagram.{diagram_of, module_in, text_of}, DrawnDiagram.{drawn_lines}, InnerDraw.{drawing_with}};
 
 use crate::draw::Subject;
-use crate::drawings::{Drawing, Missing};
-use crate::margin::Margin;
 use crate::modules::Modules;
 use crate::paper::Paper;
 use crate::sections::Part;
@@ -16,6 +14,7 @@ use std::marker::Model;
 use yv_base_streams::{Counted, Page};
 use yv_nodes::NodeId;
 use yv_schema_tables::{Module, Schema};
+use yv_tree_drawing::WayStep;
 
 /// The tree diagram of a module (RFC 8340), before it is drawn: all that wants memory is at hand.
 /// Contracts see its text.
@@ -24,6 +23,8 @@ pub struct TreeDiagram<'a> {
     schema: &'a Schema,
     shown: &'a Module,
     depth: Option<u32>,
+    below: &'a [WayStep],
+    columns: bool,
     modules: Modules<'a>,
     data_nodes: Vec<NodeId>,
     rpcs: Vec<NodeId>,
@@ -32,11 +33,12 @@ pub struct TreeDiagram<'a> {
 
 impl<'a> Model for TreeDiagram<'a> {
     ghost use Rattle.std.specs.Prelude.{◌≡◌, ℕ, List};
-    ghost use Rattle.yv_tree.specs.{Diagram.{text_of}, DrawnDiagram.{drawn_lines}, InnerTops.{AreReady}};
+    ghost use Rattle.yv_tree.specs.{Diagram.{text_of}, DrawnDiagram.{drawn_lines}, InnerDraw.{drawing_with}, InnerTops.{AreReady}};
 
     ghost Value = { List ℕ };
 
-    ghost view = { λ d. text_of (drawn_lines d.schema.now d.shown.now.name d.shown.now.module_file d.depth) };
+    ghost view = { λ d. text_of (drawn_lines d.schema.now d.shown.now.name d.shown.now.module_file
+        (drawing_with d.depth d.below.now d.columns)) };
 
     ghost invariant = { λ d.
         AreReady d.schema.now d.shown.now.module_file d.modules
@@ -54,8 +56,8 @@ pub fn diagram(alloc: Global, schema: &Schema, name: &str) -> Result<Option<Stri
     }
 }
 
-// The first of these modules that has this name.
-fn module_named<'a>(modules: &'a [Module], name: &str) -> Option<&'a Module>
+/// The first of these modules that has this name.
+pub(crate) fn module_named<'a>(modules: &'a [Module], name: &str) -> Option<&'a Module>
     ensures { option_map (λ found. found.now) result ≡ module_in modules.now name.now }
 {
     for known in modules {
@@ -76,36 +78,24 @@ impl<'a> TreeDiagram<'a> {
         ensures { IfOk result (λ found. found ≡ diagram_of schema.now name.now) }
     {
         match module_named(schema.modules(), name) {
-            Some(shown) => Ok(Some(TreeDiagram::ready(alloc, schema, shown, None)?)),
+            Some(shown) => Ok(Some(TreeDiagram::ready(alloc, schema, shown, None, &[], false)?)),
             None => Ok(None),
         }
     }
 
-    /// The diagram of a module with a drawing, or what is missing of what was asked for.
-    pub fn with_drawing(
-        alloc: Global,
-        schema: &'a Schema,
-        name: &str,
-        drawing: &Drawing,
-    ) -> Result<Result<TreeDiagram<'a>, Missing>, AllocError>
-        // The lines that the definition of a diagram with a drawing gives, or what is missing.
-        ensures { IfOk result (λ found. found ≡ drawn_of schema.now name.now drawing.now) }
-    {
-        match module_named(schema.modules(), name) {
-            Some(shown) => Ok(Ok(TreeDiagram::ready(alloc, schema, shown, drawing.depth)?)),
-            None => Ok(Err(Missing::Module)),
-        }
-    }
-
-    // The diagram of this module, with so many levels of nodes.
-    fn ready(
+    /// The diagram of this module, with so many levels of nodes, of what this way shows, in columns
+    /// or not.
+    pub(crate) fn ready(
         alloc: Global,
         schema: &'a Schema,
         shown: &'a Module,
         depth: Option<u32>,
+        below: &'a [WayStep],
+        columns: bool,
     ) -> Result<TreeDiagram<'a>, AllocError>
         ensures { IfOk result (λ found. found
-            ≡ text_of (drawn_lines schema.now shown.now.name shown.now.module_file depth)) }
+            ≡ text_of (drawn_lines schema.now shown.now.name shown.now.module_file
+            (drawing_with depth below.now columns))) }
     {
         let modules = Modules::of(alloc, schema.modules())?;
         let drawing = Subject {
@@ -113,6 +103,8 @@ impl<'a> TreeDiagram<'a> {
             modules: &modules,
             own: shown.module_file,
             depth,
+            below,
+            columns,
         };
         let data_nodes = drawing.tops(alloc, Part::Data)?;
         let rpcs = drawing.tops(alloc, Part::Rpcs)?;
@@ -121,6 +113,8 @@ impl<'a> TreeDiagram<'a> {
             schema,
             shown,
             depth,
+            below,
+            columns,
             modules,
             data_nodes,
             rpcs,
@@ -160,8 +154,8 @@ impl<'a> TreeDiagram<'a> {
         text.whole()
     }
 
-    // Draws the diagram.
-    fn draw<P: Paper>(&self, paper: &mut P, page: &mut P::Page)
+    /// Draws the diagram.
+    pub(crate) fn draw<P: Paper>(&self, paper: &mut P, page: &mut P::Page)
         ensures { Adds self.now (P.output page.old paper.old) (P.output page.new paper.new) }
     {
         let shown = self.shown;
@@ -170,17 +164,11 @@ impl<'a> TreeDiagram<'a> {
             modules: &self.modules,
             own: shown.module_file,
             depth: self.depth,
+            below: self.below,
+            columns: self.columns,
         };
-        let data_nodes = self.data_nodes.as_slice();
         put_header(shown.name.as_str(), paper, page);
-        drawing.nodes(
-            Schema::ROOT,
-            data_nodes,
-            self.depth,
-            &Margin::Top,
-            paper,
-            page,
-        );
+        drawing.top_nodes(self.data_nodes.as_slice(), paper, page);
         drawing.augments(paper, page);
         drawing.tops_section("rpcs", self.rpcs.as_slice(), paper, page);
         let notifications = self.notifications.as_slice();

@@ -1,11 +1,14 @@
-use Rattle.std.proofs.Common.{rules, ◌∙◌, sym, ap, Some}
+use Rattle.std.proofs.Common.{string_bytes, IfErr, subst, List, ℕ}
 use Rattle.clap.specs.Words.{rows_of, found_of}
-use Rattle.yv_job.proofs.AppFacts.{no_module}
+use Rattle.yv_job.specs.Faults.{IsReason}
 use Rattle.yv_job.proofs.matches.action_of.Goals as goal
 
-pub returns-in_ok-name-in-Some : goal.returns-in_ok-name-in-Some
-returns-in_ok-name-in-Some c =
-    (search rules, sym c.in-Some.ensures ∙ ap (λ t. Some t) (sym c.in_ok-name-in-Some.ensures.ok))
+pub returns-in-Err-clause-reason : goal.returns-in-Err-clause-reason
+returns-in-Err-clause-reason c =
+    let said = subst (λ r. IfErr r (λ line. (name : List ℕ) → IsReason name (rows_of (found_of c.args.below.now)) (string_bytes line))) c.in-Err.is c.in_ok-rules.ensures.reason in
+    said c.args.name.now
 
-pub returns-in-None : goal.returns-in-None
-returns-in-None c = no_module c.args.name.now (rows_of (found_of c.args.below.now)) c.args.each c.args.form (search rules) c.in-None.ensures
+pub returns-in-Err-2-clause-reason : goal.returns-in-Err-2-clause-reason
+returns-in-Err-2-clause-reason c =
+    let said = subst (λ r. IfErr r (λ line. (name : List ℕ) → IsReason name (rows_of (found_of c.args.below.now)) (string_bytes line))) c.in-Err-2.is c.in_ok-tree.ensures.reason in
+    said c.args.name.now

@@ -1,5 +1,3 @@
-use Rattle.std.proofs.Common.{refl}
-use Rattle.yv_base_streams.specs.Stream.{has_failed, stream_inner}
 use Rattle.yv_run.proofs.BatchLemmas.{answers_as, fails_as, goes_on, over_of_all}
 use Rattle.yv_run.proofs.batch_run.answer_documents.Goals as goal
 

@@ -1,7 +1,6 @@
-use Rattle.std.proofs.Common.{inl, inr, map, rules}
+use Rattle.std.proofs.Common.{inr, map, rules}
 use Rattle.yv_job.specs.Jobs.{task_of}
 use Rattle.yv_base_streams.specs.Files.{file_of}
-use Rattle.yv_base_streams.specs.Stream.{stream_inner}
 use Rattle.yv_run.proofs.BatchLemmas.{over_found}
 use Rattle.yv_run.proofs.batch_run.run_all.Goals as goal
 

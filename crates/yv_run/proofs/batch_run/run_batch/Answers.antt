@@ -1,4 +1,4 @@
-use Rattle.std.proofs.Common.{ap, map}
+use Rattle.std.proofs.Common.{ap}
 use Rattle.std.proofs.lemmas.Result.{IfOk-weaker}
 use Rattle.yv_text_statement.specs.declared.refusal.Stop.{Stop}
 use Rattle.yv_nodes.specs.Rows.{Rows}

@@ -1,4 +1,4 @@
-use Rattle.yv_tree.proofs.WholeDrawings.{enough_lines}
+use Rattle.yv_tree.proofs.EnoughLevels.{enough_lines}
 use Rattle.yv_tree.proofs.laws.enough_levels_show_all.Goals as goal
 
 pub returns : goal.returns

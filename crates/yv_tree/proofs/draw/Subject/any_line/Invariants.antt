@@ -1,5 +1,6 @@
 use Rattle.std.proofs.Common.{◌≡◌, drop}
 use Rattle.yv_nodes.specs.Rows.{forest}
+use Rattle.yv_tree.specs.InnerPart.{trimmed_trees}
 use Rattle.yv_tree.specs.Lines.{any_line}
 use Rattle.yv_tree.proofs.draw.Subject.any_line.Given as goal
 
@@ -7,4 +8,4 @@ use Rattle.yv_tree.proofs.draw.Subject.any_line.Given as goal
 abbrev pub invariant-loop-id : goal.invariant-loop-id
 invariant-loop-id l =
     let s = l.self.schema.now in
-    any_line (forest s (drop l.id-index l.ids)) ≡ any_line (forest s l.ids)
+    any_line (trimmed_trees l.group.way.now (forest s (drop l.id-index l.group.ids.now))) ≡ any_line (trimmed_trees l.group.way.now (forest s l.group.ids.now))

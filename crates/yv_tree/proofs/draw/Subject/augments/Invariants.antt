@@ -1,12 +1,15 @@
-use Rattle.std.proofs.Common.{take}
-use Rattle.std.specs.List.{flat_map}
-use Rattle.yv_base_streams.specs.Pages.{Adds}
+use Rattle.std.proofs.Common.{drop, map, true}
 use Rattle.yv_tree.specs.Diagram.{text_of}
 use Rattle.yv_tree.specs.DrawnDiagram.{drawn_augment}
+use Rattle.yv_tree.specs.InnerDraw.{Leaves, drawing_with}
+use Rattle.yv_tree.specs.InnerSections.{spaced_from}
 use Rattle.yv_tree.proofs.draw.Subject.augments.Given as goal
 
--- the sections of the first augments were put
+-- the sections of the augments behind are left of all
 abbrev pub invariant-loop-augment : goal.invariant-loop-augment
 invariant-loop-augment g l =
-    Adds (text_of (flat_map (drawn_augment l.self.schema.now l.self.own l.self.depth) (take l.augment-index l.augment-items)))
+    let s = l.self.schema.now in
+    let section = drawn_augment s l.self.own (drawing_with l.self.depth l.self.below.now l.self.columns) in
+    Leaves (text_of (spaced_from l.self.columns true (map section l.augment-items)))
+    (text_of (spaced_from l.self.columns l.is_due (map section (drop l.augment-index l.augment-items))))
     (g.P.Paper.output l.initial.page l.initial.paper) (g.P.Paper.output l.page l.paper)
