@@ -52,17 +52,17 @@ _yangcheck_value() {
     --module) _yangcheck_words "$(_yangcheck_module_names)" "$word" ;;
     --support) _yangcheck_words "$(_yangcheck_module_names | sed 's/$/:/')" "$word" ;;
     --import-only) _yangcheck_list "$(_yangcheck_module_names)" "$word" ;;
-    --max-nodes | --explain) ;;
+    --max-nodes | --explain | --depth | --below) ;;
     *) return 1 ;;
   esac
   return 0
 }
 
-# Offers the options of a command that the command line does not have yet, and those that may be repeated: `--path` and `--data`.
+# Offers the options of a command that the command line does not have yet, and those that may be repeated: `--path`, `--data`, `--module`.
 _yangcheck_options() {
   local command=$1 word=$2 option left=(--path)
   local options=(--max-nodes --support --import-only --help)
-  [ "$command" = tree ] && options+=(--module)
+  [ "$command" = tree ] && options+=(--depth --below --columns) && left+=(--module)
   [ "$command" = validate ] && options+=(--each --kind --explain) && left+=(--data)
   [ "$command" = lint ] && options+=(--rules --format)
   [[ $command == compile || $command == validate ]] && options+=(--format --measures)
