@@ -97,18 +97,20 @@ fn push_missing_child(
     Ok(())
 }
 
-// The child of a node that has the name most like this one.
+// The child of a node that has the name most like this one, of those that are drawn.
 fn near_child<'s>(schema: &'s Schema, above: Option<NodeId>, name: &str) -> Option<&'s Node>
     requires { IfSome above (λ id. id.0 < length schema.now.nodes) }
 {
     let mut nearest = None;
     for id in children(schema, above) {
-        nearest = nearer(name, nearest, schema.node(*id).name());
+        if is_drawn(schema, *id) {
+            nearest = nearer(name, nearest, schema.node(*id).name());
+        }
     }
     let (near, _) = nearest?;
     for id in children(schema, above) {
         let node = schema.node(*id);
-        if node.name() == near {
+        if node.name() == near && is_drawn(schema, *id) {
             return Some(node);
         }
     }
