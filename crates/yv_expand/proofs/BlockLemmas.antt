@@ -20,7 +20,7 @@ use Rattle.yv_link_scopes.specs.Blocks.{StandsIn}
 use Rattle.yv_link_scopes.specs.Files.{Briefs, Files, brief_of, module_file_at}
 use Rattle.yv_link_scopes.specs.RowList.{rows_of, statements_of}
 use Rattle.yv_link_scopes.specs.Rows.{Row}
-use Rattle.yv_expand.specs.Units.{nodes, operations}
+use Rattle.yv_expand_statements.specs.Units.{nodes, operations}
 use Rattle.yv_expand.specs.Conformance.{Conform, gives_nodes, is_lowest, lowest}
 use Rattle.yv_expand.proofs.Words.{among_all, and_first, and_second}
 use Rattle.yv_expand.proofs.StatementFit.{statement_fits}

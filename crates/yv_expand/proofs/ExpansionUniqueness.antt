@@ -6,9 +6,9 @@ use Rattle.std.proofs.lemmas.Option.{slice_get_cases}
 use Rattle.yv_link_scopes.specs.Files.{Files, Briefs, brief_of}
 use Rattle.yv_link_scopes.specs.Rows.{Row}
 use Rattle.yv_link_scopes.specs.RowList.{rows_of}
-use Rattle.yv_expand.specs.Limit.{Fits}
-use Rattle.yv_expand.specs.StatementBlocks.{given_at, given_before, block_of, augments_of}
-use Rattle.yv_expand.specs.Weigh.{Weigh}
+use Rattle.yv_expand_statements.specs.Limit.{Fits}
+use Rattle.yv_expand_statements.specs.StatementBlocks.{given_at, given_before, block_of, augments_of}
+use Rattle.yv_expand_statements.specs.Weigh.{Weigh}
 use Rattle.yv_expand.specs.Tree.{Tree, Item, none, all_of, count, join, item_list}
 use Rattle.yv_expand.specs.Expansion.{AreAdded, AreTrees, IsWhole}
 use Rattle.yv_expand.specs.Expands.{Expands, blocks_of}

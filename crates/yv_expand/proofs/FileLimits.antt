@@ -14,10 +14,10 @@ use Rattle.yv_text_statement.proofs.Least.{least_more, least_refused, least_same
 use Rattle.yv_link_scopes.specs.Files.{Brief, Briefs, Files, brief_of, module_file_at}
 use Rattle.yv_link_scopes.specs.Rows.{Row}
 use Rattle.yv_link_scopes.specs.RowList.{rows_of}
-use Rattle.yv_expand.specs.Units.{saturate}
-use Rattle.yv_expand.specs.Weigh.{Weigh, nothing, other, node, uses}
-use Rattle.yv_expand.specs.StatementBlocks.{stands_in, given_at, given_before}
-use Rattle.yv_expand.specs.Limit.{Fits, Passes}
+use Rattle.yv_expand_statements.specs.Units.{saturate}
+use Rattle.yv_expand_statements.specs.Weigh.{Weigh, nothing, other, node, uses}
+use Rattle.yv_expand_statements.specs.StatementBlocks.{stands_in, given_at, given_before}
+use Rattle.yv_expand_statements.specs.Limit.{Fits, Passes}
 use Rattle.yv_expand.specs.InnerLists.{Lists, ArePlaced, is_place, sum_at, top_place, top_sum}
 use Rattle.yv_expand.specs.InnerSteps.{AreSettled}
 use Rattle.yv_expand.proofs.SettledValues.{list_sum, top_split}

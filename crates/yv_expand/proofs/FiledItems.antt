@@ -7,7 +7,7 @@ use Rattle.std.proofs.lemmas.List.Elements.{All-head, All-tail}
 use Rattle.std.proofs.lemmas.Option.{slice_get_cases, slice_get_within}
 use Rattle.yv_link_scopes.specs.Files.{Briefs, module_file_at}
 use Rattle.yv_link_scopes.specs.Rows.{Row}
-use Rattle.yv_expand.specs.StatementBlocks.{block_of, top_of, stands_in, numbers_from, given_at, given_before, is_node_or_uses, is_augment, is_at, those}
+use Rattle.yv_expand_statements.specs.StatementBlocks.{block_of, top_of, stands_in, numbers_from, given_at, given_before, is_node_or_uses, is_augment, is_at, those}
 use Rattle.yv_expand.specs.Expands.{blocks_of}
 use Rattle.yv_expand.specs.InnerItems.{Lists, ArePlaced, is_place, block_place, top_place, placed_from, numbers_at, numbers_in, top_at, tops_before}
 use Rattle.yv_expand.proofs.GivenItems.{passing}

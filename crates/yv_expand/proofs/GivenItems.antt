@@ -6,9 +6,9 @@ use Rattle.std.proofs.lemmas.Option.{same_Some, slice_get_cases}
 use Rattle.yv_link_scopes.specs.Files.{Briefs}
 use Rattle.yv_link_scopes.specs.Rows.{Row}
 use Rattle.yv_link_definitions.specs.Refers.{RefersTo}
-use Rattle.yv_expand.specs.StatementBlocks.{block_of, given_at, given_before, is_node_or_uses, is_operation, is_input, is_output, is_at, those, first_of, part, part_block, input_of, output_of}
-use Rattle.yv_expand.specs.declared.origin.Origin.{Origin}
-use Rattle.yv_expand.specs.declared.origin.Origin.TheVariants.{Statement, Input, Output}
+use Rattle.yv_expand_statements.specs.StatementBlocks.{block_of, given_at, given_before, is_node_or_uses, is_operation, is_input, is_output, is_at, those, first_of, part, part_block, input_of, output_of}
+use Rattle.yv_expand_statements.specs.declared.origin.Origin.{Origin}
+use Rattle.yv_expand_statements.specs.declared.origin.Origin.TheVariants.{Statement, Input, Output}
 use Rattle.yv_expand.specs.Tree.{Tree, none, item, join, all_of}
 use Rattle.yv_expand.specs.Expands.{Expands, nothing, other, node, operation, uses}
 use Rattle.yv_expand.specs.InnerItems.{Give, no_more, one_more, StandBelow, below_node, below_operation, below_uses, below_input, below_output, items_among, origins}

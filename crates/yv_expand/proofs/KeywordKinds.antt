@@ -8,8 +8,8 @@ use Rattle.yv_text_statement.specs.declared.keyword.Keyword.TheVariants as word
 use Rattle.yv_text_statement.specs.Keywords.{keyword_in, keyword_of, names}
 use Rattle.yv_text_statement.specs.Words.{is_among}
 use Rattle.yv_link_scopes.specs.Rows.{Row}
-use Rattle.yv_expand.specs.Units.{units_of, nodes, operations, keywords_passed}
-use Rattle.yv_expand.specs.StatementBlocks.{is_node_or_uses, is_operation}
+use Rattle.yv_expand_statements.specs.Units.{units_of, nodes, operations, keywords_passed}
+use Rattle.yv_expand_statements.specs.StatementBlocks.{is_node_or_uses, is_operation}
 use Rattle.yv_expand.specs.InnerKeywords.{is_item_keyword, is_node_keyword, is_operation_keyword, is_passed_keyword, units_by}
 use Rattle.yv_expand.proofs.Words.{among_all, and_first, and_second, false_true}
 

@@ -6,11 +6,11 @@ use Rattle.std.specs.Option.{option_map, unwrap_or}
 use Rattle.std.proofs.lemmas.Option.{same_Some}
 use Rattle.yv_link_scopes.specs.Files.{Briefs}
 use Rattle.yv_link_scopes.specs.Rows.{Row}
-use Rattle.yv_expand.specs.Weigh as weigh
-use Rattle.yv_expand.specs.Weigh.{Weigh}
-use Rattle.yv_expand.specs.StatementBlocks.{block_of, is_node_or_uses, is_operation, is_input, is_output, is_augment, is_at, those, first_of, part, part_block, input_of, output_of}
-use Rattle.yv_expand.specs.declared.origin.Origin.{Origin}
-use Rattle.yv_expand.specs.declared.origin.Origin.TheVariants.{Statement, Input, Output}
+use Rattle.yv_expand_statements.specs.Weigh as weigh
+use Rattle.yv_expand_statements.specs.Weigh.{Weigh}
+use Rattle.yv_expand_statements.specs.StatementBlocks.{block_of, is_node_or_uses, is_operation, is_input, is_output, is_augment, is_at, those, first_of, part, part_block, input_of, output_of}
+use Rattle.yv_expand_statements.specs.declared.origin.Origin.{Origin}
+use Rattle.yv_expand_statements.specs.declared.origin.Origin.TheVariants.{Statement, Input, Output}
 use Rattle.yv_expand.specs.Tree.{Tree, none, item, count, join}
 use Rattle.yv_expand.specs.Expands.{Expands, nothing, other, node, operation, uses, blocks_of}
 use Rattle.yv_expand.proofs.Words.{no_units_no_item, no_units_no_input, no_units_no_output, no_units_no_augment, item_no_input, item_no_output, item_no_augment, input_no_output, input_no_augment, output_no_augment, input_no_item, output_no_item, augment_no_item, item_units, operation_units, operation_item, uses_item, counts_uses, named_no_operation}

@@ -2,7 +2,7 @@
 use Rattle.std.proofs.Common.{◌≡◌, ℕ, ◌+◌, List, [], ◌∷◌, ◌++◌, refl, subst, arith, append_assoc, Option, Some, None}
 use Rattle.yv_link_scopes.specs.Files.{Briefs}
 use Rattle.yv_link_scopes.specs.Rows.{Row}
-use Rattle.yv_expand.specs.declared.origin.Origin.{Origin}
+use Rattle.yv_expand_statements.specs.declared.origin.Origin.{Origin}
 use Rattle.yv_expand.specs.Tree.{Tree, Item, count, item_list}
 use Rattle.yv_expand.specs.InnerItems.{Give, no_more, one_more, StandBelow, item_at, items_below}
 

@@ -18,9 +18,9 @@ use Rattle.yv_link_scopes.specs.declared.kind.NameKind.TheVariants.{Grouping}
 use Rattle.yv_base_graph.specs.Graph.{IsOrder, HasEdge, by_edge}
 use Rattle.yv_link_definitions.specs.Duplicates.{is_of}
 use Rattle.yv_link_definitions.specs.Refers.{RefersTo, names_definition}
-use Rattle.yv_expand.specs.Units.{units_of, saturate}
-use Rattle.yv_expand.specs.Weigh.{Weigh, nothing, other, node, uses}
-use Rattle.yv_expand.specs.StatementBlocks.{block_of, numbers_from, stands_in}
+use Rattle.yv_expand_statements.specs.Units.{units_of, saturate}
+use Rattle.yv_expand_statements.specs.Weigh.{Weigh, nothing, other, node, uses}
+use Rattle.yv_expand_statements.specs.StatementBlocks.{block_of, numbers_from, stands_in}
 use Rattle.yv_expand.specs.InnerLists.{Lists, counts, is_place, part_place, top_place, placed_from, sum_at}
 use Rattle.yv_expand.specs.InnerSteps.{AreSteps, AreSettled, IsSettled, IsUsed, Takes, WorthBy, list_of}
 use Rattle.yv_expand.proofs.UnitListing.{numbers_have}

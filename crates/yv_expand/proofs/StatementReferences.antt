@@ -11,7 +11,7 @@ use Rattle.yv_link_scopes.specs.declared.kind.NameKind.{NameKind}
 use Rattle.yv_link_scopes.specs.declared.kind.NameKind.TheVariants.{Prefix, Include, Typedef, Grouping, Feature, Identity, Extension}
 use Rattle.yv_link_definitions.specs.BuiltIn.{is_built_in}
 use Rattle.yv_link_definitions.specs.Refers.{RefersTo, is_type, is_uses, names_definition}
-use Rattle.yv_expand.specs.StatementBlocks.{is_operation}
+use Rattle.yv_expand_statements.specs.StatementBlocks.{is_operation}
 use Rattle.yv_expand.proofs.Words.{word_is, false_true, named_no_operation}
 
 abbrev pub MeansOne : Type 0

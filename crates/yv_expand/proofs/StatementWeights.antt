@@ -5,8 +5,8 @@ use Rattle.std.proofs.lemmas.List.{get_or_append_left, get_or_push}
 use Rattle.std.specs.List.{slice_get}
 use Rattle.yv_link_scopes.specs.Files.{Briefs}
 use Rattle.yv_link_scopes.specs.Rows.{Row}
-use Rattle.yv_expand.specs.Units.{units_of, saturate}
-use Rattle.yv_expand.specs.Weigh.{Weighs, nothing, other}
+use Rattle.yv_expand_statements.specs.Units.{units_of, saturate}
+use Rattle.yv_expand_statements.specs.Weigh.{Weighs, nothing, other}
 use Rattle.yv_expand.specs.InnerSteps.{IsSettled}
 use Rattle.yv_expand.proofs.SettledValues.{counted}
 

@@ -15,8 +15,8 @@ use Rattle.yv_base_graph.specs.Graph as graph
 use Rattle.yv_link_definitions.specs.Duplicates.{is_of}
 use Rattle.yv_link_definitions.specs.Refers.{Refers, names_definition}
 use Rattle.yv_link_definitions.specs.Leads.{CountsFor, directly, further, Joins, LeadsTo, by_step, by_way, IsOrderOf}
-use Rattle.yv_expand.specs.Units.{units_of}
-use Rattle.yv_expand.specs.StatementBlocks.{stands_in}
+use Rattle.yv_expand_statements.specs.Units.{units_of}
+use Rattle.yv_expand_statements.specs.StatementBlocks.{stands_in}
 use Rattle.yv_expand.specs.InnerLists.{Lists, counts, is_place, part_place, placed_from}
 use Rattle.yv_expand.specs.InnerSteps.{AreSteps, IsUsed, list_of}
 use Rattle.yv_expand.proofs.UnitListing.{numbers_are}

@@ -8,9 +8,9 @@ use Rattle.yv_link_scopes.specs.Scopes.{MeansIn}
 use Rattle.yv_link_scopes.specs.declared.kind.NameKind.{NameKind}
 use Rattle.yv_link_scopes.specs.declared.kind.NameKind.TheVariants.{Grouping}
 use Rattle.yv_link_definitions.specs.Refers.{RefersTo, names_definition}
-use Rattle.yv_expand.specs.Units.{units_of}
-use Rattle.yv_expand.specs.Weigh.{Weigh, nothing, other, node, uses}
-use Rattle.yv_expand.specs.StatementBlocks.{block_of}
+use Rattle.yv_expand_statements.specs.Units.{units_of}
+use Rattle.yv_expand_statements.specs.Weigh.{Weigh, nothing, other, node, uses}
+use Rattle.yv_expand_statements.specs.StatementBlocks.{block_of}
 use Rattle.yv_expand.proofs.UnitWords.{counts_kind}
 
 abbrev pub MeansOne : Type 0

@@ -15,7 +15,7 @@ use Rattle.yv_link_scopes.specs.declared.kind.NameKind.TheVariants.{Prefix, Incl
 use Rattle.yv_link_definitions.specs.BuiltIn.{is_built_in}
 use Rattle.yv_link_definitions.specs.Duplicates.{is_of}
 use Rattle.yv_link_definitions.specs.Refers.{Refers, is_type, names_definition}
-use Rattle.yv_expand.specs.Units.{units_of}
+use Rattle.yv_expand_statements.specs.Units.{units_of}
 
 -- a statement has one keyword
 word_is : (head : Head) (u : List ℕ) → has_word u head ≡ true → head.keyword ≡ u

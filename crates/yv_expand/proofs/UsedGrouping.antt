@@ -5,7 +5,7 @@ use Rattle.std.proofs.lemmas.Option.{same_Some}
 use Rattle.yv_link_scopes.specs.Files.{Briefs}
 use Rattle.yv_link_scopes.specs.Rows.{Row}
 use Rattle.yv_link_definitions.specs.Refers.{RefersTo}
-use Rattle.yv_expand.specs.Units.{units_of}
+use Rattle.yv_expand_statements.specs.Units.{units_of}
 use Rattle.yv_expand.specs.InnerSteps.{IsUsed}
 use Rattle.yv_expand.proofs.UnitWords.{meant_within}
 

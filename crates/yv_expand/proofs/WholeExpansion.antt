@@ -5,8 +5,8 @@ use Rattle.std.proofs.lemmas.List.{length-map}
 use Rattle.yv_link_scopes.specs.Files.{Files, Briefs, brief_of}
 use Rattle.yv_link_scopes.specs.Rows.{Row}
 use Rattle.yv_link_scopes.specs.RowList.{rows_of}
-use Rattle.yv_expand.specs.Limit.{Fits}
-use Rattle.yv_expand.specs.StatementBlocks.{given_at, given_before, block_of, augments_of, is_augment, is_node_or_uses, those}
+use Rattle.yv_expand_statements.specs.Limit.{Fits}
+use Rattle.yv_expand_statements.specs.StatementBlocks.{given_at, given_before, block_of, augments_of, is_augment, is_node_or_uses, those}
 use Rattle.yv_expand.specs.Tree.{Tree, Item, all_of, count, join, item_list}
 use Rattle.yv_expand.specs.Expansion.{AreAdded, AreTrees, IsWhole}
 use Rattle.yv_expand.specs.Expands.{blocks_of, Expands}

@@ -11,8 +11,8 @@ use Rattle.yv_link_scopes.specs.Files.{has_word}
 use Rattle.yv_link_scopes.specs.Rows.{Row}
 use Rattle.yv_text_statement.specs.Words.{is_among}
 use Rattle.yv_link_definitions.specs.Refers.{is_type, is_uses}
-use Rattle.yv_expand.specs.Units.{units_of, nodes, operations, keywords_passed}
-use Rattle.yv_expand.specs.StatementBlocks.{is_node_or_uses, is_operation, is_input, is_output, is_augment}
+use Rattle.yv_expand_statements.specs.Units.{units_of, nodes, operations, keywords_passed}
+use Rattle.yv_expand_statements.specs.StatementBlocks.{is_node_or_uses, is_operation, is_input, is_output, is_augment}
 
 -- a statement has one keyword
 pub word_is : (head : Head) (u : List ℕ) → has_word u head ≡ true → head.keyword ≡ u

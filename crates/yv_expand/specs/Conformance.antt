@@ -5,7 +5,7 @@ use Rattle.yv_text_grammar.specs.Fits.{Fits}
 use Rattle.yv_text_statement.specs.Words.{is_among}
 use Rattle.yv_link_scopes.specs.Files.{Files}
 use Rattle.yv_link_scopes.specs.Rows.{Row}
-use Rattle.yv_expand.specs.Units.{nodes, operations}
+use Rattle.yv_expand_statements.specs.Units.{nodes, operations}
 
 -- each file conforms
 abbrev pub Conform : Files → Type 0

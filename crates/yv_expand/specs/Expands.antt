@@ -4,8 +4,8 @@ use Rattle.std.specs.List.{flat_map}
 use Rattle.yv_link_scopes.specs.Files.{Briefs}
 use Rattle.yv_link_scopes.specs.Rows.{Row}
 use Rattle.yv_link_definitions.specs.Refers.{RefersTo}
-use Rattle.yv_expand.specs.StatementBlocks.{block_of, is_operation, is_node_or_uses, is_augment, those, part, part_block, input_of, output_of}
-use Rattle.yv_expand.specs.declared.origin.Origin.TheVariants.{Statement, Input, Output}
+use Rattle.yv_expand_statements.specs.StatementBlocks.{block_of, is_operation, is_node_or_uses, is_augment, those, part, part_block, input_of, output_of}
+use Rattle.yv_expand_statements.specs.declared.origin.Origin.TheVariants.{Statement, Input, Output}
 use Rattle.yv_expand.specs.Tree.{Tree, none, item, join}
 
 -- what is in the blocks of the augments among numbered statements, augment by augment

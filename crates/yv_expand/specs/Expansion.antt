@@ -3,7 +3,7 @@ use Rattle.std.specs.Prelude.{◌≡◌, ℕ, Bool, List, length, map, None, Som
 use Rattle.yv_link_scopes.specs.Files.{Files, Briefs, brief_of}
 use Rattle.yv_link_scopes.specs.Rows.{Row}
 use Rattle.yv_link_scopes.specs.RowList.{rows_of}
-use Rattle.yv_expand.specs.StatementBlocks.{given_at, block_of, augments_of}
+use Rattle.yv_expand_statements.specs.StatementBlocks.{given_at, block_of, augments_of}
 use Rattle.yv_expand.specs.Tree.{Tree, Item, all_of, count, join, item_list}
 use Rattle.yv_expand.specs.Expands.{Expands}
 

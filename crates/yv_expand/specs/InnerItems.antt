@@ -7,10 +7,10 @@ use Rattle.std.specs.declared.alloc.Global.{Global}
 use Rattle.yv_link_scopes.specs.Files.{Briefs, module_file_at}
 use Rattle.yv_link_scopes.specs.Rows.{Row}
 use Rattle.yv_link_definitions.specs.Refers.{RefersTo}
-use Rattle.yv_expand.specs.StatementBlocks.{block_of, numbers_from, is_node_or_uses, is_operation, is_input, is_output, is_augment, those, part, input_of, output_of}
-use Rattle.yv_expand.specs.declared.origin.Origin.{Origin}
-use Rattle.yv_expand.specs.declared.origin.Origin.TheVariants.{Statement, Input, Output}
-use Rattle.yv_expand.specs.Units.{units_of}
+use Rattle.yv_expand_statements.specs.StatementBlocks.{block_of, numbers_from, is_node_or_uses, is_operation, is_input, is_output, is_augment, those, part, input_of, output_of}
+use Rattle.yv_expand_statements.specs.declared.origin.Origin.{Origin}
+use Rattle.yv_expand_statements.specs.declared.origin.Origin.TheVariants.{Statement, Input, Output}
+use Rattle.yv_expand_statements.specs.Units.{units_of}
 use Rattle.yv_expand.specs.Tree.{Tree, Item, none, item}
 use Rattle.yv_expand.specs.Expands.{blocks_of}
 use Rattle.yv_expand.specs.declared.blocks.Blocks.{Blocks}

@@ -4,7 +4,7 @@ use Rattle.std.specs.declared.vec.Vec.{Vec}
 use Rattle.std.specs.declared.alloc.Global.{Global}
 use Rattle.yv_link_scopes.specs.Files.{Briefs}
 use Rattle.yv_link_scopes.specs.Rows.{Row}
-use Rattle.yv_expand.specs.Units.{saturate}
+use Rattle.yv_expand_statements.specs.Units.{saturate}
 use Rattle.yv_expand.specs.InnerItems.{block_place}
 use Rattle.yv_expand.specs.InnerItems.{top_place as top_place_of}
 pub use Rattle.yv_expand.specs.InnerItems.{Lists, counts, is_place, placed_from, AreEmpty, ArePlaced}

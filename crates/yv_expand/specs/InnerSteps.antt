@@ -5,9 +5,9 @@ use Rattle.std.specs.declared.alloc.Global.{Global}
 use Rattle.yv_link_scopes.specs.Files.{Briefs}
 use Rattle.yv_link_scopes.specs.Rows.{Row}
 use Rattle.yv_link_definitions.specs.Refers.{RefersTo}
-use Rattle.yv_expand.specs.Units.{units_of, saturate}
-use Rattle.yv_expand.specs.StatementBlocks.{block_of}
-use Rattle.yv_expand.specs.Weigh.{Weigh}
+use Rattle.yv_expand_statements.specs.Units.{units_of, saturate}
+use Rattle.yv_expand_statements.specs.StatementBlocks.{block_of}
+use Rattle.yv_expand_statements.specs.Weigh.{Weigh}
 use Rattle.yv_expand.specs.InnerLists.{Lists, part_place, placed_from}
 
 -- a statement that counts uses a grouping

@@ -1,15 +1,10 @@
-pub mod Units
-pub mod Weigh
-pub mod Limit
 pub mod Results
 pub mod InnerLists
 pub mod InnerSteps
 pub mod Conformance
-pub mod Origin
 pub mod Tree
 pub mod ItemLimit
 pub mod Expands
 pub mod Expansion
 pub mod InnerItems
-pub mod StatementBlocks
 pub mod InnerKeywords

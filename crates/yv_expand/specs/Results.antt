@@ -3,8 +3,8 @@ use Rattle.std.specs.Prelude.{◌≡◌, ℕ, ◌<◌, List, length, map, slice_
 use Rattle.yv_link_scopes.specs.Files.{Files, Briefs, brief_of}
 use Rattle.yv_link_scopes.specs.Rows.{Row}
 use Rattle.yv_link_scopes.specs.RowList.{rows_of}
-use Rattle.yv_expand.specs.Units.{saturate}
-use Rattle.yv_expand.specs.Weigh.{Weighs}
+use Rattle.yv_expand_statements.specs.Units.{saturate}
+use Rattle.yv_expand_statements.specs.Weigh.{Weighs}
 use Rattle.yv_expand.specs.declared.weights.Units.{Units}
 
 -- each statement takes a number of units, which is known saturated

@@ -2,7 +2,7 @@
 -- included, and each uses above what it copies and what its augments give (RFC 7950, sections 7.12,
 -- 7.13 and 7.17).
 use Rattle.std.specs.Prelude.{ℕ, ◌+◌, List, [], ◌∷◌, ◌++◌, Option, Some}
-use Rattle.yv_expand.specs.declared.origin.Origin.{Origin}
+use Rattle.yv_expand_statements.specs.declared.origin.Origin.{Origin}
 use Rattle.yv_expand.specs.declared.item.PlacedItem.{PlacedItem}
 
 -- items of one parent, in order: what the first is made of, the items below it, and those after it

@@ -2,14 +2,15 @@
 ghost use Rattle.std.specs.{Prelude.{◌≡◌, ◌<◌, ◌≤◌, ◌+◌, ◌++◌, ◌∷◌, [], ℕ, List, reverse, length, slice_get, vec_capacity, IfOk, OnErr, OnOk}, List.{flat_map}};
 ghost use Rattle.yv_link_scopes.specs.Views.{lent_in, files_in, rows_in};
 ghost use Rattle.yv_link_definitions.specs.Meanings.{AreNames};
-ghost use Rattle.yv_expand.specs.{declared.origin.Origin.{Origin}, declared.origin.Origin.TheVariants.{Statement, Input, Output}, StatementBlocks.{is_at, is_operation, part}, InnerItems.{AreBlocks, StandBelow, items_below, numbers_at, origins}};
+ghost use Rattle.yv_expand.specs.InnerItems.{AreBlocks, StandBelow, items_below, numbers_at, origins};
+ghost use Rattle.yv_expand_statements.specs.{declared.origin.Origin.{Origin}, declared.origin.Origin.TheVariants.{Statement, Input, Output}, StatementBlocks.{is_at, is_operation, part}};
 
 use crate::item::Item;
 use crate::lists::{WantedStatements, numbers_at, of_blocks};
-use crate::origin::Origin;
 use crate::own::is_operation;
 use crate::stack::put;
 use std::alloc::{AllocError, Global};
+use yv_expand_statements::Origin;
 use yv_link_definitions::Names;
 use yv_link_scopes::Rows;
 

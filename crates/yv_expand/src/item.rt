@@ -1,5 +1,5 @@
 //! What an expansion consists of.
-use crate::origin::Origin;
+use yv_expand_statements::Origin;
 
 /// An entry of a list of items, each before those below it.
 #[derive(Clone, Copy, Debug, PartialEq, Eq)]

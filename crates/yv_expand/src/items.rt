@@ -7,9 +7,9 @@ ghost use Rattle.yv_expand.specs.{Tree.{Tree, count, item_list}, InnerItems.{Are
 use crate::blocks::Blocks;
 use crate::expansion::Expansion;
 use crate::item::Item;
-use crate::origin::Origin;
 use crate::stack::put;
 use std::alloc::AllocError;
+use yv_expand_statements::Origin;
 use yv_link_definitions::Names;
 use yv_link_scopes::Rows;
 

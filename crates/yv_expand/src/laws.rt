@@ -1,9 +1,10 @@
 //! Laws about the definitions only. These functions do nothing: the contract of each is the law.
 ghost use Rattle.std.specs.Prelude.{◌≡◌, ◌≤◌, ◌<◌, ℕ, All, Bool, List, Some, length, map, slice_get};
 ghost use Rattle.yv_link_scopes.specs.{Files.{Briefs, Files, brief_of}, Rows.{Row}, RowList.{rows_of}};
-ghost use Rattle.yv_expand.specs.{StatementBlocks.{given_before}, Weigh.{Weigh}, Tree.{Item, Tree, count}, Expands.{Expands}, Expansion.{IsWhole}};
+ghost use Rattle.yv_expand.specs.{Tree.{Item, Tree, count}, Expands.{Expands}, Expansion.{IsWhole}};
+ghost use Rattle.yv_expand_statements.specs.{StatementBlocks.{given_before}, Weigh.{Weigh}};
 
-use crate::origin::Origin;
+use yv_expand_statements::Origin;
 
 /// Statements have one expansion at most.
 pub fn an_expansion_is_one()

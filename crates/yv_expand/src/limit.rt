@@ -3,7 +3,8 @@ ghost use Rattle.std.specs.Prelude.{◌≡◌, ◌≤◌, ◌<◌, ◌↔◌, Is
 ghost use Rattle.yv_text_statement.specs.Order.{IsLeast};
 ghost use Rattle.yv_link_scopes.specs.Views.{lent_in, files_in, rows_in};
 ghost use Rattle.yv_link_definitions.specs.Meanings.{AreNames};
-ghost use Rattle.yv_expand.specs.{Limit.{Fits, TooMany}, InnerLists.{ArePlaced, top_place, top_sum}, InnerSteps.{AreSettled}};
+ghost use Rattle.yv_expand.specs.{InnerLists.{ArePlaced, top_place, top_sum}, InnerSteps.{AreSettled}};
+ghost use Rattle.yv_expand_statements.specs.Limit.{Fits, TooMany};
 
 use crate::lists::{WantedStatements, of_files};
 use crate::values::sum;

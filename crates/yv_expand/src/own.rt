@@ -1,7 +1,8 @@
 //! Which statements are items.
 ghost use Rattle.std.specs.Prelude.{◌≡◌};
 ghost use Rattle.yv_link_scopes.specs.Rows.{row};
-ghost use Rattle.yv_expand.specs.{StatementBlocks.{is_node_or_uses, is_operation}, InnerKeywords.{is_item_keyword, is_node_keyword, is_operation_keyword}};
+ghost use Rattle.yv_expand.specs.InnerKeywords.{is_item_keyword, is_node_keyword, is_operation_keyword};
+ghost use Rattle.yv_expand_statements.specs.StatementBlocks.{is_node_or_uses, is_operation};
 
 use yv_link_scopes::Entry;
 use yv_text_statement::Keyword;

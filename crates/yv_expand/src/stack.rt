@@ -3,8 +3,8 @@ ghost use Rattle.std.specs.Prelude.{◌≡◌, ◌<◌, ◌≤◌, ◌+◌, ◌+
 ghost use Rattle.yv_expand.specs.InnerItems.{items_below, origins};
 
 use crate::item::Item;
-use crate::origin::Origin;
 use std::alloc::AllocError;
+use yv_expand_statements::Origin;
 
 /// Puts the items of statements of one parent on a stack, the first on top.
 pub(crate) fn put(

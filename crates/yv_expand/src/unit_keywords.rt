@@ -1,7 +1,8 @@
 //! What statements count by themselves.
 ghost use Rattle.std.specs.Prelude.{◌≡◌};
 ghost use Rattle.yv_link_scopes.specs.Rows.{row};
-ghost use Rattle.yv_expand.specs.{Units.{units_of}, InnerKeywords.{is_passed_keyword, units_by}};
+ghost use Rattle.yv_expand.specs.InnerKeywords.{is_passed_keyword, units_by};
+ghost use Rattle.yv_expand_statements.specs.Units.{units_of};
 
 use crate::own::{is_node_keyword, is_operation_keyword};
 use yv_link_scopes::Entry;

@@ -1,7 +1,7 @@
 //! Laws about the definitions only.
 ghost use Rattle.std.specs.Prelude.{◌≡◌, ℕ, List};
 ghost use Rattle.yv_link_scopes.specs.{Files.{Briefs}, Rows.{Row}};
-ghost use Rattle.yv_expand.specs.Weigh.{Weigh};
+ghost use Rattle.yv_expand_statements.specs.Weigh.{Weigh};
 
 /// Statements take one number of units at most.
 pub fn units_are_one()

@@ -2,7 +2,8 @@
 ghost use Rattle.std.specs.{Prelude.{◌≡◌, ◌<◌, length, slice_index_or, IfOk}, List.{All}};
 ghost use Rattle.yv_link_scopes.specs.{Files.{Briefs}, Views.{rows_in}};
 ghost use Rattle.yv_base_graph.specs.Graph.{IsOrder};
-ghost use Rattle.yv_expand.specs.{Units.{saturate}, InnerLists.{sum_at}, InnerSteps.{AreSteps, AreSettled}};
+ghost use Rattle.yv_expand.specs.{InnerLists.{sum_at}, InnerSteps.{AreSteps, AreSettled}};
+ghost use Rattle.yv_expand_statements.specs.Units.{saturate};
 
 use crate::unit_keywords::own_units;
 use std::alloc::{AllocError, Global};

@@ -2,7 +2,8 @@
 ghost use Rattle.std.specs.Prelude.{◌≡◌, ◌<◌, ℕ, List, length, map, slice_get, IfOk, Some};
 ghost use Rattle.yv_link_scopes.specs.{Files.{Briefs, Files, brief_of}, Rows.{Row, row}, RowList.{rows_of}, Views.{lent_in, files_in, rows_in}};
 ghost use Rattle.yv_link_definitions.specs.Meanings.{AreNames};
-ghost use Rattle.yv_expand.specs.{Units.{saturate}, Weigh.{Weighs}, Results.{AreUnits, AreWeights}, InnerSteps.{AreSettled, IsSettled}};
+ghost use Rattle.yv_expand.specs.{Results.{AreUnits, AreWeights}, InnerSteps.{AreSettled, IsSettled}};
+ghost use Rattle.yv_expand_statements.specs.{Units.{saturate}, Weigh.{Weighs}};
 
 use crate::steps::{order, steps};
 use crate::unit_keywords::own_units;

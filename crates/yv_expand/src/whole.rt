@@ -3,7 +3,8 @@ ghost use Rattle.std.specs.Prelude.{◌≡◌, ◌≢◌, ◌<◌, ℕ, All, len
 ghost use Rattle.yv_text_statement.specs.{Order.{IsLeast}, declared.refusal.Refusal.{Refusal}, declared.refusal.Stop.TheVariants.{Fault, PatternBuild}};
 ghost use Rattle.yv_link_scopes.specs.Views.{files_in, lent_in, rows_in};
 ghost use Rattle.yv_link_definitions.specs.Meanings.{AreNames};
-ghost use Rattle.yv_expand.specs.{Limit.{Fits, TooMany}, Expansion.{IsWhole}, StatementBlocks.{augments_of}};
+ghost use Rattle.yv_expand.specs.Expansion.{IsWhole};
+ghost use Rattle.yv_expand_statements.specs.{Limit.{Fits, TooMany}, StatementBlocks.{augments_of}};
 
 use crate::blocks::Blocks;
 use crate::expansion::Expansion;
@@ -11,8 +12,8 @@ use crate::file_expansion::FileExpansion;
 use crate::items::add_items;
 use crate::limit::too_many;
 use crate::lists::{WantedStatements, firsts, firsts_in, of_files};
-use crate::origin::Origin;
 use std::alloc::{AllocError, Global};
+use yv_expand_statements::Origin;
 use yv_link_definitions::Names;
 use yv_link_scopes::Rows;
 use yv_text_statement::Stop;

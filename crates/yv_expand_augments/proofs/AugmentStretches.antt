@@ -20,7 +20,7 @@ use Rattle.yv_expand_augments.specs.Refusals.{RefusesIf}
 use Rattle.yv_expand_uses.specs.AugmentOrder.{augments_giving}
 use Rattle.yv_expand_augments.specs.Augmentation.{copy_turn, last_of, turns, turns_from}
 use Rattle.yv_expand_uses.specs.Paths.{path_in}
-use Rattle.yv_expand_rounds.specs.Kinds.{is_uses}
+use Rattle.yv_expand_statements.specs.Kinds.{is_uses}
 use Rattle.yv_expand_augments.specs.InnerSchedule.{AreIdle, AreOrdered, AreStretches, IsCovered, IsEnded, IsFrom, IsSource, IsReady, IsRefusalOf, IsStretch, MissesBetween, MissesIdle, added_to}
 use Rattle.yv_expand_uses.specs.Spots.{Whole}
 use Rattle.yv_expand_augments.specs.MissingTargets.{MissesInTurn, MissesOf, after_turns, next_number, node_reached}

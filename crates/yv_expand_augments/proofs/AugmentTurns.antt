@@ -9,7 +9,7 @@ use Rattle.yv_base_tables.specs.Families.{is_place, numbers_at, numbers_from}
 use Rattle.yv_expand_rounds.specs.declared.label.Label.{Label}
 use Rattle.yv_expand_rounds.specs.Turns.{State}
 use Rattle.yv_expand_uses.specs.AugmentOrder.{augments_giving, giving_from, giving_places, is_giving, is_in, item_places}
-use Rattle.yv_expand.specs.StatementBlocks.{is_augment}
+use Rattle.yv_expand_statements.specs.StatementBlocks.{is_augment}
 use Rattle.yv_expand_augments.specs.Augmentation.{copy_turn, turns_from}
 use Rattle.yv_expand_uses.specs.Spots.{Whole}
 use Rattle.yv_expand_augments.specs.MissingTargets.{after_turns, had_turns, next_number}

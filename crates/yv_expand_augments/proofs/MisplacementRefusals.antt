@@ -12,7 +12,7 @@ use Rattle.yv_expand_rounds.specs.declared.row.ItemRow.{ItemRow}
 use Rattle.yv_expand_augments.specs.Refusals.{RefusesIf}
 use Rattle.yv_expand_augments.specs.MandatoryNodes.{IsMandatoryAdded, source_of}
 use Rattle.yv_expand_augments.specs.Placement.{IsMisplaced, augment_around}
-use Rattle.yv_expand_rounds.specs.Kinds.{takes}
+use Rattle.yv_expand_statements.specs.Kinds.{takes}
 use Rattle.yv_expand_uses.specs.Spots.{spot_at}
 use Rattle.yv_expand_augments.specs.InnerRefusals.{refusal_of_row}
 use Rattle.yv_expand_augments.specs.InnerMandatoryNodes.{mandatory_refusal, is_mandatory_added}

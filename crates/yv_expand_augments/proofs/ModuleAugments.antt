@@ -19,7 +19,7 @@ use Rattle.yv_expand_uses.specs.AugmentOrder.{augments_giving}
 use Rattle.yv_expand_augments.specs.Augmentation.{AreAugmented, copy_turn, last_of, placement, placed_from, turns, turns_from}
 use Rattle.yv_expand_uses.specs.Paths.{module_paths, path_in}
 use Rattle.yv_expand_uses.specs.InnerLayout.{AreLaid, Fits}
-use Rattle.yv_expand_rounds.specs.Kinds.{is_uses}
+use Rattle.yv_expand_statements.specs.Kinds.{is_uses}
 use Rattle.yv_expand_uses.specs.Spots.{LayoutView, Whole, copies_of, copy_group, labels_of, layout_of, laid_from, one_more, spot_of}
 use Rattle.yv_expand_uses.specs.declared.spot.Spot.{Spot}
 use Rattle.yv_expand_uses.proofs.Bounds.{laid_whole, pushed_at}

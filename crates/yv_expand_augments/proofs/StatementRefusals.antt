@@ -10,7 +10,7 @@ use Rattle.yv_text_statement.specs.declared.refusal.Refusal.{Refusal}
 use Rattle.yv_text_statement.proofs.Least.{least_more, least_refused, least_same}
 use Rattle.yv_link_scopes.specs.Rows.{Row}
 use Rattle.yv_expand_rounds.specs.declared.row.ItemRow.{ItemRow}
-use Rattle.yv_expand_rounds.specs.Kinds.{is_uses}
+use Rattle.yv_expand_statements.specs.Kinds.{is_uses}
 use Rattle.yv_expand_augments.specs.Refusals.{IsTooDeep, RefusesIf}
 use Rattle.yv_expand_augments.specs.InnerRefusals.{depth_refusal, is_absent, refusal_of_row}
 use Rattle.yv_expand_uses.specs.declared.spot.Spot.{Spot}

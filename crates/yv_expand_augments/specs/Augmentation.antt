@@ -7,7 +7,7 @@ use Rattle.yv_expand_rounds.specs.Groups.{group_of_augment, members_of}
 use Rattle.yv_expand_rounds.specs.Turns.{State, turn}
 use Rattle.yv_expand_rounds.specs.Placements.{nothing, enter}
 use Rattle.yv_expand_rounds.specs.Rounds.{AreApplied}
-use Rattle.yv_expand_rounds.specs.Kinds.{is_uses}
+use Rattle.yv_expand_statements.specs.Kinds.{is_uses}
 use Rattle.yv_expand_uses.specs.AugmentOrder.{augments_giving}
 use Rattle.yv_expand_uses.specs.Spots.{LayoutView, Whole, layout_of, labels_of}
 use Rattle.yv_expand_uses.specs.declared.spot.Spot.{Spot}

@@ -5,7 +5,7 @@ use Rattle.yv_text_statement.specs.declared.refusal.Refusal.{Refusal}
 use Rattle.yv_link_scopes.specs.Rows.{Row}
 use Rattle.yv_expand_augments.specs.InnerRefusals.{refusal_of_row}
 use Rattle.yv_expand_augments.specs.Placement.{augment_around}
-use Rattle.yv_expand_rounds.specs.Kinds.{takes}
+use Rattle.yv_expand_statements.specs.Kinds.{takes}
 use Rattle.yv_expand_uses.specs.declared.spot.Spot.{Spot}
 
 -- the refusal of an augment, if there is one and it is bad

@@ -5,7 +5,7 @@ use Rattle.yv_text_statement.specs.declared.refusal.Code.{Code}
 use Rattle.yv_text_statement.specs.declared.refusal.Code.TheVariants as code
 use Rattle.yv_text_statement.specs.declared.refusal.Refusal.{Refusal}
 use Rattle.yv_link_scopes.specs.Rows.{Row}
-use Rattle.yv_expand_rounds.specs.Kinds.{is_uses}
+use Rattle.yv_expand_statements.specs.Kinds.{is_uses}
 use Rattle.yv_expand_uses.specs.declared.spot.Spot.{Spot}
 
 abbrev pub refusal_of_row : Code → Bool → Option Row → Option Refusal

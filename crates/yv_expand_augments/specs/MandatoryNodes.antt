@@ -11,7 +11,7 @@ use Rattle.yv_base_graph.specs.Marks.{is_marked}
 use Rattle.yv_expand_uses.specs.Spots.{source_in, spot_at}
 use Rattle.yv_expand_augments.specs.declared.mandatory_nodes.RefinedMarks.{RefinedMarks}
 use Rattle.yv_expand_uses.specs.declared.spot.Spot.{Spot}
-use Rattle.yv_expand_rounds.specs.Kinds.{is_container, is_operation_or_notification}
+use Rattle.yv_expand_statements.specs.Kinds.{is_container, is_operation_or_notification}
 
 -- the augment of a module in whose block an item is, if it is in one
 abbrev pub source_of : (items : ℕ) → (augments : List ℕ) → Option Spot → Option ℕ

@@ -13,7 +13,7 @@ use Rattle.yv_expand_rounds.specs.declared.row.ItemRow.{ItemRow}
 use Rattle.yv_expand_rounds.specs.Groups.{group_of_augment, members_of}
 use Rattle.yv_expand_rounds.specs.Paths.{path_end}
 use Rattle.yv_expand_rounds.specs.Turns.{State, target}
-use Rattle.yv_expand_rounds.specs.Kinds.{is_uses}
+use Rattle.yv_expand_statements.specs.Kinds.{is_uses}
 use Rattle.yv_expand_uses.specs.Ends.{end_at}
 use Rattle.yv_expand_augments.specs.Refusals.{RefusesIf}
 use Rattle.yv_expand_uses.specs.AugmentOrder.{augments_in, is_giving}

@@ -5,8 +5,8 @@ use Rattle.yv_text_statement.specs.declared.refusal.Code.TheVariants as code
 use Rattle.yv_text_statement.specs.declared.refusal.Refusal.{Refusal}
 use Rattle.yv_link_scopes.specs.Rows.{Row}
 use Rattle.yv_expand_rounds.specs.declared.row.ItemRow.{ItemRow}
-use Rattle.yv_expand_rounds.specs.Kinds.{takes}
-use Rattle.yv_expand.specs.StatementBlocks.{is_augment}
+use Rattle.yv_expand_statements.specs.Kinds.{takes}
+use Rattle.yv_expand_statements.specs.StatementBlocks.{is_augment}
 use Rattle.yv_expand_uses.specs.Spots.{spot_at}
 use Rattle.yv_expand_augments.specs.Refusals.{RefusesIf}
 use Rattle.yv_expand_uses.specs.declared.spot.Spot.{Spot}

@@ -8,7 +8,7 @@ use Rattle.yv_link_scopes.specs.Rows.{Row}
 use Rattle.yv_expand.specs.Tree.{Item}
 use Rattle.yv_expand_rounds.specs.Turns.{State, target_of}
 use Rattle.yv_expand_rounds.specs.declared.row.ItemRow.{ItemRow}
-use Rattle.yv_expand_rounds.specs.Kinds.{is_uses}
+use Rattle.yv_expand_statements.specs.Kinds.{is_uses}
 use Rattle.yv_expand_uses.specs.Spots.{Whole, labels_of, layout_of}
 use Rattle.yv_expand_uses.specs.declared.spot.Spot.{Spot}
 

@@ -1,7 +1,7 @@
 -- What is left of the final tree (RFC 7950, sections 7.13, 7.17 and 7.20.2).
 use Rattle.std.specs.Prelude.{ℕ, ◌&&◌, not, Bool, if◌then◌else◌, false, List, Option, Some, None, slice_get}
 use Rattle.yv_expand_rounds.specs.Tree.{Tree, none, item}
-use Rattle.yv_expand_rounds.specs.Kinds.{is_uses}
+use Rattle.yv_expand_statements.specs.Kinds.{is_uses}
 use Rattle.yv_base_graph.specs.Marks.{is_marked}
 use Rattle.yv_expand_uses.specs.declared.spot.Spot.{Spot}
 

@@ -3,7 +3,8 @@ ghost use Rattle.std.specs.{Prelude.{◌≡◌, ◌≤◌, ◌<◌, ◌==◌, �
 ghost use Rattle.yv_text_statement.specs.{Order.{IsLeast}, declared.refusal.Code.TheVariants.{AugmentTarget}};
 ghost use Rattle.yv_link_scopes.specs.{Files.{Briefs}, Rows.{Row}, Views.{files_in, rows_in}};
 ghost use Rattle.yv_expand.specs.Tree.{Item};
-ghost use Rattle.yv_expand_rounds.specs.{declared.label.Label.{Label}, Groups.{group_of_augment, members_of}, Turns.{State, target_of}, InnerState.{IsAugmentation}, Kinds.{is_uses}};
+ghost use Rattle.yv_expand_rounds.specs.{declared.label.Label.{Label}, Groups.{group_of_augment, members_of}, Turns.{State, target_of}, InnerState.{IsAugmentation}};
+ghost use Rattle.yv_expand_statements.specs.Kinds.{is_uses};
 ghost use Rattle.yv_expand_augments.specs.{Augmentation.{copy_turn, last_of, placement, turns}, Refusals.{RefusesIf}, FinalItems.{AreAugmentedItems, AreAugmentedTree}, MissingTargets.{MissesAt, MissesOf, next_number}, RefineMeanings.{refine_meanings}, InnerSchedule.{AreOrdered, AreSchedules, IsReady, IsStretch, MissesBetween, MissesIdle, added_to}};
 ghost use Rattle.yv_expand_uses.specs.{Paths.{module_paths, path_in}, Spots.{Whole, copies_of, labels_of, layout_of, whole}, AugmentOrder.{augments_in}, InnerPlan.{IsPlan, whole_in}, InnerLayout.{AreLaid, IsNumbered, laid_in}};
 ghost use Rattle.yv_expand_refines.specs.Targets.{all_meant};

@@ -3,11 +3,12 @@ ghost use Rattle.std.specs.Prelude.{◌≡◌, Some, slice_get};
 ghost use Rattle.yv_text_statement.specs.Order.{IsLeast};
 ghost use Rattle.yv_link_scopes.specs.Views.{rows_in};
 ghost use Rattle.yv_expand_augments.specs.{InnerPlacement.{placement_refusal, refusal_of_augment}, Placement.{PutsMisplaced, augment_around, augment_at}};
-ghost use Rattle.yv_expand_rounds.specs.Kinds.{is_action_or_notification, is_case, is_data, is_part, takes};
+ghost use Rattle.yv_expand_statements.specs.Kinds.{is_action_or_notification, is_case, is_data, is_part, takes};
 ghost use Rattle.yv_expand_uses.specs.Spots.{spot_at};
 
 use crate::refusals::refused_at;
-use yv_expand_rounds::{ItemRow, StatementKind};
+use yv_expand_rounds::ItemRow;
+use yv_expand_statements::StatementKind;
 use yv_expand_uses::{Spot, is_augment, is_uses, spot_at};
 use yv_link_scopes::Rows;
 use yv_text_statement::{Code, Refusal, lesser};

@@ -12,7 +12,7 @@ use Rattle.yv_link_scopes.specs.RowList.{rows_of, statements_of}
 use Rattle.yv_expand_uses.specs.declared.spot.Spot.{Spot}
 use Rattle.yv_expand_refines.specs.Targets.{RefineMeaning, meaning_of}
 use Rattle.yv_expand_refines.specs.declared.targets.RefineTarget.{RefineTarget}
-use Rattle.yv_expand_changes.specs.AllowedRefines.{is_some_fit}
+use Rattle.yv_expand_statements.specs.AllowedRefines.{is_some_fit}
 use Rattle.yv_expand_changes.specs.Changes.{all_changes, changes, changes_from, is_change, is_fit_at_item, is_meant}
 use Rattle.yv_expand_changes.specs.InnerAlike.{first_from, is_fit_at, is_run, is_in_run, noted_from, note_run, run_at, runs_from, runs_of, way_of_target, ways_of}
 use Rattle.yv_expand_changes.specs.declared.ways.Way.{Way}

@@ -7,7 +7,7 @@ use Rattle.yv_text_statement.specs.Words.{is_among}
 use Rattle.yv_text_statement.proofs.KeywordTexts.{is_by_text}
 use Rattle.yv_link_scopes.proofs.Keywords.{extended_by_colon}
 use Rattle.yv_expand.proofs.KeywordKinds.{among_by_kind}
-use Rattle.yv_expand_changes.specs.AllowedRefines.{is_allowed, with_default, with_mandatory, with_presence, with_elements, element_limits, of_any_node}
+use Rattle.yv_expand_statements.specs.AllowedRefines.{is_allowed, with_default, with_mandatory, with_presence, with_elements, element_limits, of_any_node}
 use Rattle.yv_expand_changes.specs.InnerKeywords.{has_defaults, has_mandatory, has_presence, has_elements, is_allowed_by, is_allowed_with}
 
 abbrev is_limit : Keyword → Bool

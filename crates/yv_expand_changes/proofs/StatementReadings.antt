@@ -7,7 +7,7 @@ use Rattle.std.proofs.lemmas.Option.{get_or_from_slice_get, slice_get-get_or, sl
 use Rattle.yv_text_statement.specs.Tree.{Tree}
 use Rattle.yv_link_scopes.specs.Rows.{Row}
 use Rattle.yv_node_properties.specs.Statements.{no_statement}
-use Rattle.yv_expand_changes.specs.Truth.{Truth}
+use Rattle.yv_expand_statements.specs.Truth.{Truth}
 use Rattle.yv_expand_changes.specs.IfFeatures.{is_on, marks_of}
 use Rattle.yv_expand_changes.specs.InnerIfFeatures.{is_on_in}
 

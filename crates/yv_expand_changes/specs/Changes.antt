@@ -5,7 +5,7 @@ use Rattle.yv_link_scopes.specs.Files.{Files}
 use Rattle.yv_link_scopes.specs.RowList.{rows_of, statements_of}
 use Rattle.yv_expand_refines.specs.Targets.{RefineMeaning}
 use Rattle.yv_expand_uses.specs.declared.spot.Spot.{Spot}
-use Rattle.yv_expand_changes.specs.AllowedRefines.{is_some_fit}
+use Rattle.yv_expand_statements.specs.AllowedRefines.{is_some_fit}
 
 -- a refine is fit for an item; an operation's part that isn't written takes what its operation
 -- takes

@@ -8,7 +8,7 @@ use Rattle.yv_link_scopes.specs.RowList.{rows_of, statements_of}
 use Rattle.yv_link_features.specs.Blocks.{all_hold}
 use Rattle.yv_base_graph.specs.Marks.{is_marked}
 use Rattle.yv_expand_uses.specs.declared.spot.Spot.{Spot}
-use Rattle.yv_expand_changes.specs.Truth.{Truth}
+use Rattle.yv_expand_statements.specs.Truth.{Truth}
 
 -- a statement of a file with this block is there: each of its conditions holds
 abbrev pub is_on : Truth → (file : ℕ) → Forest → Bool

@@ -6,7 +6,7 @@ use Rattle.yv_link_scopes.specs.Files.{Files}
 use Rattle.yv_link_scopes.specs.RowList.{rows_of, statements_of}
 use Rattle.yv_expand_uses.specs.declared.spot.Spot.{Spot}
 use Rattle.yv_expand_refines.specs.declared.targets.RefineTarget.{RefineTarget}
-use Rattle.yv_expand_changes.specs.AllowedRefines.{is_some_fit}
+use Rattle.yv_expand_statements.specs.AllowedRefines.{is_some_fit}
 use Rattle.yv_expand_changes.specs.Changes.{is_meant}
 use Rattle.yv_expand_changes.specs.declared.ways.Way.{Way}
 

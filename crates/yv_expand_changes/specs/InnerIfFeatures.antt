@@ -1,7 +1,7 @@
 -- Only private clauses cite this: whether a statement that may not be there is on.
 use Rattle.std.specs.Prelude.{ℕ, Bool, true, Option, Some, None}
 use Rattle.yv_text_statement.specs.Tree.{Tree}
-use Rattle.yv_expand_changes.specs.Truth.{Truth}
+use Rattle.yv_expand_statements.specs.Truth.{Truth}
 use Rattle.yv_expand_changes.specs.IfFeatures.{is_on}
 
 -- the conditions of a statement hold in a file; there are none where there is no statement

@@ -1,4 +1,3 @@
-pub mod AllowedRefines
 pub mod Changes
 pub mod Refusals
 pub mod InnerLists
@@ -11,5 +10,4 @@ pub mod Properties
 pub mod InnerIfFeatures
 pub mod InnerProperties
 pub mod InnerSequences
-pub mod Truth
 pub mod InnerKeywords

@@ -1,7 +1,8 @@
 //! Which statements may refine which nodes.
 ghost use Rattle.std.specs.{Prelude.{◌≡◌, codes, count_by}, List.{list_all}};
 ghost use Rattle.yv_link_scopes.specs.{Files.{has_word}, Views.{lent_in}};
-ghost use Rattle.yv_expand_changes.specs.{AllowedRefines.{is_allowed, is_fit, may_have}, InnerAlike.{is_fit_at}, InnerKeywords.{is_allowed_by}};
+ghost use Rattle.yv_expand_changes.specs.{InnerAlike.{is_fit_at}, InnerKeywords.{is_allowed_by}};
+ghost use Rattle.yv_expand_statements.specs.AllowedRefines.{is_allowed, is_fit, may_have};
 
 use yv_link_scopes::Rows;
 use yv_text_statement::{Keyword, Statement};

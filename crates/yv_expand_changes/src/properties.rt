@@ -8,9 +8,10 @@ ghost use Rattle.yv_expand_changes.specs.{Properties.{said_of, said_of_all, told
 
 use crate::sequences::known_of;
 use std::alloc::{AllocError, Global};
-use yv_expand::{Item, Origin};
+use yv_expand::Item;
 use yv_expand_augments::RefinedMarks;
 use yv_expand_refines::Changes;
+use yv_expand_statements::Origin;
 use yv_link_scopes::Rows;
 use yv_node_properties::StatedProperties;
 

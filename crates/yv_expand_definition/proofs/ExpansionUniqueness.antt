@@ -5,7 +5,7 @@ use Rattle.yv_text_statement.specs.declared.refusal.Code.TheVariants as code
 use Rattle.yv_link_scopes.specs.Files.{Files, brief_of, module_file_at}
 use Rattle.yv_link_scopes.specs.RowList.{rows_of}
 use Rattle.yv_link_scopes.specs.Rows.{Row}
-use Rattle.yv_expand.specs.StatementBlocks.{block_of}
+use Rattle.yv_expand_statements.specs.StatementBlocks.{block_of}
 use Rattle.yv_expand_definition.specs.Nodes.{Forest, Node, nodes_given, insert}
 use Rattle.yv_expand_definition.specs.Paths.{End, Leads, path_of}
 use Rattle.yv_expand_definition.specs.Gives.{Gives, Product, PathLeads, PathLeadsNowhere, Reaches, add_block, both, add_refusal}

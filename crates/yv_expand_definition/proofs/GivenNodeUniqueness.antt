@@ -7,12 +7,12 @@ use Rattle.yv_link_scopes.specs.Files.{Files, brief_of}
 use Rattle.yv_link_scopes.specs.RowList.{rows_of}
 use Rattle.yv_link_scopes.specs.Rows.{Row}
 use Rattle.yv_link_definitions.specs.Refers.{RefersTo, is_uses}
-use Rattle.yv_expand_paths.specs.Names.{node_name}
-use Rattle.yv_expand.specs.StatementBlocks.{block_of, input_of, is_node_or_uses, is_operation, output_of, part}
-use Rattle.yv_expand.specs.declared.origin.Origin.TheVariants.{Statement, Input, Output}
-use Rattle.yv_expand_rounds.specs.declared.statement_kind.StatementKind.{StatementKind}
-use Rattle.yv_expand_rounds.specs.declared.statement_kind.StatementKind.TheVariants as kind
-use Rattle.yv_expand_rounds.specs.Kinds.{kind_of_keyword}
+use Rattle.yv_expand_statements.specs.Names.{node_name}
+use Rattle.yv_expand_statements.specs.StatementBlocks.{block_of, input_of, is_node_or_uses, is_operation, output_of, part}
+use Rattle.yv_expand_statements.specs.declared.origin.Origin.TheVariants.{Statement, Input, Output}
+use Rattle.yv_expand_statements.specs.declared.statement_kind.StatementKind.{StatementKind}
+use Rattle.yv_expand_statements.specs.declared.statement_kind.StatementKind.TheVariants as kind
+use Rattle.yv_expand_statements.specs.Kinds.{kind_of_keyword}
 use Rattle.std.specs.Prelude.{codes}
 use Rattle.yv_expand_definition.specs.Nodes.{Forest, Node, join}
 use Rattle.yv_expand_definition.specs.Paths.{at, Leads, path_of}

@@ -1,5 +1,3 @@
-pub mod TreeExistence
-pub mod FileExpansion
 pub mod PathEnds
 pub mod GivenNodeUniqueness
 pub mod Meaning

@@ -5,7 +5,7 @@ use Rattle.std.proofs.lemmas.Bool.{false≢true}
 use Rattle.yv_link_scopes.specs.Files.{Files}
 use Rattle.yv_link_scopes.specs.RowList.{rows_of}
 use Rattle.yv_link_scopes.specs.Rows.{Row}
-use Rattle.yv_expand.specs.StatementBlocks.{is_node_or_uses}
+use Rattle.yv_expand_statements.specs.StatementBlocks.{is_node_or_uses}
 use Rattle.yv_expand_definition.specs.Gives.{Gives, Product, Reaches, nothing}
 use Rattle.yv_expand_definition.specs.Gives.Gives.{no_statements, other, one_node, operation, uses}
 use Rattle.yv_expand_definition.specs.Nodes.{Forest, Node, nodes_given, insert, is_later, join, node, none}

@@ -1,6 +1,6 @@
 -- A path leads to an end, or to none.
 use Rattle.std.proofs.Common.{◌≡◌, refl, ◌⊎◌, inl, inr, Bool, true, false, List, [], ◌∷◌}
-use Rattle.yv_expand_rounds.specs.Kinds.{is_choice}
+use Rattle.yv_expand_statements.specs.Kinds.{is_choice}
 use Rattle.yv_expand_definition.specs.Nodes.{Forest, Node, none, node, join}
 use Rattle.yv_expand_definition.specs.Paths.{Leads, Step, End, answers, at, is_shorthand, shorthand_case}
 use Rattle.yv_expand_definition.specs.Paths.Leads.{past, to, into, to_case, into_case}

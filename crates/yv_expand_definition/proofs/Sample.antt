@@ -3,8 +3,8 @@
 -- /a:t/b:p, the second a leaf s to /a:t/b:p/b:x, and the third a container p with a container x to
 -- /a:t. In the first round only the third is applied. File 0 is that of a, and file 1 is that of b.
 use Rattle.std.specs.Prelude.{refl, ℕ, false, List, [], ◌∷◌, Option, Some, None, codes}
-use Rattle.yv_expand.specs.declared.origin.Origin.TheVariants.{Statement}
-use Rattle.yv_expand_rounds.specs.declared.statement_kind.StatementKind.TheVariants as kind
+use Rattle.yv_expand_statements.specs.declared.origin.Origin.TheVariants.{Statement}
+use Rattle.yv_expand_statements.specs.declared.statement_kind.StatementKind.TheVariants as kind
 use Rattle.yv_expand_definition.specs.Nodes.{Forest, Node, none, node, nodes_given, insert}
 use Rattle.yv_expand_definition.specs.Paths.{Leads, Step, at}
 

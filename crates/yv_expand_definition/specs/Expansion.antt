@@ -5,7 +5,7 @@ use Rattle.yv_link_scopes.specs.Files.{Briefs, Files, brief_of, module_file_at}
 use Rattle.yv_link_scopes.specs.RowList.{rows_of}
 use Rattle.yv_link_scopes.specs.Rows.{Row}
 use Rattle.yv_link_definitions.specs.Refers.{RefersTo, is_uses}
-use Rattle.yv_expand.specs.StatementBlocks.{top_of, augments_of}
+use Rattle.yv_expand_statements.specs.StatementBlocks.{top_of, augments_of}
 use Rattle.yv_expand_definition.specs.Gives.{Gives, Product, both, nothing}
 use Rattle.yv_expand_definition.specs.Rounds.{Rounds}
 

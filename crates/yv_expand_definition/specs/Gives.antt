@@ -8,15 +8,15 @@ use Rattle.yv_link_scopes.specs.Files.{Files, brief_of}
 use Rattle.yv_link_scopes.specs.RowList.{rows_of, statements_of}
 use Rattle.yv_link_scopes.specs.Rows.{Row}
 use Rattle.yv_link_definitions.specs.Refers.{RefersTo, is_uses}
-use Rattle.yv_expand_paths.specs.Names.{node_name}
-use Rattle.yv_expand.specs.StatementBlocks.{block_of, input_of, is_augment, is_node_or_uses, is_operation, output_of, part, part_block, those, is_refine}
-use Rattle.yv_expand.specs.Origin.{number_of}
-use Rattle.yv_expand.specs.declared.origin.Origin.{Origin}
-use Rattle.yv_expand.specs.declared.origin.Origin.TheVariants.{Statement, Input, Output}
-use Rattle.yv_expand_rounds.specs.declared.statement_kind.StatementKind.{StatementKind}
-use Rattle.yv_expand_rounds.specs.declared.statement_kind.StatementKind.TheVariants as kind
-use Rattle.yv_expand_rounds.specs.Kinds.{may_be_target, kind_of_keyword, takes}
-use Rattle.yv_expand_changes.specs.AllowedRefines.{is_some_fit}
+use Rattle.yv_expand_statements.specs.Names.{node_name}
+use Rattle.yv_expand_statements.specs.StatementBlocks.{block_of, input_of, is_augment, is_node_or_uses, is_operation, output_of, part, part_block, those, is_refine}
+use Rattle.yv_expand_statements.specs.Origin.{number_of}
+use Rattle.yv_expand_statements.specs.declared.origin.Origin.{Origin}
+use Rattle.yv_expand_statements.specs.declared.origin.Origin.TheVariants.{Statement, Input, Output}
+use Rattle.yv_expand_statements.specs.declared.statement_kind.StatementKind.{StatementKind}
+use Rattle.yv_expand_statements.specs.declared.statement_kind.StatementKind.TheVariants as kind
+use Rattle.yv_expand_statements.specs.Kinds.{may_be_target, kind_of_keyword, takes}
+use Rattle.yv_expand_statements.specs.AllowedRefines.{is_some_fit}
 use Rattle.yv_expand_definition.specs.Nodes.{Node, Forest, none, node, join}
 use Rattle.yv_expand_definition.specs.Paths.{End, at, Leads, LeadsNowhere, path_of}
 

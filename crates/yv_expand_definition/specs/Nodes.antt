@@ -1,9 +1,9 @@
 -- The nodes of a schema as a tree, before any condition is asked (RFC 7950, sections 3, 7.12, 7.13
 -- and 7.17).
 use Rattle.std.specs.Prelude.{ℕ, nat_lt, Bool, false, List, ◌∷◌, ◌++◌, Option, Some, None, if◌then◌else◌}
-use Rattle.yv_expand_rounds.specs.declared.statement_kind.StatementKind.{StatementKind}
-use Rattle.yv_expand.specs.declared.origin.Origin.{Origin}
-use Rattle.yv_expand.specs.Origin.{number_of}
+use Rattle.yv_expand_statements.specs.declared.statement_kind.StatementKind.{StatementKind}
+use Rattle.yv_expand_statements.specs.declared.origin.Origin.{Origin}
+use Rattle.yv_expand_statements.specs.Origin.{number_of}
 
 -- a node: the numbered statement that gives it (of an operation's part that isn't written, the
 -- operation), the uses and augments round this, innermost first; the file of the module to which it

@@ -5,8 +5,8 @@ use Rattle.yv_link_scopes.specs.Files.{Files, brief_of}
 use Rattle.yv_link_scopes.specs.RowList.{rows_of}
 use Rattle.yv_link_scopes.specs.Names.{local_of}
 use Rattle.yv_link_scopes.specs.Rows.{Row, name_in}
-use Rattle.yv_expand_paths.specs.Paths.{module_file_of, steps_of}
-use Rattle.yv_expand_rounds.specs.Kinds.{is_case, is_choice}
+use Rattle.yv_expand_statements.specs.Paths.{module_file_of, steps_of}
+use Rattle.yv_expand_statements.specs.Kinds.{is_case, is_choice}
 use Rattle.yv_expand_definition.specs.Nodes.{Node, Forest, none, node, join}
 
 -- a step: the file of its module, and its name; no file where its prefix refers to no module

@@ -9,12 +9,12 @@ use Rattle.yv_text_statement.specs.Selection.{ModuleChoice}
 use Rattle.yv_link_scopes.specs.Files.{Files}
 use Rattle.yv_link_scopes.specs.RowList.{rows_of}
 use Rattle.yv_link_scopes.specs.Rows.{Row}
-use Rattle.yv_expand.specs.Origin.{number_of}
-use Rattle.yv_expand_rounds.specs.Kinds.{is_container, is_operation_or_notification}
+use Rattle.yv_expand_statements.specs.Origin.{number_of}
+use Rattle.yv_expand_statements.specs.Kinds.{is_container, is_operation_or_notification}
 use Rattle.yv_node_properties.specs.Marks.{is_mandatory, stated_of}
 use Rattle.yv_node_properties.specs.Properties.{last_said, statements_of_origin}
 use Rattle.yv_node_properties.specs.declared.properties.StatedProperties.{StatedProperties}
-use Rattle.yv_expand_tree.specs.FileOrder.{marks_of, order_of}
+use Rattle.yv_expand_statements.specs.FileOrder.{marks_of, order_of}
 use Rattle.yv_expand_definition.specs.Nodes.{Node, Forest, none, node}
 use Rattle.yv_expand_definition.specs.Expansion.{Expand}
 use Rattle.yv_expand_definition.specs.Gives.{Product, Wrong}

@@ -5,7 +5,7 @@ use Rattle.yv_text_statement.specs.Selection.{ModuleChoice}
 use Rattle.yv_link_scopes.specs.Files.{Files}
 use Rattle.yv_link_scopes.specs.RowList.{rows_of}
 use Rattle.yv_link_features.specs.On.{AllHoldBy, Holds}
-use Rattle.yv_expand_tree.specs.FileOrder.{marks_of, order_of}
+use Rattle.yv_expand_statements.specs.FileOrder.{marks_of, order_of}
 use Rattle.yv_expand_definition.specs.Nodes.{Forest, none, node, if_feature_statements}
 use Rattle.yv_expand_definition.specs.Expansion.{Expand}
 use Rattle.yv_expand_definition.specs.Gives.{Product}

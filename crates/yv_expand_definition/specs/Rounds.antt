@@ -4,7 +4,7 @@ use Rattle.yv_text_statement.specs.declared.refusal.Code.TheVariants as code
 use Rattle.yv_link_scopes.specs.Files.{Files, brief_of, module_file_at}
 use Rattle.yv_link_scopes.specs.RowList.{rows_of}
 use Rattle.yv_link_scopes.specs.Rows.{Row}
-use Rattle.yv_expand.specs.StatementBlocks.{block_of}
+use Rattle.yv_expand_statements.specs.StatementBlocks.{block_of}
 use Rattle.yv_expand_definition.specs.Nodes.{Node, Forest, nodes_given, insert}
 use Rattle.yv_expand_definition.specs.Paths.{End}
 use Rattle.yv_expand_definition.specs.Gives.{Gives, Product, Misses, PathLeads, PathLeadsNowhere, Reaches, add_block, add_refusal}

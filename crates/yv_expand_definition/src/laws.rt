@@ -1,10 +1,10 @@
 //! Laws about the definitions only. These functions do nothing: the contract of each is the law.
-ghost use Rattle.std.specs.{Prelude.{◌≡◌, ◌<◌, ℕ, Bool, false, List, Some, map, slice_get}, List.{Contains}};
+ghost use Rattle.std.specs.{Prelude.{◌≡◌, ◌<◌, ℕ, Bool, false, List, Some, slice_get}, List.{Contains}};
 ghost use Rattle.yv_text_statement.specs.{Order.{refusal_at}, declared.refusal.Refusal.{Refusal}, Selection.{ModuleChoice}};
-ghost use Rattle.yv_link_scopes.specs.{Files.{Files, brief_of}, RowList.{rows_of}, Rows.{Row}};
-ghost use Rattle.yv_expand.specs.{Expands.{Expands}, StatementBlocks.{is_node_or_uses}, Expansion.{IsWhole}, Tree.{Item, Tree}};
-ghost use Rattle.yv_expand_tree.specs.FileOrder.{marks_of, order_of};
-ghost use Rattle.yv_expand_definition.specs.{Expansion.{AllRefer, AreMarked, Expand}, Gives.{Gives, Product, Reaches, Wrong, nothing}, Remains.{AreNodes}, Nodes.{Forest, Node, nodes_given, insert, join, none}, Paths.{End, Leads, Step, at, node_at_end}, Refusals.{BadExpanded, IsWrong}};
+ghost use Rattle.yv_link_scopes.specs.{Files.{Files}, RowList.{rows_of}, Rows.{Row}};
+ghost use Rattle.yv_expand_statements.specs.StatementBlocks.{is_node_or_uses};
+ghost use Rattle.yv_expand_statements.specs.FileOrder.{marks_of, order_of};
+ghost use Rattle.yv_expand_definition.specs.{Expansion.{Expand}, Gives.{Gives, Product, Reaches, Wrong, nothing}, Remains.{AreNodes}, Nodes.{Forest, Node, nodes_given, insert, join, none}, Paths.{End, Leads, Step, at, node_at_end}, Refusals.{BadExpanded, IsWrong}};
 
 /// A path leads to one node, with what is below it, or to a case that is left out; one exchange
 /// there makes one tree, and any exchange makes one (RFC 7950, section 6.5).
@@ -41,25 +41,6 @@ pub fn files_expand_to_one_tree()
 {
     yv_link_scopes::laws::a_name_means_one_thing();
 }
-
-/// Statements that have an expansion give a tree, where each uses refers to a grouping: in any
-/// module, and under any uses and augments (RFC 7950, sections 7.12 to 7.17).
-pub fn what_expands_gives_a_tree()
-    ensures { (files : Files) (numbers : List ℕ) (t : Tree)
-        → AllRefer (map brief_of files) (rows_of files)
-        → Expands (map brief_of files) (rows_of files) numbers t
-        → (module_file : ℕ) (under : List ℕ)
-        → (m : Product) × Gives files module_file under numbers m }
-{}
-
-/// Files that have an expansion expand to a tree, where each uses refers to a grouping and all
-/// files of the order are marked: each path leads to an end or to none, and the rounds of augments
-/// come to an end (RFC 7950, sections 7.12 to 7.17).
-pub fn files_expand_to_a_tree()
-    ensures { (files : Files) (marks : List Bool) (order : List ℕ) (own : ℕ) (items : List Item)
-        → AllRefer (map brief_of files) (rows_of files) → AreMarked marks order
-        → IsWhole files marks order own items → (m : Product) × Expand files marks order m }
-{}
 
 /// What two augments of modules give to one node is in one order, whichever of them is applied
 /// first (RFC 7950, section 7.17).

@@ -4,11 +4,11 @@ use Rattle.std.proofs.Common.{◌⊎◌, inl, inr, ◌≡◌, ℕ, ◌+◌, ◌<
 use Rattle.std.specs.List.{Contains}
 use Rattle.std.specs.Str.{bytes_eq}
 use Rattle.std.proofs.lemmas.Bool.{false≢true}
-use Rattle.yv_expand_rounds.specs.declared.statement_kind.StatementKind.{StatementKind}
+use Rattle.yv_expand_statements.specs.declared.statement_kind.StatementKind.{StatementKind}
 use Rattle.yv_expand_rounds.specs.declared.label.Label.{Label}
 use Rattle.yv_expand_rounds.specs.Groups.{Groups, members_of}
-use Rattle.yv_expand_rounds.specs.Kinds.{is_choice, may_be_target}
-use Rattle.yv_expand_rounds.specs.Kinds as kinds_are
+use Rattle.yv_expand_statements.specs.Kinds.{is_choice, may_be_target}
+use Rattle.yv_expand_statements.specs.Kinds as kinds_are
 use Rattle.yv_expand_definition.specs.Nodes.{Forest, Node, join, none, node}
 use Rattle.yv_expand_definition.specs.Paths.{Leads, Step, answers, at, is_module_file, is_shorthand}
 use Rattle.yv_expand_definition.specs.Paths.Leads.{past, to, into, into_case}

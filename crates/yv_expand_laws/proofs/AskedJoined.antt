@@ -4,7 +4,7 @@ use Rattle.yv_link_scopes.specs.Files.{Files, brief_of}
 use Rattle.yv_link_scopes.specs.RowList.{rows_of}
 use Rattle.yv_expand.specs.Tree.{Item, all_of, count}
 use Rattle.yv_expand.specs.Expansion.{IsWhole}
-use Rattle.yv_expand.specs.StatementBlocks.{augments_of}
+use Rattle.yv_expand_statements.specs.StatementBlocks.{augments_of}
 use Rattle.yv_expand_rounds.specs.declared.label.Label.{Label}
 use Rattle.yv_expand_rounds.specs.Groups.{group_of_augment}
 use Rattle.yv_expand_rounds.specs.Tree.{IsTree, Tree, tree_list}

@@ -11,17 +11,17 @@ use Rattle.yv_link_scopes.specs.Files.{Briefs, Files, brief_of}
 use Rattle.yv_link_scopes.specs.RowList.{rows_of}
 use Rattle.yv_link_scopes.specs.Rows.{Row}
 use Rattle.yv_link_definitions.specs.Refers as refers
-use Rattle.yv_expand.specs.StatementBlocks.{given_at, block_of, top_of, augments_of, first_of, input_of, is_at, is_augment, is_input, is_node_or_uses, is_operation, is_output, output_of, part, part_block, those}
-use Rattle.yv_expand.specs.Units.{operations}
+use Rattle.yv_expand_statements.specs.StatementBlocks.{given_at, block_of, top_of, augments_of, first_of, input_of, is_at, is_augment, is_input, is_node_or_uses, is_operation, is_output, output_of, part, part_block, those}
+use Rattle.yv_expand_statements.specs.Units.{operations}
 use Rattle.yv_expand.specs.Tree.{Item, Tree, all_of, count, item, join, item_list, none}
-use Rattle.yv_expand.specs.declared.origin.Origin.{Origin}
-use Rattle.yv_expand.specs.declared.origin.Origin.TheVariants.{Input, Output, Statement}
+use Rattle.yv_expand_statements.specs.declared.origin.Origin.{Origin}
+use Rattle.yv_expand_statements.specs.declared.origin.Origin.TheVariants.{Input, Output, Statement}
 use Rattle.yv_expand.specs.Expansion.{IsWhole}
 use Rattle.yv_expand.specs.Expands.{Expands}
 use Rattle.yv_expand.specs.Expands.Expands.{nothing, other, node, operation, uses}
-use Rattle.yv_expand_rounds.specs.declared.statement_kind.StatementKind.TheVariants as kind
+use Rattle.yv_expand_statements.specs.declared.statement_kind.StatementKind.TheVariants as kind
 use Rattle.yv_expand_uses.specs.Kinds.{kind_at, kind_of}
-use Rattle.yv_expand_rounds.specs.Kinds.{kind_of_keyword, takes}
+use Rattle.yv_expand_statements.specs.Kinds.{kind_of_keyword, takes}
 use Rattle.yv_expand_augments.specs.Placement.{augment_around, augment_at}
 use Rattle.yv_expand_tree.proofs.NodePositions.{in_first, in_lists, in_second}
 use Rattle.yv_expand_laws.proofs.OuterConditions.{IsBelow, block_below, top_below}

@@ -6,8 +6,8 @@ use Rattle.std.proofs.lemmas.Bool.{false≢true}
 use Rattle.std.proofs.lemmas.Option.{same_Some}
 use Rattle.yv_link_scopes.specs.Rows.{Row}
 use Rattle.yv_base_tables.specs.Families.{is_place, numbers_from}
-use Rattle.yv_expand.specs.StatementBlocks.{block_of, stands_in, is_at, is_augment, those, is_refine}
-use Rattle.yv_expand.specs.StatementBlocks as blocks
+use Rattle.yv_expand_statements.specs.StatementBlocks.{block_of, stands_in, is_at, is_augment, those, is_refine}
+use Rattle.yv_expand_statements.specs.StatementBlocks as blocks
 use Rattle.yv_expand_uses.specs.AugmentOrder.{augments_giving, giving_from, giving_places, gives, is_giving, is_in, item_places, ordinal, place_before}
 use Rattle.yv_expand_uses.specs.AugmentOrder as augmented
 use Rattle.yv_expand_uses.specs.RefineTargets.{refines_in}

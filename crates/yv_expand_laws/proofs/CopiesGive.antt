@@ -17,7 +17,7 @@ use Rattle.yv_expand_uses.specs.AugmentOrder.{augments_giving, is_giving}
 use Rattle.yv_expand_augments.specs.Augmentation.{AreAugmented, placement, placed_from, turns}
 use Rattle.yv_expand_uses.specs.Paths.{module_paths}
 use Rattle.yv_expand_uses.specs.InnerLayout.{AreLaid, Fits}
-use Rattle.yv_expand_rounds.specs.Kinds.{is_uses}
+use Rattle.yv_expand_statements.specs.Kinds.{is_uses}
 use Rattle.yv_expand_uses.specs.Spots.{LayoutView, Whole, copies_of, copy_group, labels_of, layout_of}
 use Rattle.yv_expand_uses.specs.AugmentOrder.{augments_in}
 use Rattle.yv_expand_augments.specs.MissingTargets.{next_number}

@@ -20,7 +20,7 @@ use Rattle.yv_expand_uses.specs.AugmentOrder.{augments_giving, is_giving}
 use Rattle.yv_expand_augments.specs.Augmentation.{copy_turn, last_of, placement, placed_from, turns, turns_from}
 use Rattle.yv_expand_uses.specs.Paths.{module_paths, path_in}
 use Rattle.yv_expand_uses.specs.InnerLayout.{AreLaid}
-use Rattle.yv_expand_rounds.specs.Kinds.{is_uses}
+use Rattle.yv_expand_statements.specs.Kinds.{is_uses}
 use Rattle.yv_expand_uses.specs.Spots.{LayoutView, Whole, copies_of, labels_of, layout_of, laid_from, one_more, spot_of}
 use Rattle.yv_expand_augments.specs.MissingTargets.{after_turns, had_turns, next_number}
 use Rattle.yv_expand_uses.specs.AugmentOrder.{augments_in}

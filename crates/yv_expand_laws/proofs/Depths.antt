@@ -7,22 +7,22 @@ use Rattle.std.proofs.lemmas.Option.{same_Some, slice_get-map, slice_get_within}
 use Rattle.yv_text_statement.specs.declared.refusal.Refusal.{Refusal}
 use Rattle.yv_link_scopes.specs.Files.{Files, brief_of}
 use Rattle.yv_link_scopes.specs.RowList.{rows_of}
-use Rattle.yv_expand.specs.Origin.{number_of}
+use Rattle.yv_expand_statements.specs.Origin.{number_of}
 use Rattle.yv_expand.specs.Tree.{Item}
 use Rattle.yv_expand_rounds.specs.declared.label.Label.{Label}
 use Rattle.yv_expand_rounds.specs.declared.row.ItemRow.{ItemRow}
 use Rattle.yv_expand_rounds.specs.Groups.{Groups}
-use Rattle.yv_expand_rounds.specs.Kinds as kinds_are
+use Rattle.yv_expand_statements.specs.Kinds as kinds_are
 use Rattle.yv_expand_rounds.specs.Placements.{StandOnce}
 use Rattle.yv_expand_rounds.specs.Tree.{IsTree, Tree, item, tree_list}
 use Rattle.yv_expand_rounds.specs.Tree as by_number
 use Rattle.yv_expand_augments.specs.Refusals.{TooDeep}
 use Rattle.yv_expand_augments.specs.Augmentation.{AreAugmented}
-use Rattle.yv_expand_rounds.specs.Kinds.{is_uses}
+use Rattle.yv_expand_statements.specs.Kinds.{is_uses}
 use Rattle.yv_expand_uses.specs.Spots.{Whole, labels_of, layout_of, whole}
 use Rattle.yv_expand_uses.specs.declared.spot.Spot.{Spot}
 use Rattle.yv_expand_tree.specs.Final.{spots_of, final_items}
-use Rattle.yv_expand_tree.specs.FileOrder.{marks_of}
+use Rattle.yv_expand_statements.specs.FileOrder.{marks_of}
 use Rattle.yv_expand_tree.proofs.NodePositions.{Every, every_row, in_first, in_lists, in_second}
 use Rattle.yv_expand_definition.specs.Nodes.{Forest, Node, node}
 use Rattle.yv_expand_definition.specs.Refusals.{Stands, here, under, later}

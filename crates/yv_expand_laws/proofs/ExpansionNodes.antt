@@ -4,13 +4,13 @@ use Rattle.std.specs.List.{slice_get}
 use Rattle.std.proofs.lemmas.Option.{same_Some}
 use Rattle.yv_link_scopes.specs.Files.{Files}
 use Rattle.yv_link_scopes.specs.Rows.{Row}
-use Rattle.yv_expand.specs.Origin.{number_of}
+use Rattle.yv_expand_statements.specs.Origin.{number_of}
 use Rattle.yv_expand.specs.Tree.{Item, all_of, join}
-use Rattle.yv_expand.specs.declared.origin.Origin.TheVariants.{Statement}
-use Rattle.yv_expand_rounds.specs.declared.statement_kind.StatementKind.TheVariants as kind
+use Rattle.yv_expand_statements.specs.declared.origin.Origin.TheVariants.{Statement}
+use Rattle.yv_expand_statements.specs.declared.statement_kind.StatementKind.TheVariants as kind
 use Rattle.yv_expand_rounds.specs.declared.label.Label.{Label}
 use Rattle.yv_expand_rounds.specs.Order.{is_given}
-use Rattle.yv_expand_rounds.specs.Kinds.{is_uses}
+use Rattle.yv_expand_statements.specs.Kinds.{is_uses}
 use Rattle.yv_expand_uses.specs.Kinds.{kind_of}
 use Rattle.yv_expand_augments.specs.RefineMeanings.{refined_all}
 use Rattle.yv_expand_uses.specs.Spots.{Whole, labels_of, layout_of, spot_at}

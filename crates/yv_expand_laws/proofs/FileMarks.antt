@@ -11,7 +11,7 @@ use Rattle.yv_text_statement.specs.Tree.{Tree, trees}
 use Rattle.yv_text_statement.specs.Selection.{ModuleChoice, is_implemented}
 use Rattle.yv_base_tables.specs.Families.{is_place, numbers_at, numbers_from}
 use Rattle.yv_link_scopes.specs.Files.{Brief, Briefs, Files, brief_of, first_name, has_word, module_file_at, module_file_in, is_module, module_name, file_named, tree_name}
-use Rattle.yv_expand_tree.specs.FileOrder.{is_given, marks_of, order_from, order_of, part_places, places_from}
+use Rattle.yv_expand_statements.specs.FileOrder.{is_given, marks_of, order_from, order_of, part_places, places_from}
 use Rattle.yv_expand_laws.proofs.BlockStatements.{left_is, right_is}
 use Rattle.yv_expand_laws.proofs.FoundItems.{not_none}
 use Rattle.yv_expand_laws.proofs.FrameSequences.{nothing_stands}

@@ -8,7 +8,7 @@ use Rattle.yv_expand_rounds.specs.Tree.{IsTree}
 use Rattle.yv_expand_rounds.specs.Turns.{State}
 use Rattle.yv_expand_augments.specs.Augmentation.{AreAugmented}
 use Rattle.yv_expand_uses.specs.Spots.{Whole, labels_of, layout_of, whole}
-use Rattle.yv_expand_tree.specs.FileOrder.{marks_of, order_of}
+use Rattle.yv_expand_statements.specs.FileOrder.{marks_of, order_of}
 use Rattle.yv_expand_definition.proofs.GivenNodeUniqueness.{RefersToOne}
 use Rattle.yv_expand_laws.specs.Files.{expansion_of, labels_in}
 use Rattle.yv_expand_laws.specs.FinalTree.{FinalTreeShows}

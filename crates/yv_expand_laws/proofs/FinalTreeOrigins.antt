@@ -23,7 +23,7 @@ use Rattle.yv_expand_rounds.specs.Turns.{State, give, is_applied, is_some, is_so
 use Rattle.yv_expand_uses.specs.AugmentOrder.{augments_giving}
 use Rattle.yv_expand_augments.specs.Augmentation.{copy_turn, last_of, placement, placed_from, turns_from}
 use Rattle.yv_expand_uses.specs.Paths.{module_paths, path_in}
-use Rattle.yv_expand_rounds.specs.Kinds.{is_uses}
+use Rattle.yv_expand_statements.specs.Kinds.{is_uses}
 use Rattle.yv_expand_uses.specs.Spots.{LayoutView, Whole, labels_of, layout_of, laid_from, one_more, spot_of}
 use Rattle.yv_expand_uses.specs.declared.spot.Spot.{Spot}
 use Rattle.yv_expand_augments.proofs.ItemEntry.{whole_entered}

@@ -12,18 +12,18 @@ use Rattle.yv_link_scopes.specs.Files.{Files, brief_of}
 use Rattle.yv_link_scopes.specs.RowList.{rows_of}
 use Rattle.yv_link_scopes.specs.Rows.{Row}
 use Rattle.yv_expand.specs.Tree.{Item}
-use Rattle.yv_expand.specs.declared.origin.Origin.{Origin}
+use Rattle.yv_expand_statements.specs.declared.origin.Origin.{Origin}
 use Rattle.yv_expand.specs.Expansion.{IsWhole}
-use Rattle.yv_expand_rounds.specs.declared.statement_kind.StatementKind.{StatementKind}
+use Rattle.yv_expand_statements.specs.declared.statement_kind.StatementKind.{StatementKind}
 use Rattle.yv_expand_rounds.specs.declared.label.Label.{Label}
 use Rattle.yv_expand_rounds.specs.declared.row.ItemRow.{ItemRow}
-use Rattle.yv_expand_rounds.specs.Kinds as kinds_are
+use Rattle.yv_expand_statements.specs.Kinds as kinds_are
 use Rattle.yv_expand_rounds.specs.Tree.{IsTree, Tree, item, tree_list}
 use Rattle.yv_expand_rounds.specs.Tree as by_number
 use Rattle.yv_expand_uses.specs.Ends.{end_at}
 use Rattle.yv_expand_augments.specs.Augmentation.{AreAugmented}
 use Rattle.yv_expand_augments.specs.MandatoryNodes.{Around, ImposesMandatory, MarksView, source_of, inside, is_container_without, is_given, is_some_operation, nothing_around}
-use Rattle.yv_expand_rounds.specs.Kinds.{is_container, is_operation_or_notification, is_uses}
+use Rattle.yv_expand_statements.specs.Kinds.{is_container, is_operation_or_notification, is_uses}
 use Rattle.yv_expand_augments.specs.MandatoryNodes as by_item
 use Rattle.yv_expand_uses.specs.Kinds.{kind_of}
 use Rattle.yv_expand_augments.specs.RefineMeanings.{refined_all}
@@ -36,7 +36,7 @@ use Rattle.yv_node_properties.specs.Properties.{last_said, statements_of_origin}
 use Rattle.yv_node_properties.specs.declared.properties.StatedProperties.{StatedProperties}
 use Rattle.yv_expand_changes.specs.Properties.{said_of_all, told_of}
 use Rattle.yv_expand_changes.specs.Properties as marked
-use Rattle.yv_expand_tree.specs.FileOrder.{marks_of, order_of}
+use Rattle.yv_expand_statements.specs.FileOrder.{marks_of, order_of}
 use Rattle.yv_expand_tree.proofs.NodePositions.{Every, every_row}
 use Rattle.yv_expand_definition.specs.Nodes.{Forest, Node, node}
 use Rattle.yv_expand_definition.specs.Nodes as nodes

@@ -15,14 +15,14 @@ use Rattle.yv_link_scopes.specs.declared.kind.NameKind.TheVariants.{Prefix, Incl
 use Rattle.yv_link_definitions.specs.BuiltIn.{is_built_in}
 use Rattle.yv_text_statement.specs.Words.{is_among}
 use Rattle.yv_link_definitions.specs.Refers.{RefersTo, is_type, is_uses, names_definition}
-use Rattle.yv_expand.specs.Units.{nodes, operations}
-use Rattle.yv_expand.specs.StatementBlocks.{block_of, input_of, is_at, is_augment, is_input, is_node_or_uses, is_operation, is_output, output_of, part, is_refine}
-use Rattle.yv_expand.specs.declared.origin.Origin.TheVariants.{Input, Output}
-use Rattle.yv_expand_rounds.specs.Kinds.{is_node, kind_of_keyword}
-use Rattle.yv_expand_rounds.specs.declared.statement_kind.StatementKind.{StatementKind}
-use Rattle.yv_expand_rounds.specs.declared.statement_kind.StatementKind.TheVariants as kind
+use Rattle.yv_expand_statements.specs.Units.{nodes, operations}
+use Rattle.yv_expand_statements.specs.StatementBlocks.{block_of, input_of, is_at, is_augment, is_input, is_node_or_uses, is_operation, is_output, output_of, part, is_refine}
+use Rattle.yv_expand_statements.specs.declared.origin.Origin.TheVariants.{Input, Output}
+use Rattle.yv_expand_statements.specs.Kinds.{is_node, kind_of_keyword}
+use Rattle.yv_expand_statements.specs.declared.statement_kind.StatementKind.{StatementKind}
+use Rattle.yv_expand_statements.specs.declared.statement_kind.StatementKind.TheVariants as kind
 use Rattle.yv_expand_uses.specs.Kinds as kinds
-use Rattle.yv_expand_rounds.specs.Kinds as kinds_are
+use Rattle.yv_expand_statements.specs.Kinds as kinds_are
 use Rattle.yv_expand_laws.specs.ItemProperties.{name_at, name_of}
 use Rattle.yv_expand_laws.proofs.BlockStatements.{first_passes, row_at}
 

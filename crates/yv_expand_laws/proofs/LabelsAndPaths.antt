@@ -11,20 +11,20 @@ use Rattle.yv_link_scopes.specs.Files.{Files, brief_of}
 use Rattle.yv_link_scopes.specs.RowList.{rows_of}
 use Rattle.yv_link_scopes.specs.Names.{local_of}
 use Rattle.yv_link_scopes.specs.Rows.{Row, name_in}
-use Rattle.yv_expand_paths.specs.Names.{node_name}
+use Rattle.yv_expand_statements.specs.Names.{node_name}
 use Rattle.yv_expand_paths.specs.InnerNameNumbers.{qualified_name}
 use Rattle.yv_expand_paths.specs.InnerNameNumbers as name_numbers
-use Rattle.yv_expand_paths.specs.Paths.{module_file_of, steps_of}
+use Rattle.yv_expand_statements.specs.Paths.{module_file_of, steps_of}
 use Rattle.yv_expand_paths.specs.InnerSteps.{path_at, step_number, step_of}
 use Rattle.yv_expand_paths.specs.declared.step.SchemaStep.{SchemaStep as NumberedStep}
 use Rattle.yv_expand_paths.proofs.StepNumbers.{input_there, number_there, number_within, output_there, step_is}
-use Rattle.yv_expand.specs.Origin.{number_of}
+use Rattle.yv_expand_statements.specs.Origin.{number_of}
 use Rattle.yv_expand.specs.Tree.{Item}
-use Rattle.yv_expand.specs.declared.origin.Origin.{Origin}
-use Rattle.yv_expand.specs.declared.origin.Origin.TheVariants.{Statement, Input, Output}
+use Rattle.yv_expand_statements.specs.declared.origin.Origin.{Origin}
+use Rattle.yv_expand_statements.specs.declared.origin.Origin.TheVariants.{Statement, Input, Output}
 use Rattle.yv_expand_rounds.specs.declared.label.Label.{Label}
 use Rattle.yv_expand_rounds.specs.Labels.{is_named, is_some_named}
-use Rattle.yv_expand_rounds.specs.Kinds as kinds_are
+use Rattle.yv_expand_statements.specs.Kinds as kinds_are
 use Rattle.yv_expand_uses.specs.Paths.{step_name}
 use Rattle.yv_expand_uses.specs.Kinds.{label_of, name_number}
 use Rattle.yv_expand_uses.specs.Spots.{LayoutView, Whole, source_in, labels_of, layout_of, laid_from, one_more, spot_of, whole}

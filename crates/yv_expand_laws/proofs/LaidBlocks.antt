@@ -5,17 +5,17 @@ use Rattle.std.proofs.lemmas.List.{append-nil}
 use Rattle.std.proofs.lemmas.Bool.{false≢true}
 use Rattle.std.proofs.lemmas.Option.{same_Some}
 use Rattle.yv_link_scopes.specs.Rows.{Row}
-use Rattle.yv_expand.specs.Origin.{number_of}
+use Rattle.yv_expand_statements.specs.Origin.{number_of}
 use Rattle.yv_expand.specs.Tree.{Item, Tree, count, item, join, item_list, none}
-use Rattle.yv_expand.specs.declared.origin.Origin.{Origin}
-use Rattle.yv_expand.specs.declared.origin.Origin.TheVariants.{Statement, Input, Output}
+use Rattle.yv_expand_statements.specs.declared.origin.Origin.{Origin}
+use Rattle.yv_expand_statements.specs.declared.origin.Origin.TheVariants.{Statement, Input, Output}
 use Rattle.yv_link_definitions.specs.Refers as refers
 use Rattle.yv_link_definitions.specs.Refers.{RefersTo}
-use Rattle.yv_expand.specs.StatementBlocks.{block_of, first_of, input_of, is_at, is_input, is_node_or_uses, is_operation, is_output, output_of, part, part_block}
+use Rattle.yv_expand_statements.specs.StatementBlocks.{block_of, first_of, input_of, is_at, is_input, is_node_or_uses, is_operation, is_output, output_of, part, part_block}
 use Rattle.yv_expand_rounds.specs.declared.label.Label.{Label}
 use Rattle.yv_expand_uses.specs.AugmentOrder.{augments_giving}
 use Rattle.yv_expand_uses.specs.Paths.{path_in}
-use Rattle.yv_expand_rounds.specs.Kinds.{is_uses}
+use Rattle.yv_expand_statements.specs.Kinds.{is_uses}
 use Rattle.yv_expand_uses.specs.Kinds.{kind_at, kind_of}
 use Rattle.yv_expand_uses.specs.Spots.{LayoutView, Whole, copies_of, group_below, laid_from, spot_at, spot_of, used_group}
 use Rattle.yv_expand_uses.specs.declared.spot.Spot.{Spot}

@@ -13,7 +13,7 @@ use Rattle.yv_link_scopes.specs.RowList.{rows_of}
 use Rattle.yv_link_scopes.specs.Rows.{Row, name_in}
 use Rattle.yv_link_features.specs.Refusals.{BadFeatures}
 use Rattle.yv_link_features.specs.On.{AllHoldBy, Holds, is_if_feature_of}
-use Rattle.yv_expand.specs.Origin.{number_of}
+use Rattle.yv_expand_statements.specs.Origin.{number_of}
 use Rattle.yv_expand_rounds.specs.Tree.{Tree, item, none as no_item}
 use Rattle.yv_expand_augments.specs.Remains.{is_left, is_some_uses}
 use Rattle.yv_base_graph.specs.Marks.{is_marked}
@@ -23,9 +23,9 @@ use Rattle.yv_expand_augments.specs.RefineMeanings.{refined_all}
 use Rattle.yv_expand_uses.specs.Spots.{Whole, labels_of, layout_of, whole}
 use Rattle.yv_expand_uses.specs.declared.spot.Spot.{Spot}
 use Rattle.yv_expand_changes.specs.Changes.{all_changes}
-use Rattle.yv_expand_changes.specs.Truth.{Truth}
+use Rattle.yv_expand_statements.specs.Truth.{Truth}
 use Rattle.yv_expand_changes.specs.IfFeatures.{item_marks, statement_marks}
-use Rattle.yv_expand_tree.specs.FileOrder.{marks_of, order_of}
+use Rattle.yv_expand_statements.specs.FileOrder.{marks_of, order_of}
 use Rattle.yv_expand_tree.specs.Remains.{nodes_of}
 use Rattle.yv_expand_definition.specs.Remains.{remains}
 use Rattle.yv_expand_definition.specs.Nodes.{Node, if_feature_statements, node}

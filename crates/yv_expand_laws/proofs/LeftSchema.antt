@@ -1,6 +1,6 @@
 -- What is left shows the schema, since files expand to a tree and their items show nodes.
 use Rattle.yv_link_scopes.specs.Files.{Files}
-use Rattle.yv_expand_tree.specs.FileOrder.{marks_of, order_of}
+use Rattle.yv_expand_statements.specs.FileOrder.{marks_of, order_of}
 use Rattle.yv_expand_laws.specs.Files.{ItemsShow}
 use Rattle.yv_expand_laws.specs.LeftSchema.{LeftIsSchema}
 use Rattle.yv_expand_laws.specs.Schema.{LeftShows}

@@ -1,3 +1,5 @@
+pub mod TreeExistence
+pub mod FileExpansion
 pub mod Alike
 pub mod OuterConditions
 pub mod InitialNodes

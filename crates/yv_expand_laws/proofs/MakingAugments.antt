@@ -7,7 +7,7 @@ use Rattle.yv_text_statement.specs.declared.refusal.Code.TheVariants as code
 use Rattle.yv_link_scopes.specs.Files.{Files, brief_of, has_word}
 use Rattle.yv_link_scopes.specs.RowList.{rows_of}
 use Rattle.yv_link_scopes.specs.Rows.{Row}
-use Rattle.yv_expand.specs.StatementBlocks.{block_of, is_augment, is_node_or_uses}
+use Rattle.yv_expand_statements.specs.StatementBlocks.{block_of, is_augment, is_node_or_uses}
 use Rattle.yv_expand.specs.Tree.{Item, Tree, count, join, item_list, none}
 use Rattle.yv_expand_rounds.specs.declared.label.Label.{Label}
 use Rattle.yv_expand_rounds.specs.Groups.{group_of_augment, members_of}
@@ -17,7 +17,7 @@ use Rattle.yv_expand_uses.specs.AugmentOrder.{augments_giving, is_giving, ordina
 use Rattle.yv_expand_uses.specs.Paths.{path_in}
 use Rattle.yv_expand_augments.specs.Augmentation.{placed_from}
 use Rattle.yv_expand_uses.specs.InnerEnds.{is_from_at}
-use Rattle.yv_expand_rounds.specs.Kinds.{is_uses}
+use Rattle.yv_expand_statements.specs.Kinds.{is_uses}
 use Rattle.yv_expand_augments.specs.Placement.{augment_at}
 use Rattle.yv_expand_augments.specs.RefineMeanings.{refined_from}
 use Rattle.yv_expand_uses.specs.Spots.{LayoutView, Whole, copy_group, module_file_below, labels_of, layout_of, laid_from, whole}

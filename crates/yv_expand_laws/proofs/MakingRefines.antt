@@ -9,7 +9,7 @@ use Rattle.yv_link_scopes.specs.Files.{Files, brief_of}
 use Rattle.yv_link_scopes.specs.RowList.{rows_of, statements_of}
 use Rattle.yv_link_scopes.specs.Rows.{Row}
 use Rattle.yv_expand_paths.specs.InnerSteps.{has_path}
-use Rattle.yv_expand.specs.Origin.{number_of}
+use Rattle.yv_expand_statements.specs.Origin.{number_of}
 use Rattle.yv_expand.specs.Tree.{Item}
 use Rattle.yv_expand_rounds.specs.declared.end.End.{End}
 use Rattle.yv_expand_rounds.specs.declared.end.End.TheVariants as end_is
@@ -25,7 +25,7 @@ use Rattle.yv_expand_augments.specs.RefineMeanings.{refined_from}
 use Rattle.yv_expand_uses.specs.Spots.{Whole, labels_of, layout_of, whole}
 use Rattle.yv_expand_uses.specs.declared.spot.Spot.{Spot}
 use Rattle.yv_expand_changes.specs.Changes.{changes, is_change, is_fit_at_item, is_meant}
-use Rattle.yv_expand_changes.specs.AllowedRefines.{is_some_fit}
+use Rattle.yv_expand_statements.specs.AllowedRefines.{is_some_fit}
 use Rattle.yv_expand_refines.specs.Targets.{RefineMeaning}
 use Rattle.yv_expand_definition.specs.Gives.{Product, is_fit, RefinesGive as AreRefined}
 use Rattle.yv_expand_definition.specs.Gives.RefinesGive.{none_left as refined_all, changes as refine_changes, unfit as refine_unfit, without_target as refine_misses}

@@ -12,16 +12,16 @@ use Rattle.yv_link_scopes.specs.Rows.{Row}
 use Rattle.yv_link_definitions.specs.Refers as refers
 use Rattle.yv_link_definitions.specs.Refers.{RefersTo}
 use Rattle.yv_expand_paths.specs.InnerSteps.{has_path}
-use Rattle.yv_expand.specs.StatementBlocks.{block_of, is_at, is_augment, is_node_or_uses, those, is_refine}
+use Rattle.yv_expand_statements.specs.StatementBlocks.{block_of, is_at, is_augment, is_node_or_uses, those, is_refine}
 use Rattle.yv_expand.specs.Tree.{Item, Tree, count, item, join, item_list, none}
-use Rattle.yv_expand.specs.declared.origin.Origin.TheVariants.{Statement}
+use Rattle.yv_expand_statements.specs.declared.origin.Origin.TheVariants.{Statement}
 use Rattle.yv_expand.specs.Expands.{Expands, blocks_of}
 use Rattle.yv_expand.specs.Expands.Expands.{nothing as expands_nothing, other as expands_other, node as expands_node, operation as expands_operation, uses as expands_uses}
-use Rattle.yv_expand_rounds.specs.declared.statement_kind.StatementKind.{StatementKind}
-use Rattle.yv_expand_rounds.specs.declared.statement_kind.StatementKind.TheVariants as kind
+use Rattle.yv_expand_statements.specs.declared.statement_kind.StatementKind.{StatementKind}
+use Rattle.yv_expand_statements.specs.declared.statement_kind.StatementKind.TheVariants as kind
 use Rattle.yv_expand_rounds.specs.declared.label.Label.{Label}
 use Rattle.yv_expand_rounds.specs.Groups.{members_of}
-use Rattle.yv_expand_rounds.specs.Kinds as kinds_are
+use Rattle.yv_expand_statements.specs.Kinds as kinds_are
 use Rattle.yv_expand_rounds.specs.Turns.{State}
 use Rattle.yv_expand_uses.specs.Ends.{end_at, is_above, is_from}
 use Rattle.yv_expand_uses.specs.Ends as ends
@@ -29,7 +29,7 @@ use Rattle.yv_expand_uses.specs.AugmentOrder.{augments_giving, is_giving, ordina
 use Rattle.yv_expand_uses.specs.Paths.{path_in}
 use Rattle.yv_expand_augments.specs.Augmentation.{placed_from}
 use Rattle.yv_expand_uses.specs.InnerEnds.{is_from_at}
-use Rattle.yv_expand_rounds.specs.Kinds.{is_uses}
+use Rattle.yv_expand_statements.specs.Kinds.{is_uses}
 use Rattle.yv_expand_uses.specs.Kinds.{kind_at}
 use Rattle.yv_expand_augments.specs.Placement.{augment_at}
 use Rattle.yv_expand_uses.specs.RefineTargets.{node_meant, refined_at, refines_in}

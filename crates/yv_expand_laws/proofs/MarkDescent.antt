@@ -9,15 +9,15 @@ use Rattle.std.specs.Option.{option_map}
 use Rattle.yv_link_scopes.specs.Files.{Files}
 use Rattle.yv_link_scopes.specs.RowList.{rows_of}
 use Rattle.yv_link_scopes.specs.Rows.{Row}
-use Rattle.yv_expand.specs.Origin.{number_of}
+use Rattle.yv_expand_statements.specs.Origin.{number_of}
 use Rattle.yv_expand.specs.Tree.{Item, all_of, join}
-use Rattle.yv_expand.specs.declared.origin.Origin.{Origin}
-use Rattle.yv_expand.specs.declared.origin.Origin.TheVariants.{Statement, Input, Output}
+use Rattle.yv_expand_statements.specs.declared.origin.Origin.{Origin}
+use Rattle.yv_expand_statements.specs.declared.origin.Origin.TheVariants.{Statement, Input, Output}
 use Rattle.yv_expand.specs.Expansion.{IsWhole}
 use Rattle.yv_expand_rounds.specs.declared.label.Label.{Label}
 use Rattle.yv_expand_uses.specs.Ends.{end_at}
-use Rattle.yv_expand.specs.StatementBlocks.{is_augment}
-use Rattle.yv_expand_rounds.specs.Kinds.{is_uses}
+use Rattle.yv_expand_statements.specs.StatementBlocks.{is_augment}
+use Rattle.yv_expand_statements.specs.Kinds.{is_uses}
 use Rattle.yv_expand_uses.specs.Kinds.{kind_of}
 use Rattle.yv_base_graph.specs.Marks.{is_marked}
 use Rattle.yv_expand_augments.specs.Placement.{augment_around, augment_at}

@@ -6,16 +6,16 @@ use Rattle.std.proofs.lemmas.Option.{same_Some, slice_get_within}
 use Rattle.yv_text_statement.specs.declared.refusal.Code.TheVariants as code
 use Rattle.yv_link_scopes.specs.Files.{Files, brief_of}
 use Rattle.yv_link_scopes.specs.RowList.{rows_of}
-use Rattle.yv_expand.specs.StatementBlocks.{augments_of}
+use Rattle.yv_expand_statements.specs.StatementBlocks.{augments_of}
 use Rattle.yv_expand_rounds.specs.declared.end.End.{End}
 use Rattle.yv_expand_rounds.specs.declared.end.End.TheVariants as end_is
-use Rattle.yv_expand_rounds.specs.declared.statement_kind.StatementKind.{StatementKind}
+use Rattle.yv_expand_statements.specs.declared.statement_kind.StatementKind.{StatementKind}
 use Rattle.yv_expand_rounds.specs.declared.label.Label.{Label}
 use Rattle.yv_expand_rounds.specs.Turns.{is_some_target, target}
 use Rattle.yv_expand_augments.specs.Augmentation.{AreAugmented}
 use Rattle.yv_expand_uses.specs.Spots.{Whole, layout_of, whole}
 use Rattle.yv_expand_uses.specs.declared.spot.Spot.{Spot}
-use Rattle.yv_expand_tree.specs.FileOrder.{marks_of, order_of}
+use Rattle.yv_expand_statements.specs.FileOrder.{marks_of, order_of}
 use Rattle.yv_expand_definition.specs.Gives.{Wrong, takes_block}
 use Rattle.yv_expand_definition.proofs.GivenNodeUniqueness.{RefersToOne}
 use Rattle.yv_expand_laws.specs.Files.{AreGiven, expansion_of, labels_in}

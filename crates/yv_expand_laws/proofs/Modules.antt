@@ -8,8 +8,8 @@ use Rattle.yv_link_scopes.specs.RowList.{rows_of}
 use Rattle.yv_link_scopes.specs.Rows.{Row}
 use Rattle.yv_link_scopes.proofs.Bodies.{module_file_at_within}
 use Rattle.yv_link_scopes.proofs.Within.{rows_of_files, rows_of_roots}
-use Rattle.yv_expand.specs.StatementBlocks.{given_at, block_of, top_of, augments_of, is_augment}
-use Rattle.yv_expand.specs.Origin.{number_of}
+use Rattle.yv_expand_statements.specs.StatementBlocks.{given_at, block_of, top_of, augments_of, is_augment}
+use Rattle.yv_expand_statements.specs.Origin.{number_of}
 use Rattle.yv_expand.specs.Tree.{Item, Tree, all_of, count, join}
 use Rattle.yv_expand.specs.Expansion.{IsWhole}
 use Rattle.yv_expand.specs.Expands.{Expands}

@@ -8,31 +8,31 @@ use Rattle.std.proofs.lemmas.Option.{same_Some, slice_get_within}
 use Rattle.yv_link_scopes.specs.Files.{Files, brief_of}
 use Rattle.yv_link_scopes.specs.RowList.{rows_of}
 use Rattle.yv_link_scopes.specs.Rows.{Row}
-use Rattle.yv_expand.specs.StatementBlocks.{block_of, augments_of, is_node_or_uses}
-use Rattle.yv_expand.specs.Origin.{number_of}
+use Rattle.yv_expand_statements.specs.StatementBlocks.{block_of, augments_of, is_node_or_uses}
+use Rattle.yv_expand_statements.specs.Origin.{number_of}
 use Rattle.yv_expand.specs.Tree.{Item, all_of, join}
-use Rattle.yv_expand.specs.declared.origin.Origin.{Origin}
-use Rattle.yv_expand.specs.declared.origin.Origin.TheVariants.{Input, Output, Statement}
+use Rattle.yv_expand_statements.specs.declared.origin.Origin.{Origin}
+use Rattle.yv_expand_statements.specs.declared.origin.Origin.TheVariants.{Input, Output, Statement}
 use Rattle.yv_expand.specs.Expansion.{IsWhole}
 use Rattle.yv_expand_rounds.specs.Groups.{Groups, group_of_augment, members_of, times}
 use Rattle.yv_expand_rounds.specs.Placements.{HaveEntered, StandOnce}
 use Rattle.yv_expand_rounds.specs.Tree.{IsTree, Tree}
 use Rattle.yv_expand_rounds.specs.Tree as by_number
 use Rattle.yv_expand_rounds.specs.Turns.{State, target_of}
-use Rattle.yv_expand_rounds.specs.declared.statement_kind.StatementKind.{StatementKind}
-use Rattle.yv_expand_rounds.specs.declared.statement_kind.StatementKind.TheVariants as kind
+use Rattle.yv_expand_statements.specs.declared.statement_kind.StatementKind.{StatementKind}
+use Rattle.yv_expand_statements.specs.declared.statement_kind.StatementKind.TheVariants as kind
 use Rattle.yv_expand_rounds.specs.declared.label.Label.{Label}
 use Rattle.yv_expand_rounds.specs.declared.row.ItemRow.{ItemRow}
 use Rattle.yv_expand_augments.specs.Augmentation.{AreAugmented}
 use Rattle.yv_expand_uses.specs.AugmentOrder.{place_of}
-use Rattle.yv_expand_rounds.specs.Kinds.{is_uses, takes}
+use Rattle.yv_expand_statements.specs.Kinds.{is_uses, takes}
 use Rattle.yv_expand_uses.specs.Kinds.{kind_at, kind_of}
 use Rattle.yv_expand_augments.specs.Placement.{augment_around}
 use Rattle.yv_expand_uses.specs.Spots.{Whole, copy_group, source_in, group_below, labels_of, layout_of, spot_at, top_group_of, top_group, used_group, whole}
 use Rattle.yv_expand_uses.specs.declared.spot.Spot.{Spot}
 use Rattle.yv_expand_augments.proofs.ItemEntry.{whole_entered}
 use Rattle.yv_expand_tree.specs.Final.{final_items}
-use Rattle.yv_expand_tree.specs.FileOrder.{marks_of, order_of}
+use Rattle.yv_expand_statements.specs.FileOrder.{marks_of, order_of}
 use Rattle.yv_expand_tree.proofs.NodePositions.{parents_first}
 use Rattle.yv_expand_definition.proofs.GivenNodeUniqueness.{RefersToOne}
 use Rattle.yv_expand_laws.specs.Files.{AreGiven, ShowFiles, expansion_of, giver_by, giver_of, labels_in, start_of}

@@ -10,8 +10,8 @@ use Rattle.yv_link_scopes.specs.Files.{Briefs, Files, brief_of, module_file_at, 
 use Rattle.yv_link_scopes.specs.RowList.{bodies, body_of, roots_from, rows_of}
 use Rattle.yv_link_scopes.specs.Rows.{Row, is_extended, row_list}
 use Rattle.yv_link_scopes.proofs.Within.{rows_of_roots}
-use Rattle.yv_expand.specs.StatementBlocks.{given_at, given_before, block_of, stands_in, top_of, augments_of, is_at, is_augment}
-use Rattle.yv_expand.specs.StatementBlocks as blocks
+use Rattle.yv_expand_statements.specs.StatementBlocks.{given_at, given_before, block_of, stands_in, top_of, augments_of, is_at, is_augment}
+use Rattle.yv_expand_statements.specs.StatementBlocks as blocks
 use Rattle.yv_expand_uses.specs.AugmentOrder.{place_of}
 use Rattle.yv_expand_tree.proofs.BlockFiles.{block_file}
 use Rattle.yv_expand_tree.proofs.NodePositions.{in_lists}

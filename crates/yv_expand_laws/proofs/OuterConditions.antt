@@ -16,12 +16,12 @@ use Rattle.yv_link_scopes.specs.declared.kind.NameKind.{NameKind as NameKind}
 use Rattle.yv_link_scopes.specs.declared.kind.NameKind.TheVariants.{Prefix, Include, Typedef, Grouping, Feature, Identity, Extension}
 use Rattle.yv_link_definitions.specs.BuiltIn.{is_built_in}
 use Rattle.yv_link_definitions.specs.Refers.{RefersTo, is_type, is_uses, names_definition}
-use Rattle.yv_expand.specs.StatementBlocks.{given_at, given_before, block_of, numbers_from, stands_in, top_of, augments_of, first_of, input_of, is_at, is_augment, is_node_or_uses, output_of, part, part_block, those}
-use Rattle.yv_expand.specs.Units.{nodes, operations}
-use Rattle.yv_expand.specs.Origin.{number_of}
-use Rattle.yv_expand.specs.declared.origin.Origin.{Origin}
-use Rattle.yv_expand.specs.declared.origin.Origin.TheVariants.{Input, Output}
-use Rattle.yv_expand_rounds.specs.Kinds.{kind_of_keyword}
+use Rattle.yv_expand_statements.specs.StatementBlocks.{given_at, given_before, block_of, numbers_from, stands_in, top_of, augments_of, first_of, input_of, is_at, is_augment, is_node_or_uses, output_of, part, part_block, those}
+use Rattle.yv_expand_statements.specs.Units.{nodes, operations}
+use Rattle.yv_expand_statements.specs.Origin.{number_of}
+use Rattle.yv_expand_statements.specs.declared.origin.Origin.{Origin}
+use Rattle.yv_expand_statements.specs.declared.origin.Origin.TheVariants.{Input, Output}
+use Rattle.yv_expand_statements.specs.Kinds.{kind_of_keyword}
 use Rattle.yv_expand_definition.specs.Expansion.{Tops}
 use Rattle.yv_expand_definition.specs.Expansion.Tops.{no_files, one_more as one_more_top}
 use Rattle.yv_expand_definition.specs.Gives.{AugmentsGive, Gives, Product, RefinesGive, add_block, judge}

@@ -7,7 +7,7 @@ use Rattle.yv_expand_rounds.specs.declared.end.End.{End}
 use Rattle.yv_expand_rounds.specs.declared.end.End.TheVariants as end
 use Rattle.yv_expand_rounds.specs.declared.label.Label.{Label}
 use Rattle.yv_expand_rounds.specs.Groups.{Groups, members_of}
-use Rattle.yv_expand_rounds.specs.Kinds.{is_case, is_choice}
+use Rattle.yv_expand_statements.specs.Kinds.{is_case, is_choice}
 use Rattle.yv_expand_rounds.specs.Labels.{is_named}
 use Rattle.yv_expand_rounds.specs.Paths.{end_at, path_end}
 use Rattle.yv_expand_rounds.specs.Paths as by_label

@@ -6,7 +6,7 @@ use Rattle.yv_expand_rounds.specs.declared.end.End.{End}
 use Rattle.yv_expand_rounds.specs.declared.end.End.TheVariants as end
 use Rattle.yv_expand_rounds.specs.declared.label.Label.{Label}
 use Rattle.yv_expand_rounds.specs.Groups.{Groups, members_of}
-use Rattle.yv_expand_rounds.specs.Kinds.{may_be_target}
+use Rattle.yv_expand_statements.specs.Kinds.{may_be_target}
 use Rattle.yv_expand_rounds.specs.Paths.{path_end}
 use Rattle.yv_expand_rounds.specs.Turns.{is_some_target, target}
 use Rattle.yv_expand_definition.specs.Nodes.{Forest, Node}

@@ -7,7 +7,7 @@ use Rattle.yv_expand_uses.specs.AugmentOrder.{augments_giving}
 use Rattle.yv_expand_augments.specs.Augmentation as augmented
 use Rattle.yv_expand_uses.specs.Paths.{path_in}
 use Rattle.yv_expand_augments.specs.Augmentation.{placed_from}
-use Rattle.yv_expand_rounds.specs.Kinds.{is_uses}
+use Rattle.yv_expand_statements.specs.Kinds.{is_uses}
 use Rattle.yv_expand_uses.specs.Spots.{Whole}
 use Rattle.yv_expand_uses.specs.declared.spot.Spot.{Spot}
 use Rattle.yv_expand_laws.specs.Expansions.{spot_view}

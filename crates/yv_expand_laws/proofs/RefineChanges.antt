@@ -6,7 +6,7 @@ use Rattle.std.proofs.lemmas.Bool.{false≢true, ne_eqb}
 use Rattle.yv_expand_rounds.specs.declared.end.End.TheVariants as end
 use Rattle.yv_expand_rounds.specs.declared.label.Label.{Label}
 use Rattle.yv_expand_rounds.specs.Groups.{Groups, members_of}
-use Rattle.yv_expand_rounds.specs.Kinds.{is_choice}
+use Rattle.yv_expand_statements.specs.Kinds.{is_choice}
 use Rattle.yv_expand_definition.specs.Nodes.{Forest, Node, node}
 use Rattle.yv_expand_definition.specs.Paths.{Leads, Step, at}
 use Rattle.yv_expand_definition.specs.Paths.Leads.{past, to, into, into_case}

@@ -14,7 +14,7 @@ use Rattle.yv_expand_rounds.specs.Turns.{State}
 use Rattle.yv_expand_uses.specs.AugmentOrder.{augments_giving}
 use Rattle.yv_expand_uses.specs.Paths.{path_in}
 use Rattle.yv_expand_augments.specs.Augmentation.{placed_from, turns, turns_from}
-use Rattle.yv_expand_rounds.specs.Kinds.{is_uses}
+use Rattle.yv_expand_statements.specs.Kinds.{is_uses}
 use Rattle.yv_expand_uses.specs.RefineTargets.{node_meant, node_at, refined_at, refines_in}
 use Rattle.yv_expand_augments.specs.RefineMeanings.{refined_from}
 use Rattle.yv_expand_uses.specs.Spots.{Whole}

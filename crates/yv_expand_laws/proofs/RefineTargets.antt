@@ -10,12 +10,12 @@ use Rattle.yv_expand_rounds.specs.declared.end.End.TheVariants as end
 use Rattle.yv_expand_rounds.specs.declared.label.Label.{Label}
 use Rattle.yv_expand_rounds.specs.Groups.{Groups, members_of}
 use Rattle.yv_expand_rounds.specs.Labels.{is_named, is_some_named}
-use Rattle.yv_expand_rounds.specs.Kinds as kinds_are
+use Rattle.yv_expand_statements.specs.Kinds as kinds_are
 use Rattle.yv_expand_rounds.specs.Paths.{answer, end_at, before, path_end, first_named, is_shorthand, step_end}
 use Rattle.yv_expand_rounds.specs.Turns.{State}
 use Rattle.yv_expand_uses.specs.Paths.{path_in}
 use Rattle.yv_expand_augments.specs.Augmentation.{placed_from}
-use Rattle.yv_expand_rounds.specs.Kinds.{is_uses}
+use Rattle.yv_expand_statements.specs.Kinds.{is_uses}
 use Rattle.yv_expand_uses.specs.RefineTargets.{node_meant, node_at, refines_in}
 use Rattle.yv_expand_augments.specs.RefineMeanings.{refined_from}
 use Rattle.yv_expand_uses.specs.Spots.{Whole}

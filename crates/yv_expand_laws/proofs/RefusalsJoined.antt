@@ -10,7 +10,7 @@ use Rattle.yv_link_scopes.specs.Files.{Files, brief_of}
 use Rattle.yv_link_scopes.specs.RowList.{rows_of}
 use Rattle.yv_link_scopes.specs.Rows.{Row}
 use Rattle.yv_expand.specs.Expansion.{IsWhole}
-use Rattle.yv_expand.specs.StatementBlocks.{augments_of}
+use Rattle.yv_expand_statements.specs.StatementBlocks.{augments_of}
 use Rattle.yv_expand.specs.Tree.{Item}
 use Rattle.yv_expand_augments.specs.MandatoryNodes.{ImposesMandatory, nothing_around}
 use Rattle.yv_expand_augments.specs.MissingTargets.{MissesTarget}
@@ -19,7 +19,7 @@ use Rattle.yv_expand_augments.specs.Refusals.{BadTarget, TooDeep}
 use Rattle.yv_expand_changes.specs.Properties.{told_of}
 use Rattle.yv_expand_changes.specs.Refusals.{BadRefines}
 use Rattle.yv_expand_tree.specs.Final.{Final, final_items, refined_of, said_of, spots_of, whole_of}
-use Rattle.yv_expand_tree.specs.FileOrder.{marks_of, order_of}
+use Rattle.yv_expand_statements.specs.FileOrder.{marks_of, order_of}
 use Rattle.yv_expand_tree.specs.Refusals.{BadStanding}
 use Rattle.yv_expand_definition.specs.Expansion.{AllRefer, AreMarked, Expand}
 use Rattle.yv_expand_definition.specs.Gives.{Product, Wrong}

@@ -7,7 +7,7 @@ use Rattle.std.proofs.lemmas.List.Elements.{Contains-append_cases, Contains-appe
 use Rattle.yv_expand_rounds.specs.declared.end.End.TheVariants as end
 use Rattle.yv_expand_rounds.specs.declared.label.Label.{Label}
 use Rattle.yv_expand_rounds.specs.Groups.{Groups, group_of_augment, members_of, move_items}
-use Rattle.yv_expand_rounds.specs.Kinds.{may_be_target}
+use Rattle.yv_expand_statements.specs.Kinds.{may_be_target}
 use Rattle.yv_expand_rounds.specs.Turns as turns
 use Rattle.yv_expand_rounds.specs.Turns.{State, give, is_some_target, settle, target, turn}
 use Rattle.yv_expand_definition.specs.Nodes.{Node, insert, is_later}

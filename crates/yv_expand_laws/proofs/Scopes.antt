@@ -10,15 +10,15 @@ use Rattle.yv_link_scopes.specs.Files.{Briefs, Files, brief_of}
 use Rattle.yv_link_scopes.specs.RowList.{rows_of}
 use Rattle.yv_link_scopes.specs.Rows.{Row}
 use Rattle.yv_link_definitions.specs.Refers as refers
-use Rattle.yv_expand.specs.StatementBlocks.{given_at, block_of, augments_of, first_of, input_of, is_at, is_input, is_node_or_uses, is_output, output_of, part, part_block, those}
-use Rattle.yv_expand.specs.Origin.{number_of}
+use Rattle.yv_expand_statements.specs.StatementBlocks.{given_at, block_of, augments_of, first_of, input_of, is_at, is_input, is_node_or_uses, is_output, output_of, part, part_block, those}
+use Rattle.yv_expand_statements.specs.Origin.{number_of}
 use Rattle.yv_expand.specs.Tree.{Item, Tree, all_of, count, item, join, item_list, none}
-use Rattle.yv_expand.specs.declared.origin.Origin.{Origin}
-use Rattle.yv_expand.specs.declared.origin.Origin.TheVariants.{Statement, Input, Output}
+use Rattle.yv_expand_statements.specs.declared.origin.Origin.{Origin}
+use Rattle.yv_expand_statements.specs.declared.origin.Origin.TheVariants.{Statement, Input, Output}
 use Rattle.yv_expand.specs.Expansion.{IsWhole}
 use Rattle.yv_expand.specs.Expands.{Expands, node, nothing, operation, other, uses}
-use Rattle.yv_expand_rounds.specs.declared.statement_kind.StatementKind.TheVariants as kind
-use Rattle.yv_expand_rounds.specs.Kinds.{is_uses, kind_of_keyword}
+use Rattle.yv_expand_statements.specs.declared.statement_kind.StatementKind.TheVariants as kind
+use Rattle.yv_expand_statements.specs.Kinds.{is_uses, kind_of_keyword}
 use Rattle.yv_expand_uses.specs.Kinds.{kind_at, kind_of}
 use Rattle.yv_expand_tree.proofs.NodePositions.{in_first, in_lists, in_second, listed_long}
 use Rattle.yv_expand_laws.specs.Conditions.{gives_node, is_node_kind, stands_in_node}

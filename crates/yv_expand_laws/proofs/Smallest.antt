@@ -4,7 +4,7 @@
 use Rattle.std.proofs.Common.{◌≡◌, false, List, [], ◌∷◌, refl, Some}
 use Rattle.yv_expand_rounds.specs.declared.end.End.TheVariants as end
 use Rattle.yv_expand_rounds.specs.declared.label.Label.{Label}
-use Rattle.yv_expand_rounds.specs.declared.statement_kind.StatementKind.TheVariants as kind
+use Rattle.yv_expand_statements.specs.declared.statement_kind.StatementKind.TheVariants as kind
 use Rattle.yv_expand_rounds.specs.Placements.{nothing}
 use Rattle.yv_expand_rounds.specs.Turns.{State}
 use Rattle.yv_expand_laws.specs.Blocks.{Augments, Block, augment, item, no_augments, enter_block, uses}

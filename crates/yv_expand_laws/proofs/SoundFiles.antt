@@ -30,15 +30,15 @@ use Rattle.yv_link_definitions.specs.Refers.{RefersTo}
 use Rattle.yv_link_definitions.specs.Refusals.{BadNames}
 use Rattle.yv_base_tables.specs.Families.{numbers_at}
 use Rattle.yv_expand.specs.Conformance.{Conform}
-use Rattle.yv_expand.specs.StatementBlocks.{is_node_or_uses, block_of, stands_in}
-use Rattle.yv_expand.specs.Units.{nodes, operations}
+use Rattle.yv_expand_statements.specs.StatementBlocks.{is_node_or_uses, block_of, stands_in}
+use Rattle.yv_expand_statements.specs.Units.{nodes, operations}
 use Rattle.yv_expand.proofs.Listing.{numbers_have}
 use Rattle.yv_expand.proofs.Words.{word_is}
-use Rattle.yv_expand_rounds.specs.declared.statement_kind.StatementKind.{StatementKind}
+use Rattle.yv_expand_statements.specs.declared.statement_kind.StatementKind.{StatementKind}
 use Rattle.yv_expand_uses.specs.AugmentOrder.{giving_from, giving_places, gives, is_giving, is_in, item_places}
-use Rattle.yv_expand.specs.StatementBlocks.{is_augment}
+use Rattle.yv_expand_statements.specs.StatementBlocks.{is_augment}
 use Rattle.yv_expand_uses.specs.AugmentOrder as order
-use Rattle.yv_expand_rounds.specs.Kinds.{kind_in, kind_of_keyword, kinds}
+use Rattle.yv_expand_statements.specs.Kinds.{kind_in, kind_of_keyword, kinds}
 use Rattle.yv_expand_definition.specs.Expansion.{AllRefer}
 use Rattle.yv_expand_laws.specs.StatementItems.{AreSound}
 use Rattle.yv_expand_laws.proofs.BlockStatements.{left_is, right_is}

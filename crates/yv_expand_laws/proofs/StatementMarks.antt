@@ -14,7 +14,7 @@ use Rattle.yv_link_scopes.proofs.StatementTraversal.{heads_same}
 use Rattle.yv_link_scopes.proofs.Within.{rows_of_roots}
 use Rattle.yv_link_features.specs.On.{AllHoldBy}
 use Rattle.yv_base_graph.specs.Marks.{is_marked}
-use Rattle.yv_expand_changes.specs.Truth.{Truth}
+use Rattle.yv_expand_statements.specs.Truth.{Truth}
 use Rattle.yv_expand_changes.specs.IfFeatures.{is_on, marks_of}
 use Rattle.yv_expand_tree.proofs.BlockFiles.{block_file}
 use Rattle.yv_expand_tree.proofs.NodePositions.{in_lists}

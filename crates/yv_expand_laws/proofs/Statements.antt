@@ -4,11 +4,11 @@ use Rattle.std.specs.List.{slice_get}
 use Rattle.std.proofs.lemmas.Option.{same_Some, slice_get_within}
 use Rattle.yv_link_scopes.specs.Files.{Briefs}
 use Rattle.yv_link_scopes.specs.Rows.{Row}
-use Rattle.yv_expand.specs.StatementBlocks.{block_of, first_of, is_at, is_input, is_output, part}
-use Rattle.yv_expand.specs.Origin.{number_of}
+use Rattle.yv_expand_statements.specs.StatementBlocks.{block_of, first_of, is_at, is_input, is_output, part}
+use Rattle.yv_expand_statements.specs.Origin.{number_of}
 use Rattle.yv_expand.specs.Tree.{Item, Tree, all_of, count, item, join, item_list, none}
-use Rattle.yv_expand.specs.declared.origin.Origin.{Origin}
-use Rattle.yv_expand.specs.declared.origin.Origin.TheVariants.{Input, Output}
+use Rattle.yv_expand_statements.specs.declared.origin.Origin.{Origin}
+use Rattle.yv_expand_statements.specs.declared.origin.Origin.TheVariants.{Input, Output}
 use Rattle.yv_expand.specs.Expands.{Expands}
 use Rattle.yv_expand.specs.Expands.Expands.{nothing, other, node, operation, uses}
 use Rattle.yv_expand_laws.specs.ItemProperties.{HaveStatements}

@@ -6,13 +6,13 @@ use Rattle.std.specs.Str.{bytes_eq}
 use Rattle.std.proofs.lemmas.Bool.{false≢true, ne_eqb}
 use Rattle.std.proofs.lemmas.Option.{same_Some}
 use Rattle.yv_link_scopes.specs.Rows.{Row}
-use Rattle.yv_expand.specs.Units.{nodes, operations}
-use Rattle.yv_expand.specs.StatementBlocks.{block_of, stands_in, is_at, is_augment, is_node_or_uses, those}
-use Rattle.yv_expand.specs.StatementBlocks as blocks
-use Rattle.yv_expand_rounds.specs.declared.statement_kind.StatementKind.{StatementKind}
-use Rattle.yv_expand_rounds.specs.declared.statement_kind.StatementKind.TheVariants as kind
+use Rattle.yv_expand_statements.specs.Units.{nodes, operations}
+use Rattle.yv_expand_statements.specs.StatementBlocks.{block_of, stands_in, is_at, is_augment, is_node_or_uses, those}
+use Rattle.yv_expand_statements.specs.StatementBlocks as blocks
+use Rattle.yv_expand_statements.specs.declared.statement_kind.StatementKind.{StatementKind}
+use Rattle.yv_expand_statements.specs.declared.statement_kind.StatementKind.TheVariants as kind
 use Rattle.yv_expand_uses.specs.Kinds.{kind_at}
-use Rattle.yv_expand_rounds.specs.Kinds.{kind_of_keyword, takes}
+use Rattle.yv_expand_statements.specs.Kinds.{kind_of_keyword, takes}
 use Rattle.yv_expand_augments.specs.Placement.{augment_around, augment_at}
 use Rattle.yv_expand_definition.specs.Gives.{is_taken, takes_block}
 use Rattle.yv_expand_laws.specs.TakenBlocks.{IsNotTaken, TargetsTake}

@@ -10,11 +10,11 @@ use Rattle.yv_link_scopes.specs.Files.{Briefs, Files, brief_of, module_file_at}
 use Rattle.yv_link_scopes.specs.RowList.{rows_of}
 use Rattle.yv_link_scopes.specs.Rows.{Row}
 use Rattle.yv_link_scopes.proofs.Bodies.{module_file_at_within}
-use Rattle.yv_expand.specs.StatementBlocks.{given_at, given_before, block_of, stands_in, top_of, augments_of, input_of, is_at, is_augment, output_of, part_block, those, is_refine}
+use Rattle.yv_expand_statements.specs.StatementBlocks.{given_at, given_before, block_of, stands_in, top_of, augments_of, input_of, is_at, is_augment, output_of, part_block, those, is_refine}
 use Rattle.yv_expand_augments.specs.Refusals.{BadTarget}
 use Rattle.yv_expand_augments.specs.Augmentation.{AreAugmented}
 use Rattle.yv_expand_uses.specs.Spots.{whole}
-use Rattle.yv_expand_tree.specs.FileOrder.{marks_of, order_of}
+use Rattle.yv_expand_statements.specs.FileOrder.{marks_of, order_of}
 use Rattle.yv_expand_definition.specs.Expansion.{Tops}
 use Rattle.yv_expand_definition.specs.Expansion.Tops.{no_files, one_more as one_more_top}
 use Rattle.yv_expand_definition.specs.Gives.{AugmentsGive, Gives, Product, RefinesGive, Wrong, judge, takes_block}

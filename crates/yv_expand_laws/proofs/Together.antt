@@ -20,7 +20,7 @@ use Rattle.yv_expand_uses.specs.AugmentOrder.{augments_giving, is_giving}
 use Rattle.yv_expand_augments.specs.Augmentation.{AreAugmented, placement, placed_from, turns, turns_from}
 use Rattle.yv_expand_uses.specs.Paths.{path_in}
 use Rattle.yv_expand_uses.specs.InnerLayout.{AreLaid}
-use Rattle.yv_expand_rounds.specs.Kinds.{is_uses}
+use Rattle.yv_expand_statements.specs.Kinds.{is_uses}
 use Rattle.yv_expand_uses.specs.Spots.{LayoutView, Whole, copies_of, labels_of, layout_of}
 use Rattle.yv_expand_augments.specs.MissingTargets.{after_turns, had_turns, limit_of, next_number, node_reached}
 use Rattle.yv_expand_uses.specs.AugmentOrder.{augments_in}

@@ -6,10 +6,10 @@ use Rattle.std.proofs.lemmas.Option.{same_Some}
 use Rattle.yv_link_scopes.specs.Files.{Briefs}
 use Rattle.yv_link_scopes.specs.Rows.{Row}
 use Rattle.yv_expand.specs.Tree.{Item, Tree as Expansion, all_of, count, item, join, item_list, none}
-use Rattle.yv_expand.specs.declared.origin.Origin.{Origin}
-use Rattle.yv_expand.specs.declared.origin.Origin.TheVariants.{Statement}
+use Rattle.yv_expand_statements.specs.declared.origin.Origin.{Origin}
+use Rattle.yv_expand_statements.specs.declared.origin.Origin.TheVariants.{Statement}
 use Rattle.yv_expand.specs.Expands.{Expands}
-use Rattle.yv_expand.specs.StatementBlocks.{is_node_or_uses}
+use Rattle.yv_expand_statements.specs.StatementBlocks.{is_node_or_uses}
 use Rattle.yv_expand.specs.Expands.Expands.{nothing, other, node, operation, uses}
 use Rattle.yv_expand_tree.proofs.NodePositions.{in_second}
 use Rattle.yv_expand_laws.proofs.FoundItems.{not_none}

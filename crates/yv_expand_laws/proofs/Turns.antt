@@ -8,7 +8,7 @@ use Rattle.yv_expand_rounds.specs.declared.end.End.{End}
 use Rattle.yv_expand_rounds.specs.declared.end.End.TheVariants as end
 use Rattle.yv_expand_rounds.specs.declared.label.Label.{Label}
 use Rattle.yv_expand_rounds.specs.Groups.{Groups, group_of_augment, members_of, move_items}
-use Rattle.yv_expand_rounds.specs.Kinds.{may_be_target}
+use Rattle.yv_expand_statements.specs.Kinds.{may_be_target}
 use Rattle.yv_expand_rounds.specs.Turns.{State, give, is_some, is_some_target, settle, target, turn}
 use Rattle.yv_expand_definition.specs.Nodes.{Forest, Node, join}
 use Rattle.yv_expand_laws.specs.Blocks.{Block, enter_block}

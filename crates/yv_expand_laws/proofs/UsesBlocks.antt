@@ -8,16 +8,16 @@ use Rattle.std.proofs.lemmas.Option.{same_Some}
 use Rattle.yv_link_scopes.specs.Rows.{Row}
 use Rattle.yv_link_definitions.specs.Refers as refers
 use Rattle.yv_link_definitions.specs.Refers.{RefersTo}
-use Rattle.yv_expand.specs.StatementBlocks.{block_of, is_at, is_augment, is_node_or_uses, those}
+use Rattle.yv_expand_statements.specs.StatementBlocks.{block_of, is_at, is_augment, is_node_or_uses, those}
 use Rattle.yv_expand.specs.Tree.{Item, Tree, count, item, join, item_list, none}
-use Rattle.yv_expand.specs.declared.origin.Origin.TheVariants.{Statement}
+use Rattle.yv_expand_statements.specs.declared.origin.Origin.TheVariants.{Statement}
 use Rattle.yv_expand_rounds.specs.declared.label.Label.{Label}
 use Rattle.yv_expand_rounds.specs.Groups.{group_of_augment}
 use Rattle.yv_expand.specs.Expands.{blocks_of}
 use Rattle.yv_expand_uses.specs.AugmentOrder.{augments_giving, is_giving, ordinal}
 use Rattle.yv_expand_uses.specs.AugmentOrder as augmented_giving
 use Rattle.yv_expand_uses.specs.Paths.{path_in}
-use Rattle.yv_expand_rounds.specs.Kinds.{is_uses}
+use Rattle.yv_expand_statements.specs.Kinds.{is_uses}
 use Rattle.yv_expand_uses.specs.Kinds.{kind_at}
 use Rattle.yv_expand_uses.specs.Spots.{LayoutView, Whole, copy_group, group_below, laid_from, spot_at, spot_of, used_group}
 use Rattle.yv_expand_uses.specs.AugmentOrder.{augments_in}

@@ -9,7 +9,7 @@ use Rattle.yv_link_scopes.specs.Files.{Files, brief_of}
 use Rattle.yv_link_scopes.specs.RowList.{rows_of}
 use Rattle.yv_link_scopes.specs.Rows.{Row}
 use Rattle.yv_expand.specs.Tree.{Item}
-use Rattle.yv_expand.specs.StatementBlocks.{augments_of}
+use Rattle.yv_expand_statements.specs.StatementBlocks.{augments_of}
 use Rattle.yv_expand_rounds.specs.Tree.{IsTree}
 use Rattle.yv_expand_rounds.specs.declared.row.ItemRow.{ItemRow}
 use Rattle.yv_expand_augments.specs.Augmentation.{AreAugmented}
@@ -17,7 +17,7 @@ use Rattle.yv_expand_uses.specs.Spots.{Whole, labels_of, layout_of, whole}
 use Rattle.yv_expand_uses.specs.declared.spot.Spot.{Spot}
 use Rattle.yv_expand_changes.specs.Refusals.{IsThere}
 use Rattle.yv_expand_tree.specs.Final.{final_items}
-use Rattle.yv_expand_tree.specs.FileOrder.{marks_of, order_of}
+use Rattle.yv_expand_statements.specs.FileOrder.{marks_of, order_of}
 use Rattle.yv_expand_definition.specs.Gives.{Wrong}
 use Rattle.yv_expand_definition.proofs.GivenNodeUniqueness.{RefersToOne}
 use Rattle.yv_expand_laws.specs.Files.{AreGiven, expansion_of, labels_in}

@@ -4,12 +4,12 @@ use Rattle.std.specs.List.{slice_get}
 use Rattle.std.specs.Option.{is_some}
 use Rattle.std.proofs.lemmas.Bool.{false≢true}
 use Rattle.yv_link_scopes.specs.Rows.{Row}
-use Rattle.yv_expand.specs.Origin.{number_of}
+use Rattle.yv_expand_statements.specs.Origin.{number_of}
 use Rattle.yv_expand.specs.Tree.{Item}
-use Rattle.yv_expand.specs.StatementBlocks.{is_augment, is_node_or_uses}
-use Rattle.yv_expand_rounds.specs.declared.statement_kind.StatementKind.{StatementKind}
+use Rattle.yv_expand_statements.specs.StatementBlocks.{is_augment, is_node_or_uses}
+use Rattle.yv_expand_statements.specs.declared.statement_kind.StatementKind.{StatementKind}
 use Rattle.yv_expand_uses.specs.AugmentOrder.{is_giving, ordinal}
-use Rattle.yv_expand_rounds.specs.Kinds.{is_uses}
+use Rattle.yv_expand_statements.specs.Kinds.{is_uses}
 use Rattle.yv_expand_uses.specs.AugmentOrder.{augments_in}
 use Rattle.yv_expand_augments.specs.MissingTargets.{had_turns, next_number}
 use Rattle.yv_expand_uses.specs.Spots.{Whole, copy_group, group_below, layout_of, spot_at, used_group}

@@ -7,25 +7,25 @@ use Rattle.std.proofs.lemmas.Option.{same_Some, slice_get_within}
 use Rattle.yv_link_scopes.specs.Files.{Files, brief_of}
 use Rattle.yv_link_scopes.specs.RowList.{rows_of}
 use Rattle.yv_link_scopes.specs.Rows.{Row}
-use Rattle.yv_expand.specs.StatementBlocks.{block_of, augments_of, is_at, is_augment, is_node_or_uses, those}
-use Rattle.yv_expand.specs.Origin.{number_of}
+use Rattle.yv_expand_statements.specs.StatementBlocks.{block_of, augments_of, is_at, is_augment, is_node_or_uses, those}
+use Rattle.yv_expand_statements.specs.Origin.{number_of}
 use Rattle.yv_expand.specs.Tree.{Item, all_of, join}
-use Rattle.yv_expand.specs.declared.origin.Origin.{Origin}
-use Rattle.yv_expand.specs.declared.origin.Origin.TheVariants.{Input, Output, Statement}
+use Rattle.yv_expand_statements.specs.declared.origin.Origin.{Origin}
+use Rattle.yv_expand_statements.specs.declared.origin.Origin.TheVariants.{Input, Output, Statement}
 use Rattle.yv_expand.specs.Expansion.{IsWhole}
 use Rattle.yv_expand_rounds.specs.Groups.{IsIn, group_of_augment}
 use Rattle.yv_expand_rounds.specs.Placements.{StandOnce}
 use Rattle.yv_expand_rounds.specs.Tree.{IsTree, Tree, group_under}
 use Rattle.yv_expand_rounds.specs.Tree as by_number
 use Rattle.yv_expand_rounds.specs.Turns.{State, given_group, group_of_target, target_of}
-use Rattle.yv_expand_rounds.specs.declared.statement_kind.StatementKind.{StatementKind}
-use Rattle.yv_expand_rounds.specs.declared.statement_kind.StatementKind.TheVariants as kind
+use Rattle.yv_expand_statements.specs.declared.statement_kind.StatementKind.{StatementKind}
+use Rattle.yv_expand_statements.specs.declared.statement_kind.StatementKind.TheVariants as kind
 use Rattle.yv_expand_rounds.specs.declared.label.Label.{Label}
 use Rattle.yv_expand_rounds.specs.declared.row.ItemRow.{ItemRow}
 use Rattle.yv_expand_uses.specs.Ends.{end_at}
 use Rattle.yv_expand_augments.specs.Augmentation.{AreAugmented, placed_from}
 use Rattle.yv_expand_uses.specs.AugmentOrder.{is_giving, place_of}
-use Rattle.yv_expand_rounds.specs.Kinds.{is_uses, takes}
+use Rattle.yv_expand_statements.specs.Kinds.{is_uses, takes}
 use Rattle.yv_expand_uses.specs.Kinds.{kind_at, kind_of}
 use Rattle.yv_expand_augments.specs.MissingTargets.{after_turns, next_number, node_reached}
 use Rattle.yv_expand_uses.specs.AugmentOrder.{augments_in}

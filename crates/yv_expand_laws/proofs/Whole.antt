@@ -12,9 +12,9 @@ use Rattle.yv_text_statement.specs.declared.refusal.Code.TheVariants as code
 use Rattle.yv_link_scopes.specs.Files.{Briefs, Files, brief_of, has_word, module_file_at}
 use Rattle.yv_link_scopes.specs.RowList.{rows_of}
 use Rattle.yv_link_scopes.specs.Rows.{Row, name_in}
-use Rattle.yv_expand_paths.specs.Paths.{behind_root, steps_of}
+use Rattle.yv_expand_statements.specs.Paths.{behind_root, steps_of}
 use Rattle.yv_expand_paths.specs.InnerSteps.{has_path, path_at, step_of}
-use Rattle.yv_expand.specs.StatementBlocks.{block_of, augments_of}
+use Rattle.yv_expand_statements.specs.StatementBlocks.{block_of, augments_of}
 use Rattle.yv_expand.specs.Tree.{Item, all_of, count}
 use Rattle.yv_expand.specs.Expansion.{IsWhole}
 use Rattle.yv_expand_rounds.specs.declared.label.Label.{Label}

@@ -4,7 +4,7 @@ use Rattle.std.specs.Prelude.{◌≡◌, ℕ, ◌+◌, ◌<◌, Bool, true, fals
 use Rattle.std.specs.List.{Contains}
 use Rattle.yv_expand_rounds.specs.declared.label.Label.{Label}
 use Rattle.yv_expand_rounds.specs.Groups.{group_of_augment, members_of}
-use Rattle.yv_expand_rounds.specs.Kinds.{may_be_target}
+use Rattle.yv_expand_statements.specs.Kinds.{may_be_target}
 use Rattle.yv_expand_rounds.specs.Turns.{State}
 use Rattle.yv_expand_definition.specs.Nodes.{Forest, Node, join, none, node}
 use Rattle.yv_expand_definition.specs.Paths.{Leads, Step, at}

@@ -14,8 +14,8 @@ use Rattle.yv_link_features.specs.On.{Holds}
 use Rattle.yv_link_features.specs.Refusals.{BadFeatures}
 use Rattle.yv_link_definitions.specs.Refusals.{BadNames}
 use Rattle.yv_expand.specs.Tree.{Nodes}
-use Rattle.yv_expand_changes.specs.Truth.{Truth}
-use Rattle.yv_expand_tree.specs.FileOrder.{marks_of}
+use Rattle.yv_expand_statements.specs.Truth.{Truth}
+use Rattle.yv_expand_statements.specs.FileOrder.{marks_of}
 use Rattle.yv_expand_tree.specs.Final.{Final, IsFinal}
 use Rattle.yv_expand_tree.specs.Refusals.{BadFinal}
 use Rattle.yv_expand_tree.specs.Remains.{AreLeft}

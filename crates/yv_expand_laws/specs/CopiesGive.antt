@@ -8,7 +8,7 @@ use Rattle.yv_expand_rounds.specs.declared.row.ItemRow.{ItemRow}
 use Rattle.yv_expand_uses.specs.Ends.{end_at}
 use Rattle.yv_expand_uses.specs.AugmentOrder.{is_giving}
 use Rattle.yv_expand_augments.specs.Augmentation.{AreAugmented, placed_from}
-use Rattle.yv_expand_rounds.specs.Kinds.{is_uses}
+use Rattle.yv_expand_statements.specs.Kinds.{is_uses}
 use Rattle.yv_expand_uses.specs.Spots.{Whole, copy_group, labels_of, layout_of}
 use Rattle.yv_expand_augments.specs.MissingTargets.{after_turns, next_number, node_reached}
 use Rattle.yv_expand_uses.specs.AugmentOrder.{augments_in}

@@ -10,7 +10,7 @@ use Rattle.yv_expand.specs.Expands.{Expands}
 use Rattle.yv_expand_uses.specs.AugmentOrder.{augments_giving}
 use Rattle.yv_expand_uses.specs.Paths.{path_in}
 use Rattle.yv_expand_augments.specs.Augmentation.{placed_from}
-use Rattle.yv_expand_rounds.specs.Kinds.{is_uses}
+use Rattle.yv_expand_statements.specs.Kinds.{is_uses}
 use Rattle.yv_expand_uses.specs.Spots.{LayoutView, Whole, group_below, laid_from, spot_at}
 use Rattle.yv_expand_uses.specs.declared.spot.Spot.{Spot}
 use Rattle.yv_expand_definition.specs.Expansion.{AllRefer}

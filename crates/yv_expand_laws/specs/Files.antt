@@ -4,7 +4,7 @@ use Rattle.std.specs.List.{Contains}
 use Rattle.yv_text_statement.specs.Tree as statement
 use Rattle.yv_link_scopes.specs.Files.{Files, brief_of, has_word}
 use Rattle.yv_link_scopes.specs.RowList.{rows_of}
-use Rattle.yv_expand.specs.StatementBlocks.{block_of, augments_of}
+use Rattle.yv_expand_statements.specs.StatementBlocks.{block_of, augments_of}
 use Rattle.yv_expand.specs.Tree.{Item, Tree, count}
 use Rattle.yv_expand.specs.Expansion.{IsWhole}
 use Rattle.yv_expand_rounds.specs.declared.label.Label.{Label}

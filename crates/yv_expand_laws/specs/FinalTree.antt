@@ -6,7 +6,7 @@ use Rattle.yv_link_scopes.specs.Files.{Files}
 use Rattle.yv_expand_definition.specs.Expansion.{Expand}
 use Rattle.yv_expand_definition.specs.Gives.{Product}
 use Rattle.yv_expand_tree.specs.Final.{Final, IsFinal}
-use Rattle.yv_expand_tree.specs.FileOrder.{marks_of, order_of}
+use Rattle.yv_expand_statements.specs.FileOrder.{marks_of, order_of}
 use Rattle.yv_expand_laws.specs.Files.{HaveRoots, ShowFiles}
 use Rattle.yv_expand_laws.specs.StatementItems.{AreSound}
 use Rattle.yv_expand_laws.specs.Shows.{Items}

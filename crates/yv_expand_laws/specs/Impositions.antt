@@ -7,7 +7,7 @@ use Rattle.yv_link_scopes.specs.Files.{Files}
 use Rattle.yv_link_scopes.specs.RowList.{rows_of}
 use Rattle.yv_link_scopes.specs.Rows.{Row}
 use Rattle.yv_link_definitions.specs.Refers.{is_uses}
-use Rattle.yv_expand.specs.declared.origin.Origin.TheVariants.{Statement}
+use Rattle.yv_expand_statements.specs.declared.origin.Origin.TheVariants.{Statement}
 use Rattle.yv_expand_augments.specs.MandatoryNodes.{ImposesMandatory, nothing_around}
 use Rattle.yv_node_properties.specs.Marks.{is_mandatory, stated_of}
 use Rattle.yv_node_properties.specs.Properties.{last_said, statements_of_origin}

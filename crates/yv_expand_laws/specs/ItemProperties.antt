@@ -3,15 +3,15 @@ use Rattle.std.specs.Prelude.{◌≡◌, ℕ, ◌<◌, ◌≤◌, Bool, true, fa
 use Rattle.yv_link_scopes.specs.Files.{Briefs, Files, brief_of}
 use Rattle.yv_link_scopes.specs.RowList.{rows_of}
 use Rattle.yv_link_scopes.specs.Rows.{Row}
-use Rattle.yv_expand_paths.specs.Names.{node_name}
+use Rattle.yv_expand_statements.specs.Names.{node_name}
 use Rattle.yv_expand_paths.specs.InnerSteps.{has_path}
-use Rattle.yv_expand.specs.Origin.{number_of}
+use Rattle.yv_expand_statements.specs.Origin.{number_of}
 use Rattle.yv_expand.specs.Tree.{Item, Tree, item_list}
-use Rattle.yv_expand.specs.declared.origin.Origin.{Origin}
-use Rattle.yv_expand.specs.declared.origin.Origin.TheVariants.{Statement, Input, Output}
+use Rattle.yv_expand_statements.specs.declared.origin.Origin.{Origin}
+use Rattle.yv_expand_statements.specs.declared.origin.Origin.TheVariants.{Statement, Input, Output}
 use Rattle.yv_expand.specs.Expands.{Expands}
 use Rattle.yv_expand_rounds.specs.declared.label.Label.{Label}
-use Rattle.yv_expand_rounds.specs.Kinds as kinds_are
+use Rattle.yv_expand_statements.specs.Kinds as kinds_are
 use Rattle.yv_expand_rounds.specs.Order.{is_given}
 use Rattle.yv_expand_uses.specs.Paths.{path_in}
 use Rattle.yv_expand_uses.specs.Spots.{Whole, labels_of, layout_of, whole}

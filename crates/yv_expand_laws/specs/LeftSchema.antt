@@ -7,9 +7,9 @@ use Rattle.yv_link_scopes.specs.Files.{Files}
 use Rattle.yv_link_features.specs.Refusals.{BadFeatures}
 use Rattle.yv_link_features.specs.On.{Holds}
 use Rattle.yv_expand.specs.Tree.{Nodes}
-use Rattle.yv_expand_changes.specs.Truth.{Truth}
+use Rattle.yv_expand_statements.specs.Truth.{Truth}
 use Rattle.yv_expand_tree.specs.Final.{Final, IsFinal}
-use Rattle.yv_expand_tree.specs.FileOrder.{marks_of}
+use Rattle.yv_expand_statements.specs.FileOrder.{marks_of}
 use Rattle.yv_expand_tree.specs.Remains.{AreLeft}
 use Rattle.yv_expand_definition.specs.Remains.{AreNodes}
 use Rattle.yv_expand_laws.specs.Files.{HaveRoots, ShowFiles}

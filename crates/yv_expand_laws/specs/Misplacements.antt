@@ -11,7 +11,7 @@ use Rattle.yv_link_scopes.specs.Rows.{Row}
 use Rattle.yv_expand.specs.Tree.{Item}
 use Rattle.yv_expand_rounds.specs.declared.row.ItemRow.{ItemRow}
 use Rattle.yv_expand_augments.specs.Placement.{PutsMisplaced, augment_around}
-use Rattle.yv_expand_rounds.specs.Kinds.{takes}
+use Rattle.yv_expand_statements.specs.Kinds.{takes}
 use Rattle.yv_expand_uses.specs.Spots.{Whole, layout_of, spot_at}
 use Rattle.yv_expand_uses.specs.declared.spot.Spot.{Spot}
 use Rattle.yv_expand_tree.specs.Final.{final_items, spots_of, whole_of}

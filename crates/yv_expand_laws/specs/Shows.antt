@@ -4,7 +4,7 @@ use Rattle.std.specs.List.{Contains}
 use Rattle.yv_expand_rounds.specs.declared.label.Label.{Label}
 use Rattle.yv_expand_rounds.specs.Groups.{Groups, members_of}
 use Rattle.yv_expand_rounds.specs.Labels.{is_named}
-use Rattle.yv_expand_rounds.specs.Kinds as kinds_are
+use Rattle.yv_expand_statements.specs.Kinds as kinds_are
 use Rattle.yv_expand_rounds.specs.Order.{is_given}
 use Rattle.yv_expand_definition.specs.Nodes.{Forest, Node, none, node}
 use Rattle.yv_expand_definition.specs.Paths.{Step, answers}

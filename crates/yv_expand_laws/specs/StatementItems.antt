@@ -4,13 +4,13 @@ use Rattle.std.specs.List.{Contains}
 use Rattle.yv_link_scopes.specs.Files.{Files, brief_of}
 use Rattle.yv_link_scopes.specs.RowList.{rows_of}
 use Rattle.yv_link_scopes.specs.Rows.{Row}
-use Rattle.yv_expand.specs.StatementBlocks.{block_of, is_node_or_uses}
-use Rattle.yv_expand.specs.Origin.{number_of}
+use Rattle.yv_expand_statements.specs.StatementBlocks.{block_of, is_node_or_uses}
+use Rattle.yv_expand_statements.specs.Origin.{number_of}
 use Rattle.yv_expand.specs.Tree.{Item, Tree, count, item_list}
 use Rattle.yv_expand.specs.Expands.{Expands}
 use Rattle.yv_expand_uses.specs.AugmentOrder.{is_giving}
 use Rattle.yv_expand_augments.specs.Augmentation.{placement}
-use Rattle.yv_expand_rounds.specs.Kinds.{is_uses}
+use Rattle.yv_expand_statements.specs.Kinds.{is_uses}
 use Rattle.yv_expand_augments.specs.Placement.{augment_around}
 use Rattle.yv_expand_augments.specs.RefineMeanings.{refined_all}
 use Rattle.yv_expand_uses.specs.Spots.{Whole, layout_of, own_module_file, spot_at, top_group, whole}

@@ -1,11 +1,11 @@
 -- What a target doesn't take of the block of an augment (RFC 7950, section 7.17).
 use Rattle.std.specs.Prelude.{◌≡◌, ◌↔◌, ℕ, true, false, List, Some, slice_get}
 use Rattle.yv_link_scopes.specs.Rows.{Row}
-use Rattle.yv_expand.specs.StatementBlocks.{is_augment, is_node_or_uses}
-use Rattle.yv_expand_rounds.specs.declared.statement_kind.StatementKind.{StatementKind}
+use Rattle.yv_expand_statements.specs.StatementBlocks.{is_augment, is_node_or_uses}
+use Rattle.yv_expand_statements.specs.declared.statement_kind.StatementKind.{StatementKind}
 use Rattle.yv_expand_uses.specs.Kinds.{kind_at}
 use Rattle.yv_expand_augments.specs.Placement.{augment_around}
-use Rattle.yv_expand_rounds.specs.Kinds.{takes}
+use Rattle.yv_expand_statements.specs.Kinds.{takes}
 use Rattle.yv_expand_definition.specs.Gives.{takes_block}
 
 -- a statement that gives an item is in the block of an augment, and a node of this kind doesn't

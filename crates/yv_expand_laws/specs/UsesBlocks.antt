@@ -10,7 +10,7 @@ use Rattle.yv_expand.specs.Tree.{Item}
 use Rattle.yv_expand_rounds.specs.declared.row.ItemRow.{ItemRow}
 use Rattle.yv_expand_uses.specs.Ends.{end_at}
 use Rattle.yv_expand_augments.specs.Augmentation.{placed_from}
-use Rattle.yv_expand_rounds.specs.Kinds.{is_uses}
+use Rattle.yv_expand_statements.specs.Kinds.{is_uses}
 use Rattle.yv_expand_uses.specs.Spots.{Whole, labels_of, layout_of}
 use Rattle.yv_expand_augments.specs.MissingTargets.{after_turns, next_number, node_reached}
 use Rattle.yv_expand_uses.specs.AugmentOrder.{augments_in}

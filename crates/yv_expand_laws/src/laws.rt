@@ -1,7 +1,8 @@
 //! Laws about the definitions only. These functions do nothing: the contract of each is the law.
-ghost use Rattle.std.specs.Prelude.{◌≡◌, ◌≤◌, ℕ, Bool, List, Option, false, length};
-ghost use Rattle.yv_link_scopes.specs.{Files.{Briefs, Files}, Rows.{Row}};
-ghost use Rattle.yv_expand.specs.Tree.{Item};
+ghost use Rattle.std.specs.Prelude.{◌≡◌, ◌≤◌, ℕ, Bool, List, Option, false, length, map};
+ghost use Rattle.yv_link_scopes.specs.{Files.{Briefs, Files, brief_of}, RowList.{rows_of}, Rows.{Row}};
+ghost use Rattle.yv_expand.specs.{Expansion.{IsWhole}, Tree.{Item}};
+ghost use Rattle.yv_expand_definition.specs.{Expansion.{AllRefer, AreMarked, Expand}, Gives.{Product}};
 ghost use Rattle.yv_expand_rounds.specs.declared.label.Label.{Label};
 ghost use Rattle.yv_expand_uses.specs.Spots.{Whole};
 ghost use Rattle.yv_expand_laws.specs.{FirstItems.{BeginningShows}, Conditions.{FilesAsk, MarksAreConditions, MarksAsk}, Conformance.{AreAccepted, ConformingLeftIsSchema, ConformingRefusalsAreOne, NoFileIsBad}, CopiesGive.{CopiesGive}, CopyEnds.{CopiesEnd}, Depths.{DepthsAreOne}, BlockEntry.{BlockKeeps, BlockShows, SpotsEnter}, Expansions.{ExpansionLies, PlacedIsTold}, Files.{FilesShow, HaveRoots, ItemsShow, ModulesShow}, FinalTree.{FinalTreeShows}, StatementItems.{AreSound, StatementsShow}, Impositions.{ImpositionsAreOne, UsesAreOptional}, Marks.{BlocksAreMarked}, LeftSchema.{LeftIsSchema}, Misplacements.{MisplacementsAreOne, MisplacementsByModulesAreOne, MisplacementsByUsesAreOne}, ModuleBlocks.{ModuleBlocksAreOne}, PathTargets.{PathsReach}, RefinedBlocks.{BlockIsMissed, BlockIsRefined}, Refines.{RefinesAreOne}, RefineStep.{RefineChanges, RefineMisses}, Refusals.{FinalRefusalsAreOne, RefusalsAreOne}, Rounds.{RoundAdds, RoundMisses, RoundTakes, RoundWaits}, Schema.{LeftShows}, Shows.{AreLabels, Items}, Start.{StartShows}, TakenBlocks.{TargetsTake}, Targets.{TargetsAreOne}, ItemProperties.{ExpansionsHaveStatements, LabelsTell, PathsAgree}, Trees.{TreeShows}, Turn.{TurnAdds, TurnMisses}, Under.{BeginningStands, BlockStands, FinalStands}, UsesBlocks.{UsesBlocksAreOne}, UsesTargets.{UsesTargetsAreOne}, WholeRounds.{RoundsShow}};
@@ -386,13 +387,22 @@ pub fn misplacements_are_one()
     misplacements_by_uses_are_one();
 }
 
+/// Files that have an expansion expand to a tree, where each uses refers to a grouping and all
+/// files of the order are marked: each path leads to an end or to none, and the rounds of augments
+/// come to an end (RFC 7950, sections 7.12 to 7.17).
+pub fn files_expand_to_a_tree()
+    ensures { (files : Files) (marks : List Bool) (order : List ℕ) (own : ℕ) (items : List Item)
+        → AllRefer (map brief_of files) (rows_of files) → AreMarked marks order
+        → IsWhole files marks order own items → (m : Product) × Expand files marks order m }
+{}
+
 /// A final tree of files is refused by number exactly for what is refused of what the files expand
 /// to: for depths, refines and augments (RFC 7950, sections 3 and 7.12 to 7.17).
 pub fn refusals_are_one()
     ensures { (files : Files) → RefusalsAreOne files }
 {
     yv_expand_definition::laws::files_expand_to_one_tree();
-    yv_expand_definition::laws::files_expand_to_a_tree();
+    files_expand_to_a_tree();
     items_of_files_show_nodes();
     depths_are_one();
     refines_are_one();
@@ -415,7 +425,7 @@ pub fn refusals_of_final_trees_are_one()
 pub fn what_is_left_shows_the_schema()
     ensures { (files : Files) → LeftIsSchema files }
 {
-    yv_expand_definition::laws::files_expand_to_a_tree();
+    files_expand_to_a_tree();
     items_of_files_show_nodes();
     what_is_left_is_the_schema();
 }

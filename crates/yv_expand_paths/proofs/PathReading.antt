@@ -6,9 +6,9 @@ use Rattle.std.proofs.lemmas.List.{map_push, take_more, length-map}
 use Rattle.std.proofs.lemmas.Bool.{cases_eq, cases_lt}
 use Rattle.std.proofs.lemmas.Option.{slice_get_past, same_Some, slice_get-map, slice_get_within, slice_get_read, get_or_from_slice_get}
 use Rattle.yv_link_scopes.specs.Rows.{Row}
-use Rattle.yv_expand_paths.specs.Names.{node_name}
+use Rattle.yv_expand_statements.specs.Names.{node_name}
 use Rattle.yv_expand_paths.specs.InnerNameNumbers.{own_names, number_of, number_at}
-use Rattle.yv_expand_paths.specs.Paths.{behind_root}
+use Rattle.yv_expand_statements.specs.Paths.{behind_root}
 
 -- a relative path stays
 pub relative : (text : List ℕ) → ((rest : List ℕ) → text ≢ 47 ∷ rest) → text ≡ behind_root text

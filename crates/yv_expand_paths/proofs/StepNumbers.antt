@@ -8,9 +8,9 @@ use Rattle.yv_link_scopes.specs.Files.{Briefs}
 use Rattle.yv_link_scopes.specs.Names.{prefix_of, local_of}
 use Rattle.yv_link_scopes.specs.Rows.{Row}
 use Rattle.yv_link_scopes.specs.Scopes.{module_of}
-use Rattle.yv_expand_paths.specs.Names.{node_name}
+use Rattle.yv_expand_statements.specs.Names.{node_name}
 use Rattle.yv_expand_paths.specs.InnerNameNumbers.{own_names, number_of, number_at, qualified_name}
-use Rattle.yv_expand_paths.specs.Paths.{module_file_with, module_file_of}
+use Rattle.yv_expand_statements.specs.Paths.{module_file_with, module_file_of}
 use Rattle.yv_expand_paths.specs.InnerSteps.{step_with, step_of, step_number}
 use Rattle.yv_expand_paths.proofs.NamePlaces.{place_hit, place_there, place_front, one_name}
 

@@ -4,7 +4,7 @@ use Rattle.std.specs.Option.{option_and_then}
 use Rattle.std.specs.Str.{bytes_eq}
 use Rattle.yv_link_scopes.specs.Names.{first_where}
 use Rattle.yv_link_scopes.specs.Rows.{Row}
-use Rattle.yv_expand_paths.specs.Names.{node_name}
+use Rattle.yv_expand_statements.specs.Names.{node_name}
 
 -- the names of all statements' nodes, in order
 abbrev pub own_names : List Row → List (List ℕ)

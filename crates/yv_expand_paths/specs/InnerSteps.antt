@@ -7,7 +7,7 @@ use Rattle.yv_link_scopes.specs.Rows.{Row, name_in}
 use Rattle.yv_link_scopes.specs.Scopes.{module_of}
 use Rattle.yv_expand_paths.specs.InnerNameNumbers.{number_of, qualified_name}
 use Rattle.yv_expand_paths.specs.declared.step.SchemaStep.{SchemaStep}
-use Rattle.yv_expand_paths.specs.Paths.{steps_of}
+use Rattle.yv_expand_statements.specs.Paths.{steps_of}
 
 abbrev pub step_with : Briefs → List Row → (file : ℕ) → Option (List ℕ) → (name : ℕ)
     → Option SchemaStep

@@ -1,5 +1,3 @@
-pub mod Names
-pub mod Paths
 pub mod PathTables
 pub mod InnerNames
 pub mod InnerNameNumbers

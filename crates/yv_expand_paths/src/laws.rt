@@ -1,7 +1,8 @@
 //! Laws about the definitions only.
 ghost use Rattle.std.specs.{Prelude.{◌≡◌, ◌<◌, ◌≤◌, ◌+◌, ◌↔◌, ℕ, List, Some, codes, length}, Option.{option_map}};
 ghost use Rattle.yv_link_scopes.specs.{Files.{Briefs}, Names.{local_of}, Rows.{Row}};
-ghost use Rattle.yv_expand_paths.specs.{InnerNameNumbers.{number_of, number_at, qualified_name}, Paths.{module_file_of}, InnerSteps.{step_of, step_number}};
+ghost use Rattle.yv_expand_paths.specs.{InnerNameNumbers.{number_of, number_at, qualified_name}, InnerSteps.{step_of, step_number}};
+ghost use Rattle.yv_expand_statements.specs.Paths.{module_file_of};
 
 /// Two names have one number only if they are one.
 pub fn a_number_has_one_name()

@@ -1,7 +1,8 @@
 //! Names of schema nodes as numbers.
 ghost use Rattle.std.specs.Prelude.{◌≡◌, ◌≤◌, ℕ, List, None, Some, map, codes, length, slice_get, IfOk, OnOk};
 ghost use Rattle.yv_link_scopes.specs.{Rows.{Row}, Views.{rows_in}};
-ghost use Rattle.yv_expand_paths.specs.{Names.{node_name}, InnerNameNumbers.{own_names, place_of, number_of, number_at}, InnerNames.{table_of}};
+ghost use Rattle.yv_expand_paths.specs.{InnerNameNumbers.{own_names, place_of, number_of, number_at}, InnerNames.{table_of}};
+ghost use Rattle.yv_expand_statements.specs.Names.{node_name};
 
 use crate::table::Table;
 use std::alloc::{AllocError, Global};

@@ -1,7 +1,8 @@
 //! The schema paths of refines and augments.
 ghost use Rattle.std.specs.{Prelude.{◌≡◌, List, Some, map, slice_get, IfOk}, Option.{option_map}};
 ghost use Rattle.yv_link_scopes.specs.{Files.{Briefs}, Rows.{Row, row}, Views.{files_in, rows_in}, Prefixes.{IsPrefixTable}};
-ghost use Rattle.yv_expand_paths.specs.{Paths.{behind_root, steps_of}, InnerSteps.{step_with, step_of, has_path, path_of, path_at}, PathTables.{AreNames}};
+ghost use Rattle.yv_expand_paths.specs.{InnerSteps.{step_with, step_of, has_path, path_of, path_at}, PathTables.{AreNames}};
+ghost use Rattle.yv_expand_statements.specs.Paths.{behind_root, steps_of};
 
 use crate::names::NodeNames;
 use crate::step::SchemaStep;

@@ -4,7 +4,7 @@ use Rattle.std.specs.Ordering.{is_lt}
 use Rattle.std.proofs.lemmas.Bool.{eqb-true}
 use Rattle.std.proofs.lemmas.List.{take_more}
 use Rattle.yv_expand_rounds.specs.declared.label.Label.{Label}
-use Rattle.yv_expand_rounds.specs.Kinds.{is_node}
+use Rattle.yv_expand_statements.specs.Kinds.{is_node}
 use Rattle.yv_expand_rounds.specs.Labels.{is_named, is_some_named}
 use Rattle.yv_expand_rounds.specs.Order.{sibling_cmp}
 use Rattle.yv_expand_rounds.specs.Paths.{first_named}

@@ -9,7 +9,7 @@ use Rattle.yv_expand_rounds.specs.declared.end.End.{End}
 use Rattle.yv_expand_rounds.specs.declared.end.End.TheVariants as end
 use Rattle.yv_expand_rounds.specs.Groups.{Groups, members_of}
 use Rattle.yv_expand_rounds.specs.Labels.{is_named, is_some_named}
-use Rattle.yv_expand_rounds.specs.Kinds.{is_node}
+use Rattle.yv_expand_statements.specs.Kinds.{is_node}
 use Rattle.yv_expand_rounds.specs.Paths.{end_at, before, first_named, is_shorthand, least, step_end}
 use Rattle.yv_expand_rounds.specs.Order.{is_given}
 use Rattle.yv_expand_rounds.specs.InnerArrivals.{AreMet, IsAmong, is_at}

@@ -5,7 +5,7 @@ use Rattle.yv_expand_rounds.specs.declared.label.Label.{Label}
 use Rattle.yv_expand_rounds.specs.declared.group.Group.{Group}
 use Rattle.yv_expand_rounds.specs.declared.places.ItemPlaces.{ItemPlaces}
 use Rattle.yv_expand_rounds.specs.InnerFirstNodes.{AreFirst}
-use Rattle.yv_expand_rounds.specs.Kinds.{is_node}
+use Rattle.yv_expand_statements.specs.Kinds.{is_node}
 use Rattle.yv_expand_rounds.specs.Labels.{is_named}
 use Rattle.yv_expand_rounds.specs.Groups.{Groups, members_of}
 use Rattle.yv_expand_rounds.specs.Order.{sibling_cmp}

@@ -1,7 +1,7 @@
 -- What items are (RFC 7950, sections 7.13 and 7.17).
 use Rattle.std.specs.Prelude.{ℕ, ◌==◌, ◌&&◌, Bool, false, List, Option, Some, None, slice_get}
 use Rattle.yv_expand_rounds.specs.declared.label.Label.{Label}
-use Rattle.yv_expand_rounds.specs.Kinds.{is_node}
+use Rattle.yv_expand_statements.specs.Kinds.{is_node}
 
 -- an item is there, is a node, and has this name
 abbrev pub is_some_named : ℕ → Option Label → Bool

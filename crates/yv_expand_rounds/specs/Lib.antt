@@ -16,4 +16,3 @@ pub mod InnerHiddenNodes
 pub mod InnerPendingPaths
 pub mod InnerMissingTargets
 pub mod InnerArrivals
-pub mod Kinds

@@ -4,7 +4,7 @@ use Rattle.std.specs.Option.{option_map, option_and_then, option_or}
 use Rattle.yv_expand_rounds.specs.declared.label.Label.{Label}
 use Rattle.yv_expand_rounds.specs.declared.end.End.{End}
 use Rattle.yv_expand_rounds.specs.declared.end.End.TheVariants as end
-use Rattle.yv_expand_rounds.specs.Kinds.{is_choice, is_case}
+use Rattle.yv_expand_statements.specs.Kinds.{is_choice, is_case}
 use Rattle.yv_expand_rounds.specs.Labels.{is_named}
 use Rattle.yv_expand_rounds.specs.Groups.{Groups, members_of}
 use Rattle.yv_expand_rounds.specs.Order.{is_given}

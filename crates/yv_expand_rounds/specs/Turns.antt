@@ -4,7 +4,7 @@ use Rattle.std.specs.Option.{option_and_then}
 use Rattle.yv_expand_rounds.specs.declared.label.Label.{Label}
 use Rattle.yv_expand_rounds.specs.declared.end.End.{End}
 use Rattle.yv_expand_rounds.specs.declared.end.End.TheVariants as end
-use Rattle.yv_expand_rounds.specs.Kinds.{may_be_target}
+use Rattle.yv_expand_statements.specs.Kinds.{may_be_target}
 use Rattle.yv_expand_rounds.specs.Groups.{Groups, group_of_augment, move_items}
 use Rattle.yv_expand_rounds.specs.Paths.{path_end}
 

@@ -2,7 +2,7 @@
 ghost use Rattle.std.specs.Prelude.{◌≡◌};
 ghost use Rattle.yv_expand_rounds.specs.Labels.{is_named};
 
-use crate::statement_kind::StatementKind;
+use yv_expand_statements::StatementKind;
 
 /// The label of an item: the number of its module and name together: two items have the same number
 /// exactly where they have the same module and the same name; its kind; and whether an augment of a

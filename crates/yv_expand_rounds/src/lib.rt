@@ -22,7 +22,6 @@ mod order;
 mod places;
 mod rounds;
 mod row;
-mod statement_kind;
 mod trail;
 mod tree_list;
 
@@ -31,4 +30,3 @@ pub use augmentation::Augmentation;
 pub use end::End;
 pub use label::Label;
 pub use row::ItemRow;
-pub use statement_kind::StatementKind;

@@ -8,7 +8,7 @@ use Rattle.yv_link_scopes.specs.Files.{Files, brief_of}
 use Rattle.yv_link_scopes.specs.RowList.{rows_of}
 use Rattle.yv_expand.specs.Tree.{Item}
 use Rattle.yv_expand.specs.Expansion.{IsWhole}
-use Rattle.yv_expand.specs.StatementBlocks.{augments_of}
+use Rattle.yv_expand_statements.specs.StatementBlocks.{augments_of}
 use Rattle.yv_expand_rounds.specs.Turns.{State}
 use Rattle.yv_expand_refines.specs.Changes.{ChangesView, each}
 use Rattle.yv_expand_refines.specs.Targets.{all_meant}
@@ -20,7 +20,7 @@ use Rattle.yv_expand_uses.specs.declared.spot.Spot.{Spot}
 use Rattle.yv_expand_changes.specs.Changes.{all_changes}
 use Rattle.yv_expand_tree.specs.Refusals.{BadFinal, BadStanding}
 use Rattle.yv_expand_tree.specs.Final.{Final, IsFinal, changes_of, spots_of}
-use Rattle.yv_expand_tree.specs.FileOrder.{marks_of, order_of}
+use Rattle.yv_expand_statements.specs.FileOrder.{marks_of, order_of}
 
 module _ (files : Files) (full_tree : AugmentedTree) (missing : Option Refusal) where
   -- augments put these items so

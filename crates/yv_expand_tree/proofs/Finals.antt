@@ -18,9 +18,9 @@ use Rattle.yv_expand_augments.specs.Remains.{is_left, remains}
 use Rattle.yv_expand_uses.specs.Spots.{Whole, labels_of, layout_of, whole}
 use Rattle.yv_expand_uses.specs.declared.spot.Spot.{Spot}
 use Rattle.yv_expand_uses.proofs.Bounds.{laid_whole}
-use Rattle.yv_expand_changes.specs.Truth.{Truth}
+use Rattle.yv_expand_statements.specs.Truth.{Truth}
 use Rattle.yv_expand_tree.specs.Final.{Final, IsFinal, spots_of, whole_of}
-use Rattle.yv_expand_tree.specs.FileOrder.{marks_of, order_of}
+use Rattle.yv_expand_statements.specs.FileOrder.{marks_of, order_of}
 use Rattle.yv_expand_tree.specs.Remains.{AreLeft, nodes_of}
 use Rattle.yv_expand_tree.proofs.NodePositions.{every_left, every_node, every_row, Stands}
 

@@ -10,7 +10,7 @@ use Rattle.yv_text_statement.specs.Selection.{ModuleChoice, is_implemented}
 use Rattle.yv_base_tables.specs.Families.{by_place, is_place, numbers_at, numbers_from}
 use Rattle.yv_link_scopes.specs.Files.{Brief, Briefs, Files, brief, brief_of, module_file_at, module_file_in, is_module, file_named, tree_name}
 use Rattle.yv_link_scopes.specs.declared.files.File.{File}
-use Rattle.yv_expand_tree.specs.FileOrder.{is_given, marks_of, order_from, order_of, part_places, places_from}
+use Rattle.yv_expand_statements.specs.FileOrder.{is_given, marks_of, order_from, order_of, part_places, places_from}
 
 pub take_whole : {X : Type 0} (xs : List X) (i : ℕ) → length xs ≤ i → take i xs ≡ xs
 take_whole {X} xs i h = sym (append-nil (take i xs)) ∙ ap (λ (ys : List X). take i xs ++ ys) (sym (drop_all i xs h)) ∙ take-append-drop i xs

@@ -9,8 +9,8 @@ use Rattle.yv_link_scopes.specs.Files.{Briefs, Files, brief_of, module_file_at, 
 use Rattle.yv_link_scopes.specs.RowList.{rows_of}
 use Rattle.yv_link_scopes.specs.Rows.{Row}
 use Rattle.yv_link_scopes.proofs.Within.{rows_of_roots}
-use Rattle.yv_expand.specs.StatementBlocks.{given_at, given_before, block_of, numbers_from, stands_in, top_of, augments_of, is_at, is_augment}
-use Rattle.yv_expand.specs.Origin.{number_of}
+use Rattle.yv_expand_statements.specs.StatementBlocks.{given_at, given_before, block_of, numbers_from, stands_in, top_of, augments_of, is_at, is_augment}
+use Rattle.yv_expand_statements.specs.Origin.{number_of}
 use Rattle.yv_expand.specs.Tree.{Item, Tree, all_of, count, item, join, item_list, none}
 use Rattle.yv_expand.specs.Expansion.{AreAdded, AreTrees}
 use Rattle.yv_expand.specs.Expands.{Expands, node, nothing, operation, other, uses}
@@ -18,7 +18,7 @@ use Rattle.yv_expand_uses.specs.Spots.{LayoutView, Whole, module_file_below, lay
 use Rattle.yv_expand_uses.specs.declared.spot.Spot.{Spot}
 use Rattle.yv_expand_uses.proofs.Bounds.{pushed_at}
 use Rattle.yv_expand_tree.specs.Final.{Final, IsFinal, spots_of, whole_of}
-use Rattle.yv_expand_tree.specs.FileOrder.{HaveModuleFiles, is_given, marks_of, order_of}
+use Rattle.yv_expand_statements.specs.FileOrder.{HaveModuleFiles, is_given, marks_of, order_of}
 use Rattle.yv_expand_tree.proofs.Finals.{slice_get_absent}
 use Rattle.yv_expand_tree.proofs.GivenFiles.{Each, and_first, each_both}
 use Rattle.yv_expand_tree.proofs.BlockFiles.{block_file}

@@ -11,24 +11,24 @@ use Rattle.yv_link_scopes.specs.Files.{Files}
 use Rattle.yv_link_scopes.specs.RowList.{rows_of}
 use Rattle.yv_link_scopes.specs.Rows.{Row}
 use Rattle.yv_text_statement.specs.Words.{is_among}
-use Rattle.yv_expand.specs.StatementBlocks.{block_of, numbers_from, stands_in, is_at, is_node_or_uses, those}
+use Rattle.yv_expand_statements.specs.StatementBlocks.{block_of, numbers_from, stands_in, is_at, is_node_or_uses, those}
 use Rattle.yv_expand.proofs.UnitListing.{numbers_are}
 use Rattle.yv_expand.specs.Conformance.{Conform, gives_nodes, is_lowest as is_leaf, lowest}
 use Rattle.yv_expand.specs.Tree as expansion
 use Rattle.yv_expand.specs.Tree.{Item, Node, Nodes}
 use Rattle.yv_expand_rounds.specs.Groups.{Groups, IsIn, members_of}
-use Rattle.yv_expand_rounds.specs.Kinds.{may_be_target, kind_of_keyword, kind_in, kinds}
+use Rattle.yv_expand_statements.specs.Kinds.{may_be_target, kind_of_keyword, kind_in, kinds}
 use Rattle.yv_expand_rounds.specs.Tree.{IsTree, Tree, group_under, tree_list}
-use Rattle.yv_expand_rounds.specs.declared.statement_kind.StatementKind.{StatementKind}
-use Rattle.yv_expand_rounds.specs.declared.statement_kind.StatementKind.TheVariants as kind
+use Rattle.yv_expand_statements.specs.declared.statement_kind.StatementKind.{StatementKind}
+use Rattle.yv_expand_statements.specs.declared.statement_kind.StatementKind.TheVariants as kind
 use Rattle.yv_expand_rounds.specs.declared.label.Label.{Label}
 use Rattle.yv_expand_rounds.specs.declared.row.ItemRow.{ItemRow}
 use Rattle.yv_expand_uses.specs.Kinds.{kind_at, kind_of}
 use Rattle.yv_expand_uses.specs.Spots.{labels_of}
 use Rattle.yv_expand_uses.specs.declared.spot.Spot.{Spot}
-use Rattle.yv_expand_changes.specs.Truth.{Truth}
+use Rattle.yv_expand_statements.specs.Truth.{Truth}
 use Rattle.yv_expand_tree.specs.Final.{Final, IsFinal, spots_of, whole_of}
-use Rattle.yv_expand_tree.specs.FileOrder.{marks_of, order_of}
+use Rattle.yv_expand_statements.specs.FileOrder.{marks_of, order_of}
 use Rattle.yv_expand_tree.specs.Remains.{AreLeft}
 use Rattle.yv_expand_tree.specs.Lowest.{is_lowest}
 use Rattle.yv_expand_tree.proofs.Finals.{Once, Within, left_items, left_stands}

@@ -9,7 +9,7 @@ use Rattle.yv_text_statement.specs.Selection.{ModuleChoice}
 use Rattle.yv_link_scopes.specs.Files.{Files}
 use Rattle.yv_link_scopes.specs.Rows.{Row}
 use Rattle.yv_link_scopes.specs.RowList.{rows_of}
-use Rattle.yv_expand.specs.Limit.{TooMany}
+use Rattle.yv_expand_statements.specs.Limit.{TooMany}
 use Rattle.yv_expand_rounds.specs.Tree.{Tree, none, item}
 use Rattle.yv_expand_augments.specs.Refusals.{RefusesIf}
 use Rattle.yv_expand_augments.specs.MandatoryNodes.{Around, ImposesMandatory, MarksView, inside, nothing_around}
@@ -17,7 +17,7 @@ use Rattle.yv_expand_uses.specs.declared.spot.Spot.{Spot}
 use Rattle.yv_expand_changes.specs.Properties.{told_of}
 use Rattle.yv_expand_tree.specs.Refusals.{BadAugments, BadExpansion, BadFinal, BadStanding}
 use Rattle.yv_expand_tree.specs.Final.{Final, said_of, spots_of}
-use Rattle.yv_expand_tree.specs.FileOrder.{marks_of}
+use Rattle.yv_expand_statements.specs.FileOrder.{marks_of}
 
 many_phase : (files : Files) (marks : List Bool) (limit : ℕ) (f : Refusal) → TooMany files marks limit f → phase_of f.code ≡ 7
 many_phase files marks limit f h = ap (λ (r : Refusal). phase_of r.code) h.4.1

@@ -14,7 +14,7 @@ use Rattle.yv_expand_rounds.specs.declared.row.ItemRow.{ItemRow}
 use Rattle.yv_expand_augments.specs.Augmentation.{AreAugmented}
 use Rattle.yv_expand_uses.specs.Spots.{Whole, copy_group, labels_of, layout_of}
 use Rattle.yv_expand_uses.specs.declared.spot.Spot.{Spot}
-use Rattle.yv_expand_changes.specs.Truth.{Truth}
+use Rattle.yv_expand_statements.specs.Truth.{Truth}
 use Rattle.yv_expand_tree.specs.Final.{Final, IsFinal, spots_of, whole_of}
 use Rattle.yv_expand_tree.specs.FinalTree.{source_at, source_of_spot, targets_from, targets_of}
 use Rattle.yv_expand_tree.specs.Remains.{AreLeft}

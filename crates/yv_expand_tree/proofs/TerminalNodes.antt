@@ -10,17 +10,17 @@ use Rattle.yv_link_scopes.specs.Files.{Briefs, Files, brief_of}
 use Rattle.yv_link_scopes.specs.RowList.{rows_of}
 use Rattle.yv_link_scopes.specs.Rows.{Row}
 use Rattle.yv_link_definitions.specs.Refers.{is_type, is_uses}
-use Rattle.yv_expand.specs.StatementBlocks.{given_at, block_of, augments_of, first_of, input_of, is_at, is_input, is_node_or_uses, is_operation, is_output, output_of, part, part_block, those}
-use Rattle.yv_expand.specs.declared.origin.Origin.{Origin}
-use Rattle.yv_expand.specs.declared.origin.Origin.TheVariants.{Input, Output}
+use Rattle.yv_expand_statements.specs.StatementBlocks.{given_at, block_of, augments_of, first_of, input_of, is_at, is_input, is_node_or_uses, is_operation, is_output, output_of, part, part_block, those}
+use Rattle.yv_expand_statements.specs.declared.origin.Origin.{Origin}
+use Rattle.yv_expand_statements.specs.declared.origin.Origin.TheVariants.{Input, Output}
 use Rattle.yv_expand.specs.Tree.{Item, Tree, all_of, count, item, join, item_list, none}
 use Rattle.yv_expand.specs.Expansion.{IsWhole}
 use Rattle.yv_expand.specs.Expands.{Expands, node, nothing, operation, other, uses}
 use Rattle.yv_expand.proofs.StatementReferences.{refers_word}
 use Rattle.yv_expand.proofs.Words.{operation_item, word_is}
-use Rattle.yv_expand_rounds.specs.declared.statement_kind.StatementKind.TheVariants as kind
+use Rattle.yv_expand_statements.specs.declared.statement_kind.StatementKind.TheVariants as kind
 use Rattle.yv_expand_uses.specs.Kinds.{kind_at, kind_of}
-use Rattle.yv_expand_rounds.specs.Kinds.{kind_of_keyword}
+use Rattle.yv_expand_statements.specs.Kinds.{kind_of_keyword}
 use Rattle.yv_expand_tree.specs.Lowest.{is_lowest}
 use Rattle.yv_expand_tree.proofs.NodePositions.{in_first, in_lists, in_second, listed_long}
 

@@ -9,7 +9,7 @@ use Rattle.yv_expand.specs.Tree as expansion
 use Rattle.yv_expand.specs.Tree.{Item, Node, Nodes, count}
 use Rattle.yv_expand_rounds.specs.Tree.{Tree, none, item, tree_list}
 use Rattle.yv_expand_rounds.specs.declared.row.ItemRow.{ItemRow}
-use Rattle.yv_expand_rounds.specs.Kinds.{is_uses}
+use Rattle.yv_expand_statements.specs.Kinds.{is_uses}
 use Rattle.yv_expand_uses.specs.Kinds.{kind_of}
 use Rattle.yv_expand_augments.specs.Remains.{is_left, is_some_uses, remains}
 use Rattle.yv_base_graph.specs.Marks.{is_marked}

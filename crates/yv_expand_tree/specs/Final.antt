@@ -6,7 +6,7 @@ use Rattle.yv_link_scopes.specs.Files.{Files, brief_of}
 use Rattle.yv_link_scopes.specs.RowList.{rows_of}
 use Rattle.yv_expand.specs.Tree.{Item}
 use Rattle.yv_expand.specs.Expansion.{IsWhole}
-use Rattle.yv_expand.specs.StatementBlocks.{augments_of}
+use Rattle.yv_expand_statements.specs.StatementBlocks.{augments_of}
 use Rattle.yv_expand_rounds.specs.Tree.{IsTree, Tree, tree_list}
 use Rattle.yv_expand_rounds.specs.Turns.{State}
 use Rattle.yv_expand_rounds.specs.declared.row.ItemRow.{ItemRow}
@@ -18,7 +18,7 @@ use Rattle.yv_expand_uses.specs.declared.spot.Spot.{Spot}
 use Rattle.yv_expand_changes.specs.Changes.{all_changes}
 use Rattle.yv_node_properties.specs.declared.properties.StatedProperties.{StatedProperties}
 use Rattle.yv_expand_changes.specs.Properties.{said_of_all}
-use Rattle.yv_expand_tree.specs.FileOrder.{marks_of, order_of}
+use Rattle.yv_expand_statements.specs.FileOrder.{marks_of, order_of}
 
 -- the items of an expansion, the augments of modules by file and statement, where these items are
 -- when all augments were applied, and the tree that they then make

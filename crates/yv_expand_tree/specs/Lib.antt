@@ -1,4 +1,3 @@
-pub mod FileOrder
 pub mod Final
 pub mod Refusals
 pub mod Remains

@@ -1,7 +1,7 @@
 -- Nodes below which none is (RFC 7950, sections 7.6, 7.7, 7.10 and 7.11).
 use Rattle.std.specs.Prelude.{Bool, true, false}
-use Rattle.yv_expand_rounds.specs.declared.statement_kind.StatementKind.{StatementKind}
-use Rattle.yv_expand_rounds.specs.declared.statement_kind.StatementKind.TheVariants as kind
+use Rattle.yv_expand_statements.specs.declared.statement_kind.StatementKind.{StatementKind}
+use Rattle.yv_expand_statements.specs.declared.statement_kind.StatementKind.TheVariants as kind
 
 -- a leaf, leaf-list, anydata or anyxml
 abbrev pub is_lowest : StatementKind → Bool

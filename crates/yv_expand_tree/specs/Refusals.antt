@@ -5,7 +5,7 @@ use Rattle.yv_text_statement.specs.declared.refusal.Refusal.{Refusal}
 use Rattle.yv_text_statement.specs.Selection.{ModuleChoice}
 use Rattle.yv_link_scopes.specs.Files.{Files}
 use Rattle.yv_link_scopes.specs.RowList.{rows_of}
-use Rattle.yv_expand.specs.Limit.{TooMany}
+use Rattle.yv_expand_statements.specs.Limit.{TooMany}
 use Rattle.yv_expand_augments.specs.Refusals.{BadTarget, TooDeep}
 use Rattle.yv_expand_augments.specs.MandatoryNodes.{ImposesMandatory, nothing_around}
 use Rattle.yv_expand_augments.specs.Placement.{PutsMisplaced}
@@ -13,7 +13,7 @@ use Rattle.yv_expand_augments.specs.MissingTargets.{MissesTarget}
 use Rattle.yv_expand_changes.specs.Refusals.{BadRefines}
 use Rattle.yv_expand_changes.specs.Properties.{told_of}
 use Rattle.yv_expand_tree.specs.Final.{Final, IsFinal, refined_of, said_of, spots_of, final_items, whole_of}
-use Rattle.yv_expand_tree.specs.FileOrder.{marks_of}
+use Rattle.yv_expand_statements.specs.FileOrder.{marks_of}
 
 -- an augment adds to no node, or adds what may not be there
 abbrev pub BadAugments : Files → Final → Refusal → Type 0

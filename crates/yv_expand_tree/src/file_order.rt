@@ -2,7 +2,7 @@
 ghost use Rattle.std.specs.Prelude.{◌≡◌, ◌<◌, ◌==◌, ℕ, All, length, slice_get, None, Some, if◌then◌else◌, IfOk};
 ghost use Rattle.yv_text_statement.specs.Selection.{selected_of};
 ghost use Rattle.yv_link_scopes.specs.{Files.{module_file_at}, Views.{files_in, lent_in}};
-ghost use Rattle.yv_expand_tree.specs.FileOrder.{is_given, marks_of, order_of, part_places};
+ghost use Rattle.yv_expand_statements.specs.FileOrder.{is_given, marks_of, order_of, part_places};
 
 use std::alloc::{AllocError, Global};
 use yv_base_tables::Families;

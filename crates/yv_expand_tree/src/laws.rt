@@ -2,11 +2,13 @@
 ghost use Rattle.std.specs.Prelude.{◌≡◌, ◌≤◌, ◌<◌, false, ℕ, List, true, None, Some, length, map, slice_get, slice_index_or};
 ghost use Rattle.yv_text_statement.specs.{Codes.{phase_of}, Tree.{Tree as Root}, declared.refusal.Refusal.{Refusal}, Selection.{ModuleChoice}};
 ghost use Rattle.yv_link_scopes.specs.{Files.{Files, brief_of}, RowList.{rows_of}};
-ghost use Rattle.yv_expand.specs.{StatementBlocks.{given_before}, Weigh.{Weigh}, Tree.{Item, Node, Nodes, count, item_list}, Conformance.{Conform}};
-ghost use Rattle.yv_expand_rounds.specs.Kinds.{is_uses};
+ghost use Rattle.yv_expand.specs.{Tree.{Item, Node, Nodes, count, item_list}, Conformance.{Conform}};
+ghost use Rattle.yv_expand_statements.specs.{StatementBlocks.{given_before}, Weigh.{Weigh}};
+ghost use Rattle.yv_expand_statements.specs.Kinds.{is_uses};
 ghost use Rattle.yv_expand_uses.specs.{Kinds.{kind_of}, declared.spot.Spot.{Spot}};
-ghost use Rattle.yv_expand_changes.specs.Truth.{Truth};
-ghost use Rattle.yv_expand_tree.specs.{Refusals.{BadExpansion}, Final.{Final, IsFinal, spots_of}, FileOrder.{HaveModuleFiles, is_given, marks_of}, FinalTree.{source_at, targets_of}, Remains.{AreLeft}, Lowest.{is_lowest}};
+ghost use Rattle.yv_expand_statements.specs.Truth.{Truth};
+ghost use Rattle.yv_expand_tree.specs.{Refusals.{BadExpansion}, Final.{Final, IsFinal, spots_of}, FinalTree.{source_at, targets_of}, Remains.{AreLeft}, Lowest.{is_lowest}};
+ghost use Rattle.yv_expand_statements.specs.FileOrder.{HaveModuleFiles, is_given, marks_of};
 
 /// What is wrong with the expansion of files is refused in the phases 7 and 8.
 pub fn refusals_of_expansions_have_phases()

@@ -3,8 +3,9 @@ ghost use Rattle.std.specs.Prelude.{◌≡◌, ◌≤◌, ℕ, List, Some, lengt
 ghost use Rattle.yv_expand_tree.specs.FinalTree.{source_at, source_of_spot, module_file_of_item, origin_at};
 
 use std::marker::Model;
-use yv_expand::{Expansion, Origin, RemainingNode};
+use yv_expand::{Expansion, RemainingNode};
 use yv_expand_refines::Changes;
+use yv_expand_statements::Origin;
 use yv_expand_uses::Spot;
 
 /// The final tree of the files of implemented modules. Items go by their numbers in the expansion,

@@ -4,13 +4,15 @@ ghost use Rattle.yv_text_statement.specs.{Order.{IsLeast}, declared.refusal.Refu
 ghost use Rattle.yv_link_scopes.specs.Views.{files_in, lent_in, rows_in};
 ghost use Rattle.yv_link_definitions.specs.Meanings.{AreNames};
 ghost use Rattle.yv_link.specs.LinkedFiles.{truth_in};
-ghost use Rattle.yv_expand.specs.{Limit.{TooMany}, ItemLimit.{ParentsComeFirst}, Expansion.{IsWhole}, StatementBlocks.{augments_of}};
+ghost use Rattle.yv_expand.specs.{ItemLimit.{ParentsComeFirst}, Expansion.{IsWhole}};
+ghost use Rattle.yv_expand_statements.specs.{Limit.{TooMany}, StatementBlocks.{augments_of}};
 ghost use Rattle.yv_expand.specs.Tree as expansion;
 ghost use Rattle.yv_expand_rounds.specs.Turns.{State};
 ghost use Rattle.yv_expand_refines.specs.Changes.{each};
 ghost use Rattle.yv_expand_augments.specs.{Refusals.{BadTarget}, FinalItems.{AreAugmentedTree}};
 ghost use Rattle.yv_expand_uses.specs.Spots.{whole};
-ghost use Rattle.yv_expand_tree.specs.{Refusals.{BadExpansion, BadFinal}, Final.{Final, changes_of, final_items, whole_of}, FileOrder.{marks_of, order_of}, FinalTree.{AreKept}, Remains.{AreLeft}};
+ghost use Rattle.yv_expand_tree.specs.{Refusals.{BadExpansion, BadFinal}, Final.{Final, changes_of, final_items, whole_of}, FinalTree.{AreKept}, Remains.{AreLeft}};
+ghost use Rattle.yv_expand_statements.specs.FileOrder.{marks_of, order_of};
 
 use crate::file_order::{marks, order};
 use crate::nodes::nodes;

@@ -3,9 +3,9 @@ use Rattle.std.proofs.Common.{◌≡◌, ℕ, zero, suc, ◌+◌, ◌<◌, ◌�
 use Rattle.std.specs.List.{slice_get}
 use Rattle.std.proofs.lemmas.Option.{same_Some, slice_get_within}
 use Rattle.yv_link_scopes.specs.Rows.{Row}
-use Rattle.yv_expand.specs.Origin.{number_of}
+use Rattle.yv_expand_statements.specs.Origin.{number_of}
 use Rattle.yv_expand.specs.Tree.{Item}
-use Rattle.yv_expand_rounds.specs.Kinds.{is_uses}
+use Rattle.yv_expand_statements.specs.Kinds.{is_uses}
 use Rattle.yv_expand_uses.specs.AugmentOrder.{augments_giving, giving_places, is_giving, is_in, ordinal, place_before, place_of}
 use Rattle.yv_expand_uses.specs.Spots.{LayoutView, Whole, copies_of, group_below, layout_of, laid_from, one_more, spot_at, spot_of, top_group_of, top_group, used_group}
 use Rattle.yv_expand_uses.specs.InnerLayout.{AllFit, AreLaid, AreNumbered, Fits, IsNumbered}

@@ -6,8 +6,8 @@ use Rattle.std.proofs.lemmas.Slice.Eq.{bytes_eq-Decides}
 use Rattle.yv_text_statement.specs.declared.keyword.Keyword.{Keyword}
 use Rattle.yv_text_statement.specs.declared.keyword.Keyword.TheVariants as word
 use Rattle.yv_text_statement.specs.Keywords.{keyword_in, keyword_of, names}
-use Rattle.yv_expand_rounds.specs.declared.statement_kind.StatementKind.{StatementKind}
-use Rattle.yv_expand_rounds.specs.Kinds.{kind_in, kind_of_keyword, kinds}
+use Rattle.yv_expand_statements.specs.declared.statement_kind.StatementKind.{StatementKind}
+use Rattle.yv_expand_statements.specs.Kinds.{kind_in, kind_of_keyword, kinds}
 use Rattle.yv_expand_uses.specs.InnerKinds.{kind_by}
 
 -- what the table gives a text is what its keyword gives, if that is so of each word of the table

@@ -5,8 +5,8 @@ use Rattle.yv_link_scopes.specs.Files.{has_word}
 use Rattle.yv_link_scopes.specs.Names.{first_where}
 use Rattle.yv_link_scopes.specs.Rows.{Row}
 use Rattle.yv_base_tables.specs.Families.{numbers_at}
-use Rattle.yv_expand_rounds.specs.Kinds.{kind_of_keyword}
-use Rattle.yv_expand.specs.StatementBlocks.{is_augment}
+use Rattle.yv_expand_statements.specs.Kinds.{kind_of_keyword}
+use Rattle.yv_expand_statements.specs.StatementBlocks.{is_augment}
 
 -- for each augment the block in which it is
 abbrev pub augment_places : List Row → List (Option ℕ)

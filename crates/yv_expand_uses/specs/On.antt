@@ -2,11 +2,11 @@
 -- 7.13, 7.17 and 7.20.2).
 use Rattle.std.specs.Prelude.{◌≡◌, ℕ, ◌&&◌, Bool, true, false, List, if◌then◌else◌, Option, Some, None, length, slice_get}
 use Rattle.yv_link_scopes.specs.Rows.{Row}
-use Rattle.yv_expand.specs.Origin.{number_of}
+use Rattle.yv_expand_statements.specs.Origin.{number_of}
 use Rattle.yv_expand.specs.Tree.{Item}
 use Rattle.yv_base_graph.specs.Marks.{is_marked}
-use Rattle.yv_expand_rounds.specs.Kinds.{is_uses}
-use Rattle.yv_expand.specs.StatementBlocks.{is_augment}
+use Rattle.yv_expand_statements.specs.Kinds.{is_uses}
+use Rattle.yv_expand_statements.specs.StatementBlocks.{is_augment}
 use Rattle.yv_expand_uses.specs.declared.spot.Spot.{Spot}
 
 -- an item that isn't a `uses` is on; one that is, by this mark

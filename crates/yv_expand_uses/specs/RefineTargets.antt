@@ -11,10 +11,10 @@ use Rattle.yv_expand_rounds.specs.Turns.{State}
 use Rattle.yv_expand_refines.specs.Targets.{RefineMeaning}
 use Rattle.yv_expand_refines.specs.declared.targets.Refinements.{Refinements}
 use Rattle.yv_expand_uses.specs.Paths.{path_in}
-use Rattle.yv_expand_rounds.specs.Kinds.{is_uses}
+use Rattle.yv_expand_statements.specs.Kinds.{is_uses}
 use Rattle.yv_expand_uses.specs.Spots.{Whole}
 use Rattle.yv_expand_uses.specs.declared.spot.Spot.{Spot}
-use Rattle.yv_expand.specs.StatementBlocks.{is_refine}
+use Rattle.yv_expand_statements.specs.StatementBlocks.{is_refine}
 
 -- for each refine the block in which it is
 abbrev pub refine_places : List Row → List (Option ℕ)

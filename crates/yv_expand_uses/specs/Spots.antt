@@ -4,10 +4,10 @@ use Rattle.std.specs.Prelude.{ℕ, ◌+◌, ◌-◌, nat_lt, List, [], ◌∷◌
 use Rattle.std.specs.Option.{is_some}
 use Rattle.yv_link_scopes.specs.Files.{Briefs, module_file_at}
 use Rattle.yv_link_scopes.specs.Rows.{Row}
-use Rattle.yv_expand.specs.Origin.{number_of}
+use Rattle.yv_expand_statements.specs.Origin.{number_of}
 use Rattle.yv_expand.specs.Tree.{Item}
 use Rattle.yv_expand_rounds.specs.declared.label.Label.{Label}
-use Rattle.yv_expand_rounds.specs.Kinds.{is_uses}
+use Rattle.yv_expand_statements.specs.Kinds.{is_uses}
 use Rattle.yv_expand_uses.specs.Kinds.{label_of}
 use Rattle.yv_expand_uses.specs.AugmentOrder.{augments_giving, is_giving, ordinal, place_of}
 use Rattle.yv_expand_uses.specs.declared.spot.Spot.{Spot}

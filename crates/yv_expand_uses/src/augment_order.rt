@@ -3,8 +3,8 @@ ghost use Rattle.std.specs.Prelude.{◌≡◌, ◌<◌, ◌+◌, ◌^◌, ◌==�
 ghost use Rattle.yv_link_scopes.specs.{Views.{rows_in}, Rows.{Row, row}};
 ghost use Rattle.yv_base_tables.specs.Families.{by_place, numbers_at};
 ghost use Rattle.yv_expand_uses.specs.{InnerCounts.{count_at, count_more}, AugmentOrder.{gives, giving_from, giving_places, is_in, is_node_or_uses, item_places, place_before, place_of}};
-ghost use Rattle.yv_expand.specs.StatementBlocks.{is_augment};
-ghost use Rattle.yv_expand.specs.StatementBlocks.{is_refine};
+ghost use Rattle.yv_expand_statements.specs.StatementBlocks.{is_augment};
+ghost use Rattle.yv_expand_statements.specs.StatementBlocks.{is_refine};
 
 use crate::if_features::is_augment;
 use crate::kinds::kind_given;

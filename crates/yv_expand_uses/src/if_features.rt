@@ -1,10 +1,11 @@
 //! Which items are there by their conditions.
 ghost use Rattle.std.specs.Prelude.{◌≡◌, ◌&&◌, Some, slice_get, IfOk};
 ghost use Rattle.yv_link_scopes.specs.{Views.{rows_in}, Rows.{row}};
-ghost use Rattle.yv_expand.specs.{ItemLimit.{ParentsComeFirst}, Origin.{number_of}};
+ghost use Rattle.yv_expand.specs.ItemLimit.{ParentsComeFirst};
+ghost use Rattle.yv_expand_statements.specs.Origin.{number_of};
 ghost use Rattle.yv_base_graph.specs.Marks.{is_marked};
 ghost use Rattle.yv_expand_uses.specs.On.{AreOn, above_on, augment_on, block_on, uses_on};
-ghost use Rattle.yv_expand.specs.StatementBlocks.{is_augment};
+ghost use Rattle.yv_expand_statements.specs.StatementBlocks.{is_augment};
 
 use crate::kinds::is_uses;
 use crate::spot::Spot;

@@ -2,12 +2,12 @@
 ghost use Rattle.std.specs.Prelude.{◌≡◌, List};
 ghost use Rattle.yv_link_scopes.specs.{Views.{rows_in}, Rows.{Row, row}};
 ghost use Rattle.yv_expand_paths.specs.PathTables.{AreNames};
-ghost use Rattle.yv_expand_rounds.specs.Kinds.{is_uses, kind_of_keyword};
+ghost use Rattle.yv_expand_statements.specs.Kinds.{is_uses, kind_of_keyword};
 ghost use Rattle.yv_expand_uses.specs.{Kinds.{kind_of, label_of, name_number}, InnerKinds.{kind_by}};
 
-use yv_expand::Origin;
 use yv_expand_paths::{NodeNames, qualified_name};
-use yv_expand_rounds::{Label, StatementKind};
+use yv_expand_rounds::Label;
+use yv_expand_statements::{Origin, StatementKind};
 use yv_link_scopes::{Entry, Rows};
 use yv_text_statement::Keyword;
 

@@ -1,8 +1,8 @@
 //! Where items are before any augment is applied.
 ghost use Rattle.std.specs.Prelude.{◌≡◌, ◌<◌, ◌+◌, ◌^◌, true, List, length, slice_get, IfOk, OnOk};
 ghost use Rattle.yv_link_scopes.specs.Views.{files_in, rows_in};
-ghost use Rattle.yv_expand.specs.Origin.{number_of};
-ghost use Rattle.yv_expand_rounds.specs.Kinds.{is_uses};
+ghost use Rattle.yv_expand_statements.specs.Origin.{number_of};
+ghost use Rattle.yv_expand_statements.specs.Kinds.{is_uses};
 ghost use Rattle.yv_expand_uses.specs.{AugmentOrder.{ordinal}, Spots.{copies_of, copy_group, source_in, group_below, module_file_below, layout_of, spot_at, spot_of, top_group, used_group}};
 
 use crate::kinds::{is_uses, label_of};

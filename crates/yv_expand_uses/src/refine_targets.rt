@@ -2,7 +2,8 @@
 //! module, and what they mean.
 ghost use Rattle.std.specs.Prelude.{◌≡◌, ◌<◌, ◌==◌, ◌&&◌, not, ◌++◌, ℕ, [], List, Some, length, map, slice_get, IfOk, IfSome, IsOk, OnErr, OnOk};
 ghost use Rattle.yv_link_scopes.specs.Views.{rows_in};
-ghost use Rattle.yv_expand_rounds.specs.{declared.label.Label.{Label}, Turns.{State}, InnerState.{IsAugmentation}, Kinds.{is_uses}};
+ghost use Rattle.yv_expand_rounds.specs.{declared.label.Label.{Label}, Turns.{State}, InnerState.{IsAugmentation}};
+ghost use Rattle.yv_expand_statements.specs.Kinds.{is_uses};
 ghost use Rattle.yv_base_tables.specs.InnerTree.{IsPathTree};
 ghost use Rattle.yv_expand_refines.specs.Targets.{targets_at, all_meant, meaning_of};
 ghost use Rattle.yv_expand_uses.specs.{InnerLeadingPaths.{IsLed, place_aim}, InnerPaths.{target_of_path}, RefineTargets.{SameRefinements, refined_at, refines_in}, Spots.{Whole}};

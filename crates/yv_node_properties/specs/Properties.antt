@@ -7,8 +7,8 @@ use Rattle.yv_text_statement.specs.Tree.{Tree, name_of, trees}
 use Rattle.yv_text_statement.specs.declared.keyword.Keyword.{Keyword}
 use Rattle.yv_text_statement.specs.declared.keyword.Keyword.TheVariants as word
 use Rattle.yv_link_scopes.specs.Files.{Files}
-use Rattle.yv_expand.specs.declared.origin.Origin.{Origin}
-use Rattle.yv_expand.specs.declared.origin.Origin.TheVariants as origin
+use Rattle.yv_expand_statements.specs.declared.origin.Origin.{Origin}
+use Rattle.yv_expand_statements.specs.declared.origin.Origin.TheVariants as origin
 use Rattle.yv_base_numbers.specs.Numbers.{integer_of}
 use Rattle.yv_text_statement.specs.TextInFile.{TextInFile, or_list}
 use Rattle.yv_node_properties.specs.Statements.{file_at, first_of, is_of, statement_at}

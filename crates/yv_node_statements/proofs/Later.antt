@@ -8,8 +8,8 @@ use Rattle.yv_text_statement.specs.Tree.{Tree, trees}
 use Rattle.yv_text_statement.specs.declared.keyword.Keyword.{Keyword}
 use Rattle.yv_text_statement.specs.declared.keyword.Keyword.TheVariants as word
 use Rattle.yv_link_scopes.specs.Files.{Files}
-use Rattle.yv_expand.specs.declared.origin.Origin.{Origin}
-use Rattle.yv_expand.specs.declared.origin.Origin.TheVariants.{Statement, Input, Output}
+use Rattle.yv_expand_statements.specs.declared.origin.Origin.{Origin}
+use Rattle.yv_expand_statements.specs.declared.origin.Origin.TheVariants.{Statement, Input, Output}
 use Rattle.yv_values.specs.Values.{Val}
 use Rattle.yv_node_content.specs.Definition.{Definition}
 use Rattle.yv_text_statement.specs.TextInFile.{TextInFile, or_list}

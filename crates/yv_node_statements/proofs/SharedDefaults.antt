@@ -20,7 +20,7 @@ use Rattle.yv_types.specs.Types.{default_at, sharing_at, space_at}
 use Rattle.yv_types.specs.declared.type_table.Types.{Types}
 use Rattle.yv_node_statements.specs.Definitions.{default_of_type, types_in}
 use Rattle.yv_node_statements.specs.InnerSharedValues.{AreShared, AreValues, IsByType, Numbers, numbers_cmp, type_values}
-use Rattle.yv_node_statements.specs.Kinds.{kinds_of}
+use Rattle.yv_node_statements.specs.KnownTypes.{kinds_of}
 use Rattle.yv_node_statements.proofs.Firsts.{types_found, types_in-first}
 use Rattle.yv_node_properties.specs.Statements.{first_of}
 

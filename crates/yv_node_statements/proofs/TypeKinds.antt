@@ -11,8 +11,8 @@ use Rattle.yv_types.specs.Types.{IsTold}
 use Rattle.yv_type_enums.specs.Types.{Truth}
 use Rattle.yv_text_statement.specs.TextInFile.{TextInFile}
 use Rattle.yv_types.specs.Defaults.{HasDefault}
-use Rattle.yv_types.specs.Types.{IsDefault}
-use Rattle.yv_types.specs.Types.{IsReferring}
+use Rattle.yv_types.specs.Defaults.{IsDefault}
+use Rattle.yv_types.specs.Referrals.{IsReferring}
 use Rattle.yv_types.specs.Referrals.{HasReferral}
 use Rattle.yv_types.specs.declared.leafref_path.TypeLeafref.{TypeLeafref}
 use Rattle.yv_node_statements.specs.Kinds.{AreKinds, AreTypeDefaults, AreTyped, AreTypeReferrals, IsKind, IsKindOf, Kinds, TypeDefaults, TypeReferrals, TypeMeanings}

@@ -8,8 +8,8 @@ use Rattle.yv_text_statement.specs.declared.keyword.Keyword.{Keyword}
 use Rattle.yv_text_statement.specs.declared.keyword.Keyword.TheVariants as word
 use Rattle.yv_text_statement.specs.Keywords.{keyword_of}
 use Rattle.yv_link_scopes.specs.Files.{Files}
-use Rattle.yv_expand.specs.declared.origin.Origin.{Origin}
-use Rattle.yv_expand.specs.declared.origin.Origin.TheVariants as origin
+use Rattle.yv_expand_statements.specs.declared.origin.Origin.{Origin}
+use Rattle.yv_expand_statements.specs.declared.origin.Origin.TheVariants as origin
 use Rattle.yv_values.specs.Types.{Plain}
 use Rattle.yv_node_paths.specs.Steps.{names_of, paths_of}
 use Rattle.yv_node_paths.specs.Referral.{pieces_of}

@@ -5,7 +5,7 @@ use Rattle.std.specs.Ordering.{nat_cmp, ordering_then}
 use Rattle.std.specs.BTreeMap.{BTreeMap, get_by}
 use Rattle.std.specs.declared.cmp.Ordering.{Ordering}
 use Rattle.yv_link_scopes.specs.Files.{Files}
-use Rattle.yv_expand.specs.declared.origin.Origin.{Origin}
+use Rattle.yv_expand_statements.specs.declared.origin.Origin.{Origin}
 use Rattle.yv_node_content.specs.Definition.{Definition}
 use Rattle.yv_node_statements.specs.Kinds.{TypeMeanings}
 use Rattle.yv_node_statements.specs.Definitions.{refined_definition}

@@ -15,7 +15,7 @@ use Rattle.yv_types.specs.declared.type_table.Types.{Types}
 use Rattle.yv_types.specs.Scopes.{AreScopes}
 use Rattle.yv_node_statements.specs.declared.reader.DefaultReader.{DefaultReader}
 use Rattle.yv_node_statements.specs.InnerRefines.{are_none}
-use Rattle.yv_node_statements.specs.Kinds.{kinds_of}
+use Rattle.yv_node_statements.specs.KnownTypes.{kinds_of}
 use Rattle.yv_node_statements.specs.Values.{values_of}
 use Rattle.yv_node_content.specs.Kinds.{has_values}
 

@@ -1,16 +1,15 @@
 -- What the `type` statements of files mean: plain types, a default, and what they say as
 -- leafrefs (RFC 7950, sections 7.3.4, 7.4 and 9).
 use Rattle.std.specs.Prelude.{◌≡◌, ◌⊎◌, ℕ, List, [], Option, Some, None, codes}
-use Rattle.std.specs.Option.{unwrap_or}
 use Rattle.yv_text_statement.specs.Selection.{ModuleChoice}
 use Rattle.yv_link_scopes.specs.Files.{Files}
 use Rattle.yv_link_scopes.specs.RowList.{rows_of}
 use Rattle.yv_link_definitions.specs.References.{number_at}
 use Rattle.yv_type_enums.specs.Types.{Truth}
 use Rattle.yv_values.specs.Types.{Plain}
-use Rattle.yv_types.specs.Types.{IsDefault, IsReferring, default_at, referring_at, space_at}
+use Rattle.yv_types.specs.Defaults.{IsDefault}
+use Rattle.yv_types.specs.Referrals.{IsReferring}
 use Rattle.yv_types.specs.Spaces.{Space}
-use Rattle.yv_types.specs.declared.type_table.Types.{Types}
 use Rattle.yv_text_statement.specs.TextInFile.{TextInFile}
 use Rattle.yv_types.specs.declared.leafref_path.TypeLeafref.{TypeLeafref}
 
@@ -35,10 +34,6 @@ abbrev pub AreKinds : Files → ModuleChoice → Truth → Kinds → Type 0
 AreKinds files choice truth kinds =
     (file offset : ℕ) → IsKindOf files choice truth
     (number_at (rows_of files) (codes "type") file offset) (kinds file offset)
-
--- the plain types that are known; no types, where none are known
-abbrev pub kinds_of : Types → Kinds
-kinds_of types file offset = unwrap_or (space_at types file offset) []
 
 -- the default that the `type` statement at an offset of a file has by its typedefs
 abbrev pub TypeDefaults : Type 0
@@ -72,8 +67,3 @@ pub record AreTyped (files : Files) (choice : ModuleChoice) (truth : Truth)
   pub kinds : AreKinds files choice truth typing.kinds
   pub defaults : AreTypeDefaults files typing.defaults
   pub referrals : AreTypeReferrals files typing.referrals
-
--- what is known of them
-abbrev pub typing_of : Types → TypeMeanings
-typing_of types =
-    record { kinds = kinds_of types; defaults = default_at types; referrals = referring_at types }

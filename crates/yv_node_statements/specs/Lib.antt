@@ -1,4 +1,5 @@
 pub mod Kinds
+pub mod KnownTypes
 pub mod Features
 pub mod Values
 pub mod Definitions

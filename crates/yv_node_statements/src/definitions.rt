@@ -2,10 +2,10 @@
 ghost use Rattle.std.specs.{Prelude.{◌≡◌, ◌++◌, ℕ, List, [], map, slice_get, IfOk, IfSome, OnOk, string_bytes}, Option.{option_copied, option_map}, Rc.{rc_str_bytes}};
 ghost use Rattle.yv_text_statement.specs.Tree.{trees};
 ghost use Rattle.yv_link_scopes.specs.Views.{lent_in};
-ghost use Rattle.yv_expand.specs.declared.origin.Origin.{Origin};
+ghost use Rattle.yv_expand_statements.specs.declared.origin.Origin.{Origin};
 ghost use Rattle.yv_values.specs.Types.{plain_of};
 ghost use Rattle.yv_node_paths.specs.LeafPaths.{AreLeafPaths};
-ghost use Rattle.yv_node_statements.specs.{Kinds.{typing_of}, Features.{all_expressions, expressions, with_expressions}, Definitions.{definition_of, defined_at, leafref_of, leafref_of_tree, refined_definition, unwritten}, Values.{with_defaults}, InnerStore.{AreKept, gives_features, has_features}, InnerSharedValues.{IsByType, IsReader}, InnerChanges.{change_at, apply_change, apply_statements}, InnerRefines.{give_default, gives_default, is_moved, is_swayed}};
+ghost use Rattle.yv_node_statements.specs.{KnownTypes.{typing_of}, Features.{all_expressions, expressions, with_expressions}, Definitions.{definition_of, defined_at, leafref_of, leafref_of_tree, refined_definition, unwritten}, Values.{with_defaults}, InnerStore.{AreKept, gives_features, has_features}, InnerSharedValues.{IsByType, IsReader}, InnerChanges.{change_at, apply_change, apply_statements}, InnerRefines.{give_default, gives_default, is_moved, is_swayed}};
 ghost use Rattle.yv_text_statement.specs.declared.keyword.Keyword.TheVariants as word;
 ghost use Rattle.yv_node_properties.specs.Statements.{file_at, first_of, statement_at};
 
@@ -17,7 +17,7 @@ use crate::store::{Store, changes_at, kept_at, stated_at, types_at, unwritten_at
 use crate::values::defaults_of;
 use std::alloc::{AllocError, Global};
 use std::rc::{Rc, RcStr};
-use yv_expand::Origin;
+use yv_expand_statements::Origin;
 use yv_link_scopes::Rows;
 use yv_node_content::{Definition, DefinitionDraft, NodeKind};
 use yv_node_paths::LeafPaths;

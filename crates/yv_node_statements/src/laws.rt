@@ -4,7 +4,8 @@ ghost use Rattle.yv_text_statement.specs.Selection.{ModuleChoice};
 ghost use Rattle.yv_link_scopes.specs.Files.{Files};
 ghost use Rattle.yv_type_enums.specs.Types.{Truth};
 ghost use Rattle.yv_types.specs.{Types.{AreTypes}, declared.type_table.Types.{Types}};
-ghost use Rattle.yv_node_statements.specs.Kinds.{AreTyped, TypeMeanings, typing_of};
+ghost use Rattle.yv_node_statements.specs.Kinds.{AreTyped, TypeMeanings};
+ghost use Rattle.yv_node_statements.specs.KnownTypes.{typing_of};
 
 /// What the types of files answer for each `type` statement is its plain types, its default and
 /// what it says as a leafref, and nothing if it has none.

@@ -3,7 +3,7 @@ ghost use Rattle.std.specs.{Prelude.{◌≡◌, map, IfOk}, Option.{option_copie
 ghost use Rattle.yv_text_statement.specs.{Tree.{trees}, Keywords.{keyword_of}};
 ghost use Rattle.yv_text_statement.specs.declared.keyword.Keyword.TheVariants as word;
 ghost use Rattle.yv_link_scopes.specs.Files.{Files};
-ghost use Rattle.yv_node_statements.specs.{InnerNames.{AreNamed}, Kinds.{kinds_of, typing_of}, Features.{if_features, expressions}, Definitions.{default_of_type, definition_of_tree, kind_of, node_kind, node_name, status_of, types_in, with_properties}};
+ghost use Rattle.yv_node_statements.specs.{InnerNames.{AreNamed}, KnownTypes.{kinds_of, typing_of}, Features.{if_features, expressions}, Definitions.{default_of_type, definition_of_tree, kind_of, node_kind, node_name, status_of, types_in, with_properties}};
 ghost use Rattle.yv_values.specs.Types.{plain_of};
 ghost use Rattle.yv_node_content.specs.Definition.{blank};
 ghost use Rattle.yv_text_statement.specs.TextInFile.{written_of};

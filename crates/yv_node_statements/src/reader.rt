@@ -2,7 +2,7 @@
 ghost use Rattle.std.specs.{Prelude.{◌≡◌, ◌≤◌, length, IfOk, IfSome, OnOk}, Option.{option_copied}};
 ghost use Rattle.yv_link_scopes.specs.{Files.{Files}, Views.{lent_in}};
 ghost use Rattle.yv_types.specs.{Types.{default_at}, Scopes.{AreScopes}};
-ghost use Rattle.yv_node_statements.specs.{Kinds.{kinds_of, typing_of}, Definitions.{defined_at}, InnerSharedValues.{IsByType, IsReader, type_values}};
+ghost use Rattle.yv_node_statements.specs.{KnownTypes.{kinds_of, typing_of}, Definitions.{defined_at}, InnerSharedValues.{IsByType, IsReader, type_values}};
 
 use crate::properties::{lasting_at, node_kind};
 use crate::statements::{file_at, statement_at, type_at};

@@ -7,8 +7,8 @@ use crate::chain::Chain;
 use crate::definitions::Definitions;
 use std::alloc::{AllocError, Global};
 use std::collections::{BTreeMap, BTreeSet};
-use yv_expand::Origin;
 use yv_expand_refines::Changes;
+use yv_expand_statements::Origin;
 use yv_node_content::Definition;
 use yv_values::Matchers;
 

@@ -4,7 +4,7 @@ ghost use Rattle.yv_link_scopes.specs.Views.{lent_in};
 ghost use Rattle.yv_node_paths.specs.LeafPaths.{AreLeafPaths};
 ghost use Rattle.yv_values.specs.Types.{plain_of};
 ghost use Rattle.yv_node_content.specs.declared.kind.NodeKind.{NodeKind};
-ghost use Rattle.yv_node_statements.specs.{Kinds.{typing_of}, Definitions.{defined_at, unwritten}, Values.{with_defaults}, InnerChanges.{change_at}, InnerStore.{IsKept}, InnerSharedValues.{IsReader}};
+ghost use Rattle.yv_node_statements.specs.{KnownTypes.{typing_of}, Definitions.{defined_at, unwritten}, Values.{with_defaults}, InnerChanges.{change_at}, InnerStore.{IsKept}, InnerSharedValues.{IsReader}};
 ghost use Rattle.yv_node_properties.specs.Statements.{file_at, statement_at};
 
 use crate::changes::Changes;

@@ -11,7 +11,7 @@ use Rattle.yv_nodes.specs.Rows.{Module, Row, Rows, whole}
 use Rattle.yv_nodes.specs.Numbers.{rows_of}
 use Rattle.yv_nodes.specs.declared.node.NodeId.{NodeId}
 use Rattle.yv_schema_tables.specs.Sound.{IsSound}
-use Rattle.yv_schema_build.specs.Module.{modules_of}
+use Rattle.yv_schema.specs.Module.{modules_of}
 use Rattle.yv_schema.specs.Refuses.{Refuses}
 use Rattle.yv_schema.specs.Notes.{AreNotes}
 use Rattle.yv_schema.specs.Schema.{AreReferences, IsSchema}

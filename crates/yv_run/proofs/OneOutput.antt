@@ -9,7 +9,7 @@ use Rattle.yv_source.specs.Answer.{IsBadFile, IsSpelled, IsRefused}
 use Rattle.yv_source.specs.Legal.{IsLegalFile}
 use Rattle.yv_text_statement.specs.Selection.{ModuleChoice}
 use Rattle.yv_schema.specs.Refuses.{Refuses}
-use Rattle.yv_schema_build.specs.Module.{modules_of}
+use Rattle.yv_schema.specs.Module.{modules_of}
 use Rattle.yv_schema.specs.Notes.{AreNotes}
 use Rattle.yv_schema.specs.Schema.{AreReferences, IsSchema}
 use Rattle.yv_nodes.specs.Link.{Link}

@@ -8,7 +8,7 @@ use Rattle.yv_text_statement.specs.Selection.{ModuleChoice}
 use Rattle.yv_type_restrictions.specs.Types.{HasTypePattern}
 use Rattle.yv_nodes.specs.Rows.{Rows, whole}
 use Rattle.yv_nodes.specs.Numbers.{rows_of}
-use Rattle.yv_schema_build.specs.Module.{modules_of}
+use Rattle.yv_schema.specs.Module.{modules_of}
 use Rattle.yv_schema.specs.Notes.{AreNotes}
 use Rattle.yv_schema.specs.Schema.{AreReferences, IsSchema}
 use Rattle.yv_schema.specs.Refuses.{Refuses, RefusesBeforeTypes}

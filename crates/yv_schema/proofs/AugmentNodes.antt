@@ -15,7 +15,7 @@ use Rattle.yv_expand_laws.specs.Schema.{shown_nodes}
 use Rattle.yv_expand_laws.specs.Shows.{Items}
 use Rattle.yv_schema.specs.Notes.{parents_from}
 use Rattle.yv_schema.specs.Notes as by_tree
-use Rattle.yv_schema.proofs.Numbering.{not_none}
+use Rattle.yv_schema.proofs.ShownNodes.{not_none}
 
 many_from : (w : Whole) (items : List Item) (l : LayoutView) → length (laid_from w items l).spots ≡ length l.spots + length items
 many_from w [] l = omega arith

@@ -1,45 +1,80 @@
--- Nodes by number, in order, and the nodes that they show.
-use Rattle.std.proofs.Common.{◌≡◌, ℕ, zero, suc, ◌+◌, List, [], ◌∷◌, ◌++◌, length, map, refl, sym, ◌∙◌, ap, ap₂, arith, Option, Some, None}
-use Rattle.std.specs.List.{slice_get}
-use Rattle.std.proofs.lemmas.List.{map-append}
-use Rattle.yv_expand.specs.Tree.{Node, Nodes, count, item, item_list, none}
-use Rattle.yv_expand_laws.specs.Schema.{shown_nodes}
-use Rattle.yv_expand_laws.specs.Shows.{Items}
-use Rattle.yv_schema.specs.Schema.{node_list}
+-- The places of the nodes that are left, and of those above and below them, are before a number
+-- that isn't less than their count.
+use Rattle.std.proofs.Common.{◌≡◌, ℕ, ◌+◌, ◌<◌, ◌≤◌, List, [], inl, inr, length, get_or, refl, sym, subst, arith, Option, Some, None}
+use Rattle.std.specs.List.{All, slice_get}
+use Rattle.std.specs.Option.{option_and_then}
+use Rattle.std.proofs.lemmas.Bool.{cases_lt}
+use Rattle.std.proofs.lemmas.List.{get_or_past, length-map}
+use Rattle.std.proofs.lemmas.List.Elements.{All-append, All-cons, All-from_get_or, All-get_or, All-nil}
+use Rattle.std.proofs.lemmas.Option.{slice_get-get_or, slice_get_within}
+use Rattle.yv_expand.specs.Tree as items
+use Rattle.yv_expand.specs.Tree.{Node}
+use Rattle.yv_schema.specs.Families as families
+use Rattle.yv_base_tables.specs.Families.{numbers_at}
+use Rattle.yv_expand_tree.specs.Final.{spots_of}
+use Rattle.yv_expand_tree.specs.FinalTree.{source_at}
+use Rattle.yv_nodes.specs.Rows.{rank}
+use Rattle.yv_schema.specs.InnerRows.{IsWithin, number_at, parent_of}
+use Rattle.yv_schema.specs.InnerBasis.{NumberedBasis, nodes_in}
+use Rattle.yv_schema.proofs.AugmentNotes.{Follows, each_at, givers, rank_up_to}
+use Rattle.yv_schema.proofs.ParentNodes.{before_each}
+use Rattle.yv_schema.proofs.SchemaTreeRows.{within_more}
 
-pub not_none : {A : Type 0} {x : A} → None ≡ Some x → ⊥
-not_none e = cc
+abbrev pub AllBefore : ℕ → List ℕ → Type 0
+AllBefore n ps = All (λ (p : ℕ). p < n) ps
 
-pub in_front : {A : Type 0} (xs ys : List A) (k : ℕ) (x : A) → slice_get xs k ≡ Some x → slice_get (xs ++ ys) k ≡ Some x
-in_front [] ys k x at = absurd (not_none at)
-in_front (z ∷ xs) ys zero x at = at
-in_front (z ∷ xs) ys (suc k) x at = in_front xs ys k x at
+-- the places of the nodes of one parent
+pub numbers_before : (first n : ℕ) (t : items.Nodes) → first + items.count t ≤ n → AllBefore n (families.numbers_from first t)
+numbers_before first n items.none le = All-nil (λ (p : ℕ). p < n)
+numbers_before first n (items.item origin below behind) le =
+    All-cons (λ (p : ℕ). p < n) first (families.numbers_from (first + 1 + items.count below) behind) (omega (arith, le))
+    (numbers_before (first + 1 + items.count below) n behind (omega (arith, le)))
 
-pub in_rest : {A : Type 0} (xs ys : List A) (k : ℕ) → slice_get (xs ++ ys) (length xs + k) ≡ slice_get ys k
-in_rest [] ys k = ap (slice_get ys) (let e : 0 + k ≡ k = omega arith in e)
-in_rest (z ∷ xs) ys k = ap (slice_get (z ∷ xs ++ ys)) (let e : length (z ∷ xs) + k ≡ suc (length xs + k) = omega arith in e) ∙ in_rest xs ys k
+-- those of the nodes below each
+pub below_before : (first n : ℕ) (t : items.Nodes) → first + items.count t ≤ n → All (AllBefore n) (families.below_from first t)
+below_before first n items.none le = All-nil (AllBefore n)
+below_before first n (items.item origin below behind) le =
+    All-cons (AllBefore n) (families.numbers_from (first + 1) below) _ (numbers_before (first + 1) n below (omega (arith, le)))
+    (All-append (AllBefore n) (families.below_from (first + 1) below) (families.below_from (first + 1 + items.count below) behind)
+    (below_before (first + 1) n below (omega (arith, le))) (below_before (first + 1 + items.count below) n behind (omega (arith, le))))
 
--- all of these nodes have a property
-abbrev pub AllLeft : (ℕ → Type 0) → Nodes → Type 0
-AllLeft P none = Unit {0}
-AllLeft P (item i below behind) = P i × AllLeft P below × AllLeft P behind
+pub each_before : (n : ℕ) (lists : List (List ℕ)) (k : ℕ) → All (AllBefore n) lists → AllBefore n (get_or lists k [])
+each_before n lists k all = elim (cases_lt k (length lists)) [
+  | inl here ↦ All-get_or (AllBefore n) lists k [] here all
+  | inr past ↦ subst (AllBefore n) (sym (get_or_past lists k [] past)) (All-nil (λ (p : ℕ). p < n))
+]
 
-pub all_left : (P : ℕ → Type 0) (parent : Option ℕ) (first : ℕ) (nodes : Nodes)
-    → ((k : ℕ) (x : Node) → slice_get (item_list parent first nodes) k ≡ Some x → P x.origin) → AllLeft P nodes
-all_left P parent first none each = tt
-all_left P parent first (item i below behind) each =
-    let inner : List Node = item_list (Some first) (first + 1) below in
-    let outer : List Node = item_list parent (first + 1 + count below) behind in (
-      each 0 (record { origin = i; parent = parent }) refl,
-      all_left P (Some first) (first + 1) below (λ k x at. each (suc k) x (in_front inner outer k x at)),
-      all_left P parent (first + 1 + count below) behind (λ k x at. each (suc (length inner + k)) x (in_rest inner outer k ∙ at)),
-    )
+-- the node above each stands before it
+pub parents_first : (b : NumberedBasis) (left : List Node) → left ≡ nodes_in b → (k : ℕ) (x : Node) → slice_get left k ≡ Some x → IsWithin x.parent k
+parents_first b left are k x at =
+    let there : slice_get (nodes_in b) k ≡ Some x = subst (λ (xs : List Node). slice_get xs k ≡ Some x) are at in
+    within_more x.parent (0 + k) k (omega arith) (before_each None 0 b.nodes tt k x there)
 
--- the nodes in order show the nodes in order
-pub listed : (its : Items) (parent : Option ℕ) (first : ℕ) (nodes : Nodes)
-    → node_list (shown_nodes its nodes) ≡ map (λ (x : Node). its.node_of x.origin) (item_list parent first nodes)
-listed its parent first none = refl
-listed its parent first (item i below behind) =
-    ap (λ xs. its.node_of i ∷ xs)
-    (ap₂ (λ xs ys. xs ++ ys) (listed its (Some first) (first + 1) below) (listed its parent (first + 1 + count below) behind)
-    ∙ sym (map-append (λ (x : Node). its.node_of x.origin) (item_list (Some first) (first + 1) below) (item_list parent (first + 1 + count below) behind)))
+pub rank_within : (parent : Option ℕ) (n m : ℕ) → IsWithin parent n → n ≤ m → rank (parent_of parent) ≤ m
+rank_within None n m within le = omega arith
+rank_within (Some place) n m within le = rank_up_to (number_at place) m (omega (arith, within, le))
+
+-- the places of the nodes above them
+pub parents_before : (b : NumberedBasis) (left : List Node) (n : ℕ) → left ≡ nodes_in b → length left ≤ n → (k : ℕ) (x : Node) → slice_get left k ≡ Some x → IsWithin x.parent n
+parents_before b left n are le k x at =
+    within_more x.parent k n (omega (arith, le, slice_get_within left k x at)) (parents_first b left are k x at)
+
+-- that of the node above one
+above_one : (left : List Node) (n k : ℕ) (o : Option Node) → ((x : Node) → slice_get left k ≡ Some x → IsWithin x.parent n) → slice_get left k ≡ o → IsWithin (option_and_then (λ (x : Node). x.parent) o) n
+above_one left n k None each at = tt
+above_one left n k (Some x) each at = each x at
+
+pub above_before : (left : List Node) (n : ℕ) (o : Option ℕ) → ((k : ℕ) (x : Node) → slice_get left k ≡ Some x → IsWithin x.parent n)
+    → IsWithin (option_and_then (λ (x : Node). x.parent) (option_and_then (slice_get left) o)) n
+above_before left n None each = tt
+above_before left n (Some k) each = above_one left n k (slice_get left k) (each k) refl
+
+-- each node has its giver, or none
+pub givers_many : (b : NumberedBasis) (follows : Follows b) → length (givers b follows) ≡ length (nodes_in b)
+givers_many b follows = length-map (nodes_in b) (λ (x : Node). source_at (spots_of b.files b.final) b.final.augments x.origin)
+
+-- the numbers at a place are those of what has it
+pub family_before : (places : List (Option ℕ)) (place n : ℕ) → length places ≤ n → AllBefore n (numbers_at places place)
+family_before places place n le = All-from_get_or (λ (p : ℕ). p < n) (numbers_at places place) 0 (λ k lt.
+    let at = each_at places place k (get_or (numbers_at places place) k 0) (slice_get-get_or (numbers_at places place) k 0 lt) in
+    omega (arith, le, slice_get_within places (get_or (numbers_at places place) k 0) (Some place) at))

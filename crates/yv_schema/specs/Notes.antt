@@ -6,12 +6,11 @@ use Rattle.yv_base_tables.specs.Families.{numbers_at}
 use Rattle.yv_link_scopes.specs.Files.{Files, brief_of, module_file_at}
 use Rattle.yv_link_scopes.specs.RowList.{rows_of}
 use Rattle.yv_link_scopes.specs.Rows.{Row, name_in}
-use Rattle.yv_expand.specs.StatementBlocks.{augments_of}
-use Rattle.yv_expand_tree.specs.FileOrder.{marks_of}
+use Rattle.yv_expand_statements.specs.StatementBlocks.{augments_of}
+use Rattle.yv_expand_statements.specs.FileOrder.{marks_of}
 use Rattle.yv_expand_definition.specs.Nodes.{Forest, Node, node, none}
 use Rattle.yv_nodes.specs.Rows.{Note}
-use Rattle.yv_schema_build.specs.OfBasis.{HoldsOfBasis}
-use Rattle.yv_schema.specs.Schema.{IsBasis, Basis, node_list}
+use Rattle.yv_schema.specs.Schema.{Basis, HoldsOfBasis, node_list}
 
 -- the numbers of the nodes that the augment of a module gives
 abbrev pub nodes_added : Basis → (augment : ℕ) → List ℕ
@@ -64,5 +63,4 @@ notes_of choice b =
 -- these are the augments of the files' modules that add nodes to the tree to which files expand
 abbrev pub AreNotes : ModuleChoice → Files → List Note → Type 0
 AreNotes choice files notes =
-    HoldsOfBasis (λ (b : Basis). b.files) IsBasis choice files
-    (λ b. notes ≡ notes_of choice b)
+    HoldsOfBasis choice files (λ b. notes ≡ notes_of choice b)

@@ -4,11 +4,11 @@ use Rattle.std.specs.Prelude.{◌⊎◌, ℕ}
 use Rattle.yv_text_statement.specs.declared.refusal.Refusal.{Refusal}
 use Rattle.yv_text_statement.specs.Selection.{ModuleChoice}
 use Rattle.yv_link_scopes.specs.Files.{Files}
-use Rattle.yv_expand.specs.Limit.{TooMany}
-use Rattle.yv_expand_tree.specs.FileOrder.{marks_of}
+use Rattle.yv_expand_statements.specs.Limit.{TooMany}
+use Rattle.yv_expand_statements.specs.FileOrder.{marks_of}
 use Rattle.yv_expand_definition.specs.Refusals.{BadExpanded}
 use Rattle.yv_nodes.specs.Tree.{Forest}
-use Rattle.yv_schema_build.specs.Refusals.{BadNodes, BadTyping, RefusesBeforeExpansion}
+use Rattle.yv_schema.specs.Refusals.{BadNodes, BadTyping, RefusesBeforeExpansion}
 use Rattle.yv_schema.specs.Schema.{IsSchema, leafrefs_of}
 
 -- f is in the schema tree of the files

@@ -1,12 +1,12 @@
 -- The schema of files as that of the tree to which they expand (RFC 7950, sections 5.6.5, 7.5 to
 -- 7.17, and 9.9).
-use Rattle.std.specs.Prelude.{List, [], ◌∷◌, ◌++◌, Option, slice_get}
+use Rattle.std.specs.Prelude.{◌≡◌, List, [], ◌∷◌, ◌++◌, Option, slice_get}
 use Rattle.std.specs.Option.{option_and_then}
 use Rattle.yv_text_statement.specs.Selection.{ModuleChoice}
 use Rattle.yv_link_scopes.specs.Files.{Files}
 use Rattle.yv_node_statements.specs.Kinds.{AreTyped, TypeMeanings}
 use Rattle.yv_node_statements.specs.Definitions.{refined_definition}
-use Rattle.yv_expand_changes.specs.Truth.{Truth, IsTruth}
+use Rattle.yv_expand_statements.specs.Truth.{Truth, IsTruth}
 use Rattle.yv_expand_definition.specs.Nodes.{Node}
 use Rattle.yv_expand_definition.specs.Nodes as expanded
 use Rattle.yv_expand_definition.specs.Remains.{AreNodes}
@@ -17,9 +17,8 @@ use Rattle.yv_nodes.specs.Tree.{Forest, Label, node, no_trees, tree}
 use Rattle.yv_node_leafrefs.specs.Links.{AreLinks}
 use Rattle.yv_node_leafrefs.specs.Resolution.{IsTyped}
 use Rattle.yv_node_leafrefs.specs.Schema.{Referral, Schema}
-use Rattle.yv_schema_build.specs.Module.{module_name}
-use Rattle.yv_schema_build.specs.OfBasis.{HoldsOfBasis}
-use Rattle.yv_schema_build.specs.Referrals.{referral_at}
+use Rattle.yv_schema.specs.Module.{module_name}
+use Rattle.yv_schema.specs.Referrals.{referral_at}
 
 -- what a schema is made of: the statements of files, which of their conditions hold, what their
 -- types mean, and the nodes that conditions leave of the tree to which the files expand
@@ -71,16 +70,22 @@ pub record IsBasis (choice : ModuleChoice) (b : Basis) : Type 0 where
   pub typing : AreTyped b.files choice b.truth b.typing
   pub nodes : AreNodes choice b.files b.nodes
 
+-- something holds of a basis of these files under a choice of modules
+pub record HoldsOfBasis (choice : ModuleChoice) (files : Files)
+    (Holds : Basis → Type 0) : Type 0 where
+  pub basis : Basis
+  pub of_files : basis.files ≡ files
+  pub is_basis : IsBasis choice basis
+  pub is : Holds basis
+
 -- this is the schema tree of the files: the nodes to which they expand, as their statements say
 -- them, with the leafrefs resolved (section 9.9)
 abbrev pub IsSchema : ModuleChoice → Files → Forest → Type 0
 IsSchema choice files forest =
-    HoldsOfBasis (λ (b : Basis). b.files) IsBasis choice files
-    (λ b. IsTyped (leafrefs_of b) (stated_of b) forest)
+    HoldsOfBasis choice files (λ b. IsTyped (leafrefs_of b) (stated_of b) forest)
 
 -- this is where the paths of its leafrefs lead that require an instance, each at the number of its
 -- node (sections 9.9.2 and 9.9.3)
 abbrev pub AreReferences : ModuleChoice → Files → List (Option Link) → Type 0
 AreReferences choice files links =
-    HoldsOfBasis (λ (b : Basis). b.files) IsBasis choice files
-    (λ b. AreLinks (leafrefs_of b) links)
+    HoldsOfBasis choice files (λ b. AreLinks (leafrefs_of b) links)

@@ -5,19 +5,13 @@ ghost use Rattle.yv_link_scopes.specs.RowList.{rows_of};
 ghost use Rattle.yv_type_restrictions.specs.Types.{HasTypePattern};
 ghost use Rattle.yv_nodes.specs.{Rows.{whole}, Tree.{count}};
 ghost use Rattle.yv_schema_tables.specs.Sound.{IsSound};
-ghost use Rattle.yv_schema_build.specs.{Module.{modules_of}, Units.{TakeUnits}};
-ghost use Rattle.yv_schema.specs.{LinkedLeafrefs.{AreLinked}, Notes.{AreNotes}, Refuses.{Refuses, RefusesBeforeTypes}, Schema.{AreReferences, IsSchema}};
+ghost use Rattle.yv_schema.specs.{LinkedLeafrefs.{AreLinked}, Module.{modules_of}, Notes.{AreNotes}, Refuses.{Refuses, RefusesBeforeTypes}, Schema.{AreReferences, IsSchema}, Units.{TakeUnits}};
 
-use crate::laws::{
-    a_schema_is_that_of_the_tree, least_refusals_are_those_of_the_tree,
-    notes_are_those_of_the_tree, references_are_those_of_the_tree,
-};
+use crate::conformance::first_bad_file;
+use crate::phases::of_linked;
 use std::alloc::Global;
-use yv_expand_laws::laws::{
-    files_that_conform_are_sound, files_that_conform_have_roots,
-    refusals_of_conforming_files_are_one,
-};
-use yv_schema_build::laws::{each_leafref_has_its_link, nodes_are_within_units};
+use yv_link::laws::links_have_phases;
+use yv_link::link;
 use yv_schema_tables::Schema;
 use yv_text_statement::{Selection, Statement, Stop};
 
@@ -75,17 +69,16 @@ pub fn compile(
     // Files of which a schema is returned have at most 2^32 - 3 statements.
     ensures few { OnOk result (length (rows_of files.now) ≤ 4294967293) }
 {
-    a_schema_is_that_of_the_tree();
-    references_are_those_of_the_tree();
-    notes_are_those_of_the_tree();
-    least_refusals_are_those_of_the_tree();
-    files_that_conform_are_sound();
-    files_that_conform_have_roots();
-    refusals_of_conforming_files_are_one();
-    each_leafref_has_its_link();
-    nodes_are_within_units();
-    yv_expand_definition::laws::files_have_one_schema();
-    yv_expand_laws::laws::what_is_left_shows_the_schema();
-    yv_expand_tree::laws::what_is_left_are_nodes();
-    yv_schema_build::compile(alloc, files, selection, limit)
+    links_have_phases();
+    if files.len() > 4_294_967_296 {
+        return Err(Stop::NoMemory);
+    }
+    if let Some(refusal) = first_bad_file(files) {
+        return Err(Stop::Fault(refusal));
+    }
+    let linked = match link(alloc, files, selection) {
+        Ok(linked) => linked,
+        Err(stop) => return Err(stop),
+    };
+    of_linked(alloc, &linked, selection, limit)
 }

@@ -46,3 +46,8 @@ pub data HasDefault (files : Files) : ℕ → Option TextInFile → Type 0 where
       → HasDefault files j found → HasDefault files k found
   no_type : {k d : ℕ} → Means files k d → default_at files d ≡ None
       → type_of (rows_of files) d ≡ None → HasDefault files k None
+
+-- this is the default of the type of this number by its typedefs; none, where there is no type
+abbrev pub IsDefault : Files → Option ℕ → Option TextInFile → Type 0
+IsDefault files None default = default ≡ None
+IsDefault files (Some k) default = HasDefault files k default

@@ -73,3 +73,8 @@ pub data HasReferral (files : Files) : ℕ → Option TypeLeafref → Type 0 whe
       → HasReferral files k (option_map (derived_at files k) found)
   other : {k : ℕ} → (IsLeafrefAt files k → ⊥) → ((j : ℕ) → FollowsIn files k j → ⊥)
       → HasReferral files k None
+
+-- this is what the type of this number says as a leafref; nothing, where there is no type
+abbrev pub IsReferring : Files → Option ℕ → Option TypeLeafref → Type 0
+IsReferring files None found = found ≡ None
+IsReferring files (Some k) found = HasReferral files k found

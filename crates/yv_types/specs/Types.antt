@@ -10,11 +10,9 @@ use Rattle.yv_type_restrictions.specs.PlainTypes.{AreFaceted}
 use Rattle.yv_type_enums.specs.Types.{Truth}
 use Rattle.yv_type_enums.specs.Lists.{AreLists}
 use Rattle.yv_text_statement.specs.TextInFile.{TextInFile}
-use Rattle.yv_types.specs.Defaults.{HasDefault}
 use Rattle.yv_types.specs.TypeDefaults.{AreDefaults, found_in, typedef_in}
 use Rattle.yv_types.specs.LeafrefTypes.{AreLeafrefTypes}
 use Rattle.yv_types.specs.LeafrefTypes.{found_in as leafref_in}
-use Rattle.yv_types.specs.Referrals.{HasReferral}
 use Rattle.yv_types.specs.declared.leafref_path.TypeLeafref.{TypeLeafref}
 use Rattle.yv_link_definitions.specs.Places.{placed_in}
 use Rattle.yv_values.specs.Types.{Plain}
@@ -69,17 +67,7 @@ abbrev pub sharing_at : Types → ℕ → ℕ → Option (ℕ × ℕ)
 sharing_at types file offset =
     option_and_then (sharing_of types) (placed_in types.places file offset)
 
--- this is the default of the type of this number by its typedefs; none, where there is no type
-abbrev pub IsDefault : Files → Option ℕ → Option TextInFile → Type 0
-IsDefault files None default = default ≡ None
-IsDefault files (Some k) default = HasDefault files k default
-
 -- what is known of the type statement at an offset of a file as a leafref
 abbrev pub referring_at : Types → ℕ → ℕ → Option TypeLeafref
 referring_at types file offset =
     option_and_then (leafref_in types.leafrefs) (placed_in types.places file offset)
-
--- this is what the type of this number says as a leafref; nothing, where there is no type
-abbrev pub IsReferring : Files → Option ℕ → Option TypeLeafref → Type 0
-IsReferring files None found = found ≡ None
-IsReferring files (Some k) found = HasReferral files k found

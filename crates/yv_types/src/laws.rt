@@ -5,7 +5,7 @@ ghost use Rattle.yv_link_scopes.specs.{Files.{Files}, RowList.{rows_of}};
 ghost use Rattle.yv_link_definitions.specs.References.{number_at};
 ghost use Rattle.yv_type_enums.specs.Types.{Truth};
 ghost use Rattle.yv_values.specs.Types.{Plain};
-ghost use Rattle.yv_types.specs.{Spaces.{Space}, Types.{AreTypes, IsDefault, IsReferring, IsTold, default_at, referring_at, space_at}, declared.type_table.Types.{Types}};
+ghost use Rattle.yv_types.specs.{Spaces.{Space}, Defaults.{IsDefault}, Referrals.{IsReferring}, Types.{AreTypes, IsTold, default_at, referring_at, space_at}, declared.type_table.Types.{Types}};
 
 /// A type has one list of plain types.
 pub fn a_type_has_one_space()

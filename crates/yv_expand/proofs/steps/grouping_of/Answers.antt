@@ -1,7 +1,7 @@
 use Rattle.std.proofs.Common.{◌≡◌, ◌≤◌, Some, length, sym, ◌∙◌, arith}
 use Rattle.yv_link_scopes.specs.Rows.{row}
 use Rattle.yv_link_scopes.specs.Views.{lent_in, files_in, rows_in}
-use Rattle.yv_expand.specs.Units.{units_of}
+use Rattle.yv_expand_statements.specs.Units.{units_of}
 use Rattle.yv_expand.proofs.UnitWords.{rows_count}
 use Rattle.yv_expand.proofs.UsedGrouping.{used_none, used_past, used_some}
 use Rattle.yv_expand.proofs.steps.grouping_of.Goals as goal

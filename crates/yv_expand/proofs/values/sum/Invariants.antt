@@ -1,5 +1,5 @@
 use Rattle.std.proofs.Common.{◌≡◌, ◌+◌, ◌≤◌, drop}
-use Rattle.yv_expand.specs.Units.{saturate}
+use Rattle.yv_expand_statements.specs.Units.{saturate}
 use Rattle.yv_expand.specs.InnerLists.{sum_at}
 use Rattle.yv_expand.proofs.values.sum.Given as goal
 

@@ -4,7 +4,7 @@ use Rattle.std.specs.Option.{unwrap_or}
 use Rattle.std.proofs.lemmas.Option.{slice_get_read}
 use Rattle.yv_link_scopes.specs.Rows.{Row, row}
 use Rattle.yv_link_scopes.specs.Views.{rows_in}
-use Rattle.yv_expand.specs.Units.{units_of, saturate}
+use Rattle.yv_expand_statements.specs.Units.{units_of, saturate}
 use Rattle.yv_expand.specs.InnerLists.{sum_at}
 use Rattle.yv_expand.proofs.UnitWords.{row_read, rows_count}
 use Rattle.yv_expand.proofs.SettledValues.{first_more, first_all}

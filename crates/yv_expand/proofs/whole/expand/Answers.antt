@@ -1,7 +1,7 @@
 use Rattle.std.proofs.Common.{subst}
 use Rattle.yv_text_statement.specs.Order.{IsLeast}
 use Rattle.yv_link_scopes.specs.Views.{lent_in}
-use Rattle.yv_expand.specs.Limit.{TooMany}
+use Rattle.yv_expand_statements.specs.Limit.{TooMany}
 use Rattle.yv_expand.proofs.whole.expand.Goals as goal
 
 pub returns-clause-fits : goal.returns-clause-fits

@@ -5,7 +5,7 @@ use Rattle.yv_link_scopes.specs.Files.{Files, brief_of}
 use Rattle.yv_link_scopes.specs.Views.{lent_in}
 use Rattle.yv_link_scopes.specs.RowList.{rows_of}
 use Rattle.yv_link_scopes.specs.Rows.{Row}
-use Rattle.yv_expand.specs.StatementBlocks.{given_at, given_before, is_augment, is_node_or_uses, those}
+use Rattle.yv_expand_statements.specs.StatementBlocks.{given_at, given_before, is_augment, is_node_or_uses, those}
 use Rattle.yv_expand.specs.Tree.{all_of, count, item_list}
 use Rattle.yv_expand.specs.Expands.{blocks_of}
 use Rattle.yv_expand.specs.InnerItems.{ArePlaced, Lists, Give, origins, top_place}

@@ -12,7 +12,7 @@ use Rattle.yv_expand_uses.specs.AugmentOrder.{augments_giving}
 use Rattle.yv_expand_augments.specs.Augmentation.{turns_from}
 use Rattle.yv_expand_uses.specs.InnerPlan.{whole_in}
 use Rattle.yv_expand_augments.specs.InnerSchedule.{AreStretches}
-use Rattle.yv_expand_rounds.specs.Kinds.{is_uses}
+use Rattle.yv_expand_statements.specs.Kinds.{is_uses}
 use Rattle.yv_expand_uses.specs.Spots.{Whole, copies_of}
 use Rattle.yv_expand_augments.specs.MissingTargets.{MissesInTurn, MissesOf}
 use Rattle.yv_expand_uses.specs.AugmentOrder.{augments_in}

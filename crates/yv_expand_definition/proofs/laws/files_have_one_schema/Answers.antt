@@ -1,5 +1,5 @@
 use Rattle.std.proofs.Common.{◌≡◌, ◌∙◌, ap, sym, ℕ}
-use Rattle.yv_expand_tree.specs.FileOrder.{marks_of, order_of}
+use Rattle.yv_expand_statements.specs.FileOrder.{marks_of, order_of}
 use Rattle.yv_expand_definition.specs.Gives.{Product}
 use Rattle.yv_expand_definition.specs.Remains.{remains}
 use Rattle.yv_expand_definition.proofs.LeftNodeUniqueness.{left_same, same_answer}

@@ -1,5 +1,5 @@
 use Rattle.std.proofs.Common.{◌≡◌, subst}
-use Rattle.yv_expand_tree.specs.FileOrder.{marks_of, order_of}
+use Rattle.yv_expand_statements.specs.FileOrder.{marks_of, order_of}
 use Rattle.yv_expand_definition.specs.Refusals.{IsWrong}
 use Rattle.yv_expand_definition.proofs.Meaning.{refers_to_one}
 use Rattle.yv_expand_definition.proofs.ExpansionUniqueness.{expand_one}

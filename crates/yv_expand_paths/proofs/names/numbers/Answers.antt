@@ -4,7 +4,7 @@ use Rattle.std.specs.Option.{option_map}
 use Rattle.std.proofs.lemmas.Option.{slice_get-map}
 use Rattle.yv_link_scopes.specs.Rows.{Row, row}
 use Rattle.yv_link_scopes.specs.Views.{rows_in}
-use Rattle.yv_expand_paths.specs.Names.{node_name}
+use Rattle.yv_expand_statements.specs.Names.{node_name}
 use Rattle.yv_expand_paths.specs.InnerNameNumbers.{own_names}
 use Rattle.yv_expand_paths.specs.InnerNames.{table_of}
 use Rattle.yv_expand_paths.proofs.PathReading.{row_read}

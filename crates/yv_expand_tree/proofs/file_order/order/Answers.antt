@@ -2,7 +2,7 @@ use Rattle.std.proofs.Common.{◌≡◌, ◌∙◌, ◌++◌, ℕ, true, false, 
 use Rattle.yv_text_statement.specs.Selection.{selected_of}
 use Rattle.yv_base_tables.specs.Families.{numbers_at}
 use Rattle.yv_link_scopes.specs.Views.{lent_in}
-use Rattle.yv_expand_tree.specs.FileOrder.{order_of, part_places}
+use Rattle.yv_expand_statements.specs.FileOrder.{order_of, part_places}
 use Rattle.yv_expand_tree.proofs.GivenFiles.{all_within, order_all, order_once, order_step, parts_at, read_at}
 use Rattle.yv_expand_tree.proofs.file_order.order.Goals.{then-is_given+in_ok-push+in_ok-extend_from_slice, else-is_given}
 use Rattle.yv_expand_tree.proofs.file_order.order.Goals as goal

@@ -1,7 +1,7 @@
 use Rattle.std.proofs.Common.{◌≡◌, ◌++◌, drop}
 use Rattle.yv_text_statement.specs.Selection.{selected_of}
 use Rattle.yv_link_scopes.specs.Views.{lent_in}
-use Rattle.yv_expand_tree.specs.FileOrder.{order_from, order_of, part_places}
+use Rattle.yv_expand_statements.specs.FileOrder.{order_from, order_of, part_places}
 use Rattle.yv_expand_tree.proofs.file_order.order.Given as goal
 
 abbrev pub invariant-loop-file : goal.invariant-loop-file

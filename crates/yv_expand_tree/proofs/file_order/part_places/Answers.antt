@@ -1,7 +1,7 @@
 use Rattle.std.proofs.Common.{length, map, ap, arith}
 use Rattle.yv_link_scopes.specs.Files.{brief_of}
 use Rattle.yv_link_scopes.specs.Views.{lent_in}
-use Rattle.yv_expand_tree.specs.FileOrder.{part_places}
+use Rattle.yv_expand_statements.specs.FileOrder.{part_places}
 use Rattle.yv_expand_tree.proofs.GivenFiles.{places_all, places_step}
 use Rattle.yv_expand_tree.proofs.file_order.part_places.Goals as goal
 

@@ -1,7 +1,7 @@
 use Rattle.std.proofs.Common.{◌≡◌, ◌++◌, drop, map}
 use Rattle.yv_link_scopes.specs.Files.{brief_of}
 use Rattle.yv_link_scopes.specs.Views.{lent_in}
-use Rattle.yv_expand_tree.specs.FileOrder.{part_places, places_from}
+use Rattle.yv_expand_statements.specs.FileOrder.{part_places, places_from}
 use Rattle.yv_expand_tree.proofs.file_order.part_places.Given as goal
 
 abbrev pub invariant-loop-file : goal.invariant-loop-file

@@ -1,5 +1,5 @@
 use Rattle.std.proofs.Common.{arith, refl}
-use Rattle.yv_expand_tree.specs.FileOrder.{marks_of, order_of}
+use Rattle.yv_expand_statements.specs.FileOrder.{marks_of, order_of}
 use Rattle.yv_expand_tree.proofs.GivenFiles.{all_within, order_once}
 use Rattle.yv_expand_tree.proofs.Finals.{left_within}
 use Rattle.yv_expand_tree.proofs.laws.nodes_are_within_units.Goals as goal

@@ -1,7 +1,7 @@
 use Rattle.std.proofs.Common.{◌∙◌, ap, sym, None}
 use Rattle.std.specs.List.{slice_get}
 use Rattle.yv_expand.specs.Tree as expansion
-use Rattle.yv_expand_rounds.specs.Kinds.{is_uses}
+use Rattle.yv_expand_statements.specs.Kinds.{is_uses}
 use Rattle.yv_expand_augments.specs.Remains.{is_left}
 use Rattle.yv_expand_tree.specs.Final.{spots_of, whole_of}
 use Rattle.yv_expand_tree.proofs.Finals.{left_items}

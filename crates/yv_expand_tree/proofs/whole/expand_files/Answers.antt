@@ -3,8 +3,8 @@ use Rattle.std.specs.Result.{OnOk}
 use Rattle.yv_text_statement.specs.Order.{IsLeast}
 use Rattle.yv_text_statement.specs.Selection.{selected_of}
 use Rattle.yv_link_scopes.specs.Views.{lent_in}
-use Rattle.yv_expand.specs.Limit.{TooMany}
-use Rattle.yv_expand_tree.specs.FileOrder.{marks_of}
+use Rattle.yv_expand_statements.specs.Limit.{TooMany}
+use Rattle.yv_expand_statements.specs.FileOrder.{marks_of}
 use Rattle.yv_expand_tree.proofs.whole.expand_files.Goals as goal
 
 pub returns-clause-fits : goal.returns-clause-fits

@@ -1,6 +1,6 @@
 use Rattle.std.proofs.Common.{◌≡◌, map, take, if◌then◌else◌, Some, None}
 use Rattle.yv_link_scopes.specs.Views.{rows_in}
-use Rattle.yv_expand.specs.StatementBlocks.{is_augment}
+use Rattle.yv_expand_statements.specs.StatementBlocks.{is_augment}
 use Rattle.yv_expand_uses.proofs.augment_order.augment_places.Given as goal
 
 abbrev pub invariant-loop-entry : goal.invariant-loop-entry

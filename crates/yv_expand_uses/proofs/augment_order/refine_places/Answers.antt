@@ -2,7 +2,7 @@ use Rattle.std.proofs.Common.{◌≡◌, List, Some, None, if◌then◌else◌, 
 use Rattle.std.specs.List.{slice_get}
 use Rattle.yv_link_scopes.specs.Rows.{Row, row}
 use Rattle.yv_link_scopes.specs.Views.{rows_in}
-use Rattle.yv_expand.specs.StatementBlocks.{is_refine}
+use Rattle.yv_expand_statements.specs.StatementBlocks.{is_refine}
 use Rattle.yv_expand_uses.proofs.StatementLists.{mapped_all, mapped_more, row_read, rows_count}
 use Rattle.yv_expand_uses.proofs.augment_order.refine_places.Goals as goal
 

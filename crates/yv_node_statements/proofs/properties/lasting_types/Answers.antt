@@ -1,5 +1,5 @@
 use Rattle.std.proofs.Common.{ap, sym, ◌∙◌}
-use Rattle.yv_node_statements.specs.Kinds.{kinds_of}
+use Rattle.yv_node_statements.specs.KnownTypes.{kinds_of}
 use Rattle.yv_node_statements.proofs.Firsts.{types_found, types_in-first}
 use Rattle.yv_node_statements.proofs.properties.lasting_types.Goals as goal
 

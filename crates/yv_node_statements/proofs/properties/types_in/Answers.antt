@@ -1,7 +1,7 @@
 use Rattle.std.proofs.Common.{◌≡◌, [], map, ap, sym, ◌∙◌}
 use Rattle.std.proofs.lemmas.Result.{IfOk-weaker}
 use Rattle.yv_values.specs.Types.{plain_of}
-use Rattle.yv_node_statements.specs.Kinds.{kinds_of}
+use Rattle.yv_node_statements.specs.KnownTypes.{kinds_of}
 use Rattle.yv_node_statements.specs.Definitions.{types_in}
 use Rattle.yv_node_statements.proofs.Firsts.{types_found, types_in-first}
 use Rattle.yv_node_statements.proofs.properties.types_in.Goals as goal

@@ -1,5 +1,5 @@
 use Rattle.std.proofs.Common.{inl, inr}
-use Rattle.yv_schema.proofs.Unique.{one_list, one_notes, one_schema}
+use Rattle.yv_schema.proofs.OneSchema.{one_list, one_notes, one_schema}
 use Rattle.yv_schema.proofs.laws.files_have_one_schema.Goals as goal
 
 pub returns-clause-tree : goal.returns-clause-tree

@@ -1,6 +1,6 @@
 use Rattle.std.proofs.Common.{◌∙◌, ◌++◌, List, reverse, sym, ap, append-nil}
 use Rattle.yv_link_scopes.specs.Views.{files_in, rows_in}
-use Rattle.yv_expand.specs.declared.origin.Origin.{Origin}
+use Rattle.yv_expand_statements.specs.declared.origin.Origin.{Origin}
 use Rattle.yv_expand.specs.InnerItems.{items_below}
 use Rattle.yv_expand.proofs.ItemsBelow.{none_in, none_out}
 use Rattle.yv_expand.proofs.blocks.Blocks.put_below.Goals as goal

@@ -4,9 +4,9 @@ use Rattle.std.proofs.lemmas.Result.{on_err_weaker, on_ok_weaker}
 use Rattle.yv_expand.proofs.ItemStack.{length_origins}
 use Rattle.yv_link_scopes.specs.Views.{lent_in, files_in, rows_in}
 use Rattle.yv_link_definitions.specs.Refers.{RefersTo}
-use Rattle.yv_expand.specs.declared.origin.Origin.{Origin}
-use Rattle.yv_expand.specs.declared.origin.Origin.TheVariants.{Input, Output}
-use Rattle.yv_expand.specs.StatementBlocks.{is_at, is_operation, part}
+use Rattle.yv_expand_statements.specs.declared.origin.Origin.{Origin}
+use Rattle.yv_expand_statements.specs.declared.origin.Origin.TheVariants.{Input, Output}
+use Rattle.yv_expand_statements.specs.StatementBlocks.{is_at, is_operation, part}
 use Rattle.yv_expand.specs.InnerItems.{items_below, numbers_at, origins}
 use Rattle.yv_expand.proofs.ItemsBelow.{parts_stand, uses_stand, none_stand}
 use Rattle.yv_expand.proofs.blocks.Blocks.put_statement.Goals as goal

@@ -2,7 +2,7 @@ use Rattle.std.proofs.Common.{◌≡◌, ◌<◌, ℕ, List, length, ◌∙◌, 
 use Rattle.std.specs.List.{flat_map}
 use Rattle.yv_link_scopes.specs.Views.{files_in, rows_in}
 use Rattle.yv_link_scopes.specs.Rows.{Row}
-use Rattle.yv_expand.specs.StatementBlocks.{block_of, is_node_or_uses, is_input, is_output, is_augment, those}
+use Rattle.yv_expand_statements.specs.StatementBlocks.{block_of, is_node_or_uses, is_input, is_output, is_augment, those}
 use Rattle.yv_expand.specs.InnerItems.{Lists, numbers_at}
 use Rattle.yv_expand.proofs.FiledItems.{block_lists, given_lists}
 use Rattle.yv_expand.proofs.blocks.Blocks.read.Goals as goal

@@ -2,7 +2,7 @@ use Rattle.std.proofs.Common.{◌≡◌, ◌++◌, ◌∷◌, [], ◌+◌, ℕ, 
 use Rattle.std.proofs.lemmas.List.{length-map, length_push}
 use Rattle.yv_link_scopes.specs.Rows.{Row}
 use Rattle.yv_link_scopes.specs.Views.{rows_in}
-use Rattle.yv_expand_paths.specs.Names.{node_name}
+use Rattle.yv_expand_statements.specs.Names.{node_name}
 use Rattle.yv_expand_paths.specs.InnerNameNumbers.{own_names, place_of}
 use Rattle.yv_expand_paths.specs.InnerNames.{table_of}
 use Rattle.yv_expand_paths.proofs.NamePlaces.{place_front}

@@ -6,8 +6,8 @@ use Rattle.yv_link_scopes.specs.Rows.{Row}
 use Rattle.yv_link_scopes.specs.Views.{lent_in, rows_in}
 use Rattle.yv_base_tables.specs.Families.{by_place}
 use Rattle.yv_expand_uses.specs.AugmentOrder.{giving_places, place_before}
-use Rattle.yv_expand.specs.StatementBlocks.{is_augment}
-use Rattle.yv_expand.specs.StatementBlocks.{is_refine}
+use Rattle.yv_expand_statements.specs.StatementBlocks.{is_augment}
+use Rattle.yv_expand_statements.specs.StatementBlocks.{is_refine}
 use Rattle.yv_expand_uses.specs.RefineTargets.{refine_places}
 use Rattle.yv_expand_uses.specs.AugmentOrder.{augment_places}
 use Rattle.yv_expand_uses.proofs.PlaceNumbers.{giving_long, giving_within, passing_within}

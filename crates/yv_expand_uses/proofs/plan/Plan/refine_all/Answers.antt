@@ -12,7 +12,7 @@ use Rattle.yv_expand_uses.specs.Paths.{path_in}
 use Rattle.yv_expand_uses.specs.InnerRefineTargets.{HasNumber}
 use Rattle.yv_expand_uses.specs.InnerPaths.{target_of_path}
 use Rattle.yv_expand_uses.specs.InnerPlan.{whole_in}
-use Rattle.yv_expand_rounds.specs.Kinds.{is_uses}
+use Rattle.yv_expand_statements.specs.Kinds.{is_uses}
 use Rattle.yv_expand_uses.specs.RefineTargets.{node_meant, refined_at, refines_in}
 use Rattle.yv_expand_uses.specs.Spots.{Whole}
 use Rattle.yv_expand_uses.specs.declared.refine_targets.UsesTargets.{UsesTargets}

@@ -1,7 +1,7 @@
 use Rattle.std.proofs.Common.{List, sym, subst, rules}
 use Rattle.yv_link_scopes.specs.Views.{lent_in}
 use Rattle.yv_node_statements.specs.declared.store.Store.{Store}
-use Rattle.yv_node_statements.specs.Kinds.{typing_of}
+use Rattle.yv_node_statements.specs.KnownTypes.{typing_of}
 use Rattle.yv_node_statements.specs.InnerStore.{AreKept}
 use Rattle.yv_node_statements.proofs.AllKept.{kept_more}
 use Rattle.yv_node_statements.proofs.definitions.Definitions.read.Goals as goal

@@ -1,6 +1,6 @@
 use Rattle.std.proofs.Common.{◌≡◌, length}
 use Rattle.yv_link_scopes.specs.Views.{lent_in}
-use Rattle.yv_node_statements.specs.Kinds.{typing_of}
+use Rattle.yv_node_statements.specs.KnownTypes.{typing_of}
 use Rattle.yv_node_statements.specs.InnerStore.{AreKept}
 use Rattle.yv_node_statements.proofs.definitions.Definitions.read.Given as goal
 

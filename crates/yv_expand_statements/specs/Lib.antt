@@ -1,0 +1,11 @@
+pub mod Origin
+pub mod Kinds
+pub mod Names
+pub mod Paths
+pub mod Units
+pub mod StatementBlocks
+pub mod Weigh
+pub mod Limit
+pub mod FileOrder
+pub mod Truth
+pub mod AllowedRefines

@@ -1,5 +1,0 @@
-use Rattle.yv_schema_build.specs.InnerContext.{IsRefinedOf}
-use Rattle.yv_schema_build.proofs.context.refined_definitions.Given as goal
-
-abbrev pub invariant-loop-item : goal.invariant-loop-item
-invariant-loop-item l = IsRefinedOf l.definitions l.tree l.refined

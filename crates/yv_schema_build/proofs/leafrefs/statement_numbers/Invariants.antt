@@ -1,7 +1,0 @@
-use Rattle.std.proofs.Common.{◌≡◌, length, map, take}
-use Rattle.yv_link_scopes.specs.Views.{rows_in}
-use Rattle.yv_schema_build.specs.InnerResolution.{statement_number}
-use Rattle.yv_schema_build.proofs.leafrefs.statement_numbers.Given as goal
-
-abbrev pub invariant-loop-origin : goal.invariant-loop-origin
-invariant-loop-origin l = l.numbers.items ≡ map (statement_number (length (rows_in l.rows))) (take l.origin-index l.origins)

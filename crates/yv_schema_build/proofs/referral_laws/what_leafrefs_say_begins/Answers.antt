@@ -1,6 +1,0 @@
-use Rattle.yv_schema_build.proofs.LeafrefPathStarts.{begins}
-use Rattle.yv_schema_build.proofs.referral_laws.what_leafrefs_say_begins.Goals as goal
-
-pub returns : goal.returns
-returns c = λ files typing from ref fine are says.
-    begins files typing fine (c.statements_have_their_rows.ensures files) c.an_origin_is_a_leafref.ensures are from ref says
