@@ -2,7 +2,7 @@
 use std::alloc::{AllocError, Global};
 use yv_link_scopes::{NameKind, NamePlaces, Rows, first_places, local};
 use yv_note_statements::{Message, Site, Sites, StatementEntry, say_ring, words_of};
-use yv_text_statement::Code;
+use yv_text_statement::{Code, Keyword};
 
 // The statements of a keyword in their order, also by the block that they are in, and for each
 // statement of the files the number of the last one in it.
@@ -17,7 +17,7 @@ impl<'s, 'a> Steps<'s, 'a> {
     fn read(
         alloc: Global,
         entries: &'s [StatementEntry<'a>],
-        keyword: &str,
+        keyword: Keyword,
     ) -> Result<Steps<'s, 'a>, AllocError> {
         let sites: Vec<Site<'s, 'a>> = Sites::all(entries)
             .filter(|site| site.is(keyword))
@@ -84,9 +84,9 @@ impl<'r, 's, 'a, 'b> Leads<'r, 's, 'a, 'b> {
         alloc: Global,
         rows: &'r Rows<'a, 'b>,
         entries: &'s [StatementEntry<'a>],
-        keyword: &str,
+        keyword: Keyword,
     ) -> Result<Leads<'r, 's, 'a, 'b>, AllocError> {
-        let features = if keyword == "if-feature" {
+        let features = if keyword == Keyword::IfFeature {
             Some(first_places(alloc, NameKind::Feature, rows)?)
         } else {
             None
@@ -280,7 +280,7 @@ pub fn tell_imports<'a>(
     import: &Site<'_, 'a>,
 ) -> Result<(), AllocError> {
     telling.sentence(Code::ImportCycle);
-    let leads = Leads::read(telling.alloc(), rows, import.entries, "import")?;
+    let leads = Leads::read(telling.alloc(), rows, import.entries, Keyword::Import)?;
     match (import.module(), import.meaning()) {
         (Some(own), Some(first)) => {
             let mut search = Search::new(telling.alloc(), &leads)?;
@@ -297,7 +297,7 @@ pub fn tell_cycle<'a>(
     telling: &mut Message<'a>,
     rows: &Rows<'a, '_>,
     site: &Site<'_, 'a>,
-    keyword: &str,
+    keyword: Keyword,
 ) -> Result<(), AllocError> {
     let leads = Leads::read(telling.alloc(), rows, site.entries, keyword)?;
     let mut search = Search::new(telling.alloc(), &leads)?;

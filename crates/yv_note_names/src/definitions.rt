@@ -9,7 +9,7 @@ use yv_note_statements::{
     words_of,
 };
 use yv_note_text::Likeness;
-use yv_text_statement::Code;
+use yv_text_statement::{Code, Keyword};
 
 // What other languages call a type, and what YANG calls it.
 static OTHER_NAMES: &[(&str, &str)] = &[
@@ -45,7 +45,7 @@ fn are_kin(one: &Site<'_, '_>, other: &Site<'_, '_>) -> bool {
     if other.is_root() {
         one.is_root()
     } else {
-        one.keyword() == other.keyword() && is_visible(one, other)
+        one.is(other.kind()) && is_visible(one, other)
     }
 }
 
@@ -88,7 +88,7 @@ pub fn tell_second_module<'a>(telling: &mut Message<'a>, site: &Site<'_, 'a>) {
 
 /// Adds that another definition has the same name.
 pub fn tell_second_name<'a>(telling: &mut Message<'a>, site: &Site<'_, 'a>) {
-    if site.is("typedef") && is_built_in(site.argument()) {
+    if site.is(Keyword::Typedef) && is_built_in(site.argument()) {
         telling.subject("", " is the name of a built-in type; choose another one.");
     } else {
         telling.subject_statement(site, " is defined in this scope already.");
@@ -160,24 +160,29 @@ pub fn tell_type_name<'a>(telling: &mut Message<'a>, site: &Site<'_, 'a>) {
         return;
     }
     let built_in = nearest_built_in(site.argument());
-    let typedef = nearest_definition(site.entries, "typedef", site.argument());
+    let typedef = nearest_definition(site.entries, Keyword::Typedef, site.argument());
     say_meant(telling, site, Guess::nearer(built_in, typedef));
 }
 
 /// Adds that a grouping is not defined, and what may be meant.
 pub fn tell_grouping_name<'a>(telling: &mut Message<'a>, site: &Site<'_, 'a>) {
     telling.sentence(Code::UnknownGrouping);
-    say_nearest(telling, site, "grouping", site.argument());
+    say_nearest(telling, site, Keyword::Grouping, site.argument());
 }
 
 /// Adds that an identity is not defined, and what may be meant.
 pub fn tell_identity_name<'a>(telling: &mut Message<'a>, site: &Site<'_, 'a>) {
     telling.sentence(Code::UnknownIdentity);
-    say_nearest(telling, site, "identity", site.argument());
+    say_nearest(telling, site, Keyword::Identity, site.argument());
 }
 
 // Adds what may be meant by the name of a definition of this keyword.
-fn say_nearest<'a>(telling: &mut Message<'a>, site: &Site<'_, 'a>, keyword: &str, name: &'a str) {
+fn say_nearest<'a>(
+    telling: &mut Message<'a>,
+    site: &Site<'_, 'a>,
+    keyword: Keyword,
+    name: &'a str,
+) {
     say_meant(
         telling,
         site,
@@ -215,7 +220,7 @@ fn unknown_feature<'a>(alloc: Global, site: &Site<'_, 'a>) -> Result<Option<&'a 
     let words = words_of(alloc, site.argument())?;
     let (mut unknown, count) = names_in(alloc, site, &words)?;
     for feature in Sites::all(site.entries) {
-        if feature.is("feature") {
+        if feature.is(Keyword::Feature) {
             let name = (feature.entry.scope, feature.argument().as_bytes());
             let _ = unknown.remove(&name);
         }
@@ -239,6 +244,6 @@ pub fn tell_feature_name<'a>(
         telling.quote("The feature ", unknown, "");
         telling.subject(" in ", " is not defined.");
     }
-    say_nearest(telling, site, "feature", unknown);
+    say_nearest(telling, site, Keyword::Feature, unknown);
     Ok(())
 }

@@ -6,15 +6,15 @@ use yv_note_statements::{
     Guess, Message, Site, Sites, declaration, first_in_file, named_in_file, say_guess, words_of,
 };
 use yv_note_text::Likeness;
-use yv_text_statement::Code;
+use yv_text_statement::{Code, Keyword};
 
 // Of the modules, or for an `include` of the submodules, the one whose name is most like the name
 // that is written. The file of the statement itself is none of them.
 fn nearest_file<'a>(site: &Site<'_, 'a>) -> Option<Guess<'a>> {
-    let keyword = if site.is("include") {
-        "submodule"
+    let keyword = if site.is(Keyword::Include) {
+        Keyword::Submodule
     } else {
-        "module"
+        Keyword::Module
     };
     Sites::all(site.entries)
         .take_while(|root| root.is_root())
@@ -51,7 +51,7 @@ pub fn say_nearest_file<'a>(telling: &mut Message<'a>, site: &Site<'_, 'a>) {
 // The `revision` of a file with the latest date.
 fn latest_revision<'s, 'a>(root: &Site<'s, 'a>) -> Option<Site<'s, 'a>> {
     Sites::all(root.entries)
-        .filter(|site| site.is("revision") && site.is_beside(root))
+        .filter(|site| site.is(Keyword::Revision) && site.is_beside(root))
         .fold(None, |latest, revision| Some(later(latest, revision)))
 }
 
@@ -88,7 +88,7 @@ fn last_revision<'s, 'a>(site: &Site<'s, 'a>) -> Option<Site<'s, 'a>> {
 // The prefix in the file of a statement that is most like one that was written.
 fn nearest_prefix<'a>(site: &Site<'_, 'a>, written: &str) -> Option<Guess<'a>> {
     Sites::all(site.entries)
-        .filter(|other| other.is("prefix") && other.is_beside(site))
+        .filter(|other| other.is(Keyword::Prefix) && other.is_beside(site))
         .fold(None, |nearest, prefix| {
             Guess::nearer(nearest, Guess::of(written, prefix.argument(), None))
         })
@@ -113,7 +113,7 @@ fn undeclared_prefix<'a>(
 
 /// Adds which prefix is not declared, or is declared twice.
 pub fn tell_prefix<'a>(telling: &mut Message<'a>, site: &Site<'_, 'a>) -> Result<(), AllocError> {
-    if site.is("prefix") {
+    if site.is(Keyword::Prefix) {
         tell_second_prefix(telling, site);
         return Ok(());
     }
@@ -147,7 +147,7 @@ fn say_undeclared<'a>(telling: &mut Message<'a>, site: &Site<'_, 'a>, prefix: Op
 
 // The `prefix` by which the file of a statement imports the module of this name.
 fn own_prefix<'s, 'a>(site: &Site<'s, 'a>, module: &str) -> Option<Site<'s, 'a>> {
-    named_in_file(site, "import", module)?.child("prefix")
+    named_in_file(site, Keyword::Import, module)?.child(Keyword::Prefix)
 }
 
 fn tell_second_prefix<'a>(telling: &mut Message<'a>, site: &Site<'_, 'a>) {
@@ -160,15 +160,15 @@ fn tell_second_prefix<'a>(telling: &mut Message<'a>, site: &Site<'_, 'a>) {
 
 // The `belongs-to` of a submodule.
 fn belongs_to<'s, 'a>(root: &Site<'s, 'a>) -> Option<Site<'s, 'a>> {
-    first_in_file(root, "belongs-to")
+    first_in_file(root, Keyword::BelongsTo)
 }
 
 /// Adds why a module and a submodule don't belong together.
 pub fn tell_submodule<'a>(telling: &mut Message<'a>, site: &Site<'_, 'a>) {
-    match site.keyword() {
-        "include" => tell_include(telling, site.meaning()),
-        "import" => tell_import(telling, site.meaning()),
-        "belongs-to" => {
+    match site.kind() {
+        Keyword::Include => tell_include(telling, site.meaning()),
+        Keyword::Import => tell_import(telling, site.meaning()),
+        Keyword::BelongsTo => {
             telling.subject("", " is a submodule, and `belongs-to` needs a module.");
         }
         _ => tell_not_included(telling, site),
@@ -180,7 +180,7 @@ fn tell_include<'a>(telling: &mut Message<'a>, root: Option<Site<'_, 'a>>) {
         telling.sentence(Code::Submodule);
         return;
     };
-    if !root.is("submodule") {
+    if !root.is(Keyword::Submodule) {
         telling.subject("", " is a module, not a submodule: use `import`.");
         return;
     }

@@ -3,6 +3,7 @@ use std::alloc::{AllocError, Global};
 use std::collections::BTreeMap;
 use yv_link_scopes::prefix_of;
 use yv_note_statements::{Site, Sites};
+use yv_text_statement::Keyword;
 
 /// For each prefix the first statement by which a file declares it.
 #[derive(Drop)]
@@ -15,7 +16,7 @@ impl<'s, 'a> Prefixes<'s, 'a> {
     pub(crate) fn read(alloc: Global, site: &Site<'s, 'a>) -> Result<Prefixes<'s, 'a>, AllocError> {
         let mut declarations = BTreeMap::new(alloc);
         for declaration in Sites::all(site.entries) {
-            if declaration.is("prefix") && declaration.is_beside(site) {
+            if declaration.is(Keyword::Prefix) && declaration.is_beside(site) {
                 let _ = declarations
                     .entry(declaration.argument().as_bytes())?
                     .or_insert(declaration);

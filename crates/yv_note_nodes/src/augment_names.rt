@@ -4,6 +4,7 @@ ghost use Rattle.std.specs.Iterator.{at_most};
 use std::alloc::{AllocError, Global};
 use std::collections::BTreeMap;
 use yv_note_statements::{Site, Sites, StatementEntry, last_step};
+use yv_text_statement::Keyword;
 
 // An `augment`: its number, and the place of the one before it whose path ends with the same name.
 #[derive(Clone, Copy)]
@@ -29,7 +30,7 @@ impl<'a> AugmentNames<'a> {
         let mut augments = Vec::new(alloc);
         let mut last = BTreeMap::new(alloc);
         for site in Sites::all(entries) {
-            if site.is("augment") {
+            if site.is(Keyword::Augment) {
                 let before = last.insert(last_step(site.argument()), augments.len())?;
                 augments.push(NamedAugment {
                     number: site.number,

@@ -5,14 +5,14 @@ use crate::nodes::{Steps, Way, follow, node_below, nodes_below, root_of};
 use crate::tree::Tree;
 use std::alloc::AllocError;
 use yv_link_scopes::local;
-use yv_note_statements::{Message, Site, is_among};
-use yv_text_statement::Code;
+use yv_note_statements::{Message, Site};
+use yv_text_statement::{Code, Keyword};
 
 // The grouping of a `uses` in whose block a statement is, or the root of the module where its path
 // begins.
 fn start_of<'s, 'a>(site: &Site<'s, 'a>) -> Option<Site<'s, 'a>> {
     match site.parent() {
-        Some(uses) if uses.is("uses") => uses.meaning(),
+        Some(uses) if uses.is(Keyword::Uses) => uses.meaning(),
         _ => root_of(site, site.argument()),
     }
 }
@@ -39,49 +39,54 @@ pub fn tell_refine_target<'a>(
 
 // A property that a `refine` may change, and the nodes that have it.
 struct Property {
-    keyword: &'static str,
-    nodes: &'static str,
+    keyword: Keyword,
+    nodes: &'static [Keyword],
 }
 
 static PROPERTIES: &[Property] = &[
     Property {
-        keyword: "default",
-        nodes: "leaf leaf-list choice",
+        keyword: Keyword::Default,
+        nodes: &[Keyword::Leaf, Keyword::LeafList, Keyword::Choice],
     },
     Property {
-        keyword: "mandatory",
-        nodes: "leaf choice anydata anyxml",
+        keyword: Keyword::Mandatory,
+        nodes: &[
+            Keyword::Leaf,
+            Keyword::Choice,
+            Keyword::Anydata,
+            Keyword::Anyxml,
+        ],
     },
     Property {
-        keyword: "presence",
-        nodes: "container",
+        keyword: Keyword::Presence,
+        nodes: &[Keyword::Container],
     },
     Property {
-        keyword: "min-elements",
-        nodes: "list leaf-list",
+        keyword: Keyword::MinElements,
+        nodes: &[Keyword::List, Keyword::LeafList],
     },
     Property {
-        keyword: "max-elements",
-        nodes: "list leaf-list",
+        keyword: Keyword::MaxElements,
+        nodes: &[Keyword::List, Keyword::LeafList],
     },
 ];
 
-// Whether a node of this keyword may have a property.
-fn may_have(keyword: &str, sought: &str) -> bool {
+// Whether a node may have the property of this keyword.
+fn may_have(node: &Site<'_, '_>, keyword: Keyword) -> bool {
     match PROPERTIES
         .iter()
-        .find(|property| property.keyword == sought)
+        .find(|property| property.keyword == keyword)
     {
-        Some(property) => is_among(keyword, property.nodes),
+        Some(property) => node.is_one_of(property.nodes),
         None => true,
     }
 }
 
-// The first property of a `refine` that a node of this keyword can't have.
-fn unfit_property<'s, 'a>(refine: &Site<'s, 'a>, keyword: &str) -> Option<Site<'s, 'a>> {
+// The first property of a `refine` that a node can't have.
+fn unfit_property<'s, 'a>(refine: &Site<'s, 'a>, node: &Site<'_, '_>) -> Option<Site<'s, 'a>> {
     refine
         .children()
-        .find(|property| !may_have(keyword, property.keyword()))
+        .find(|property| !may_have(node, property.kind()))
 }
 
 /// Adds which property a `refine` can't change.
@@ -97,11 +102,11 @@ pub fn tell_refine<'a>(telling: &mut Message<'a>, site: &Site<'_, 'a>) -> Result
 fn tell_property<'a>(telling: &mut Message<'a>, refine: &Site<'_, 'a>, node: &Site<'_, 'a>) {
     telling.subject("The node ", " (");
     telling.say(node.keyword());
-    if let Some(property) = unfit_property(refine, node.keyword()) {
+    if let Some(property) = unfit_property(refine, node) {
         telling.say(") has no `");
         telling.say(property.keyword());
         telling.say("`.");
-    } else if node.is("leaf-list") {
+    } else if node.is(Keyword::LeafList) {
         telling.say(") can't be refined like this.");
     } else {
         telling.say(") is no leaf-list, and so has only one default.");
@@ -111,14 +116,22 @@ fn tell_property<'a>(telling: &mut Message<'a>, refine: &Site<'_, 'a>, node: &Si
 
 // Adds where a `refine` gives a second default.
 fn say_second_default<'a>(telling: &mut Message<'a>, refine: &Site<'_, 'a>) {
-    let mut defaults = refine.children().filter(|child| child.is("default"));
+    let mut defaults = refine.children().filter(|child| child.is(Keyword::Default));
     if let (Some(first), Some(second)) = (defaults.next(), defaults.next()) {
         telling.point(" The first is at ", &first, ",");
         telling.point(" and the second at ", &second, ": leave out one of them.");
     }
 }
 
-static TARGETS: &str = "container list choice case input output notification";
+static TARGETS: &[Keyword] = &[
+    Keyword::Container,
+    Keyword::List,
+    Keyword::Choice,
+    Keyword::Case,
+    Keyword::Input,
+    Keyword::Output,
+    Keyword::Notification,
+];
 
 /// Adds where the path of an `augment` leads wrong.
 pub fn tell_augment_target<'a>(
@@ -159,7 +172,7 @@ impl<'s, 'a> Explanation<'_, 's, 'a> {
 
     // Adds that a node has none of this name below it, or in which case there is one.
     fn say_missing_step(&mut self, node: &Site<'s, 'a>, name: &'a str) -> Result<(), AllocError> {
-        if node.is("choice") {
+        if node.is(Keyword::Choice) {
             if let Some(inner) = node_below(&mut self.tree, node, name, Steps::Data)? {
                 say_case(self.message, &inner);
                 return Ok(());
@@ -189,12 +202,12 @@ fn say_case<'a>(telling: &mut Message<'a>, node: &Site<'_, 'a>) {
 
 // The `case` in whose block a node is.
 fn case_around<'s, 'a>(node: &Site<'s, 'a>) -> Option<Site<'s, 'a>> {
-    node.parent().filter(|parent| parent.is("case"))
+    node.parent().filter(|parent| parent.is(Keyword::Case))
 }
 
 // Adds why a node is not a target.
 fn say_no_target<'a>(telling: &mut Message<'a>, node: &Site<'_, 'a>) {
-    if !is_among(node.keyword(), TARGETS) {
+    if !node.is_one_of(TARGETS) {
         telling.statement_at(
             " It leads to the ",
             node,
@@ -211,17 +224,17 @@ fn say_no_target<'a>(telling: &mut Message<'a>, node: &Site<'_, 'a>) {
 
 // Whether a node is in a choice without a case around it.
 fn is_shorthand_case(node: &Site<'_, '_>) -> bool {
-    node.is_in("choice") && !node.is("case")
+    node.is_in(Keyword::Choice) && !node.is(Keyword::Case)
 }
 
 // The `augment` in whose block a node is, by way of groupings too.
 fn augment_around<'s, 'a>(tree: &Tree<'s, 'a>, node: &Site<'s, 'a>) -> Option<Site<'s, 'a>> {
     let parent = node.parent()?;
-    if parent.is("augment") {
+    if parent.is(Keyword::Augment) {
         return Some(parent);
     }
     match tree.node_above(node) {
-        Some(above) if above.is("augment") => Some(above),
+        Some(above) if above.is(Keyword::Augment) => Some(above),
         _ => None,
     }
 }
@@ -235,7 +248,7 @@ pub fn tell_augment<'a>(telling: &mut Message<'a>, site: &Site<'_, 'a>) -> Resul
         return Ok(());
     };
     let nodes = nodes_below(&mut tree, &augment, Steps::Schema)?;
-    if let Some(node) = unfit(&nodes, target.keyword) {
+    if let Some(node) = unfit(&nodes, target.kind) {
         say_unfit(telling, &node, &target);
     } else if tree.is_spent() {
         telling.sentence(Code::BadAugment);
@@ -249,6 +262,8 @@ pub fn tell_augment<'a>(telling: &mut Message<'a>, site: &Site<'_, 'a>) -> Resul
 /// operation.
 #[derive(Clone, Copy)]
 pub(crate) struct Target<'s, 'a> {
+    kind: Keyword,
+    /// Its keyword as it is written.
     keyword: &'a str,
     pub(crate) node: Site<'s, 'a>,
 }
@@ -257,38 +272,52 @@ pub(crate) struct Target<'s, 'a> {
 pub(crate) fn target_of<'s, 'a>(way: &Way<'s, 'a>) -> Option<Target<'s, 'a>> {
     match way {
         Way::To(node) => Some(Target {
+            kind: node.kind(),
             keyword: node.keyword(),
             node: *node,
         }),
-        Way::Until(node, name) if is_operation(node) && is_among(local(name), SIDES) => {
-            Some(Target {
-                keyword: local(name),
-                node: *node,
-            })
-        }
+        Way::Until(node, name) if is_operation(node) => side_of(node, local(name)),
         _ => None,
     }
 }
 
-static SIDES: &str = "input output";
+// The side of an operation that has this name, if one has.
+fn side_of<'s, 'a>(operation: &Site<'s, 'a>, name: &'a str) -> Option<Target<'s, 'a>> {
+    let kind = Keyword::read(name);
+    if !is_side(kind) {
+        return None;
+    }
+    Some(Target {
+        kind,
+        keyword: name,
+        node: *operation,
+    })
+}
+
+// Whether a node of this keyword is a side of an operation.
+fn is_side(kind: Keyword) -> bool {
+    matches!(kind, Keyword::Input | Keyword::Output)
+}
 
 fn is_operation(node: &Site<'_, '_>) -> bool {
-    node.is("rpc") || node.is("action")
+    node.is(Keyword::Rpc) || node.is(Keyword::Action)
 }
 
 // The first of these nodes that can't be in the block of a node of this keyword.
-fn unfit<'s, 'a>(nodes: &[Site<'s, 'a>], target: &str) -> Option<Site<'s, 'a>> {
+fn unfit<'s, 'a>(nodes: &[Site<'s, 'a>], target: Keyword) -> Option<Site<'s, 'a>> {
     nodes
         .iter()
         .copied()
-        .find(|node| !takes(target, node.keyword()))
+        .find(|node| !takes(target, node.kind()))
 }
 
 // Whether a node of one keyword may be in the block of one of the other.
-fn takes(target: &str, node: &str) -> bool {
+fn takes(target: Keyword, node: Keyword) -> bool {
     match node {
-        "case" => target == "choice",
-        "action" | "notification" => target == "container" || target == "list",
+        Keyword::Case => target == Keyword::Choice,
+        Keyword::Action | Keyword::Notification => {
+            matches!(target, Keyword::Container | Keyword::List)
+        }
         _ => true,
     }
 }
@@ -303,7 +332,7 @@ fn say_unfit<'a>(telling: &mut Message<'a>, node: &Site<'_, 'a>, target: &Target
 // Adds a target and its place.
 fn say_target<'a>(telling: &mut Message<'a>, before: &'a str, target: &Target<'_, 'a>) {
     telling.say(before);
-    if is_among(target.keyword, SIDES) {
+    if is_side(target.kind) {
         telling.say(target.keyword);
         telling.say(" of the ");
         let operation = if is_operation(&target.node) {

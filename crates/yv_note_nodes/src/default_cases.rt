@@ -4,7 +4,7 @@ use crate::tree::Tree;
 use std::alloc::AllocError;
 use yv_link_scopes::local;
 use yv_note_statements::{Message, Site, nearest_site, say_guess};
-use yv_text_statement::Code;
+use yv_text_statement::{Code, Keyword};
 
 /// How many cases of a choice are listed.
 const MOST_CASES: usize = 8;
@@ -20,7 +20,7 @@ pub fn tell_default_case<'a>(
         telling.sentence(Code::BadDefault);
         return Ok(());
     }
-    let Some(default) = choice.child("default") else {
+    let Some(default) = choice.child(Keyword::Default) else {
         telling.subject(
             "A `refine` gives ",
             " a default that is not one of its cases.",

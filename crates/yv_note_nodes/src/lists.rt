@@ -3,11 +3,12 @@ use crate::explanation::Explanation;
 use crate::nodes::{Steps, Way, follow, node_below};
 use crate::tree::Tree;
 use std::alloc::AllocError;
-use yv_note_statements::{Message, Site, is_among, words_of};
+use yv_note_statements::{Message, Site, words_of};
+use yv_text_statement::Keyword;
 
 /// Adds what is wrong with the key of a list.
 pub fn tell_key<'a>(telling: &mut Message<'a>, list: &Site<'_, 'a>) -> Result<(), AllocError> {
-    let Some(key) = list.child("key") else {
+    let Some(key) = list.child(Keyword::Key) else {
         telling.subject("The list ", " is configuration, so it needs a `key`.");
         return Ok(());
     };
@@ -37,7 +38,7 @@ fn objection_to<'s, 'a>(
     list: &Site<'s, 'a>,
     leaf: &Site<'s, 'a>,
 ) -> Option<Objection<'s, 'a>> {
-    if !leaf.is("leaf") {
+    if !leaf.is(Keyword::Leaf) {
         return Some(Objection {
             before: " A key has to be a leaf; this one names the ",
             between: "",
@@ -45,7 +46,7 @@ fn objection_to<'s, 'a>(
             after: ".",
         });
     }
-    if let Some(condition) = leaf.child("if-feature") {
+    if let Some(condition) = leaf.child(Keyword::IfFeature) {
         return Some(Objection {
             before: " The ",
             between: " has an `if-feature`",
@@ -53,7 +54,7 @@ fn objection_to<'s, 'a>(
             after: ", which a key can't have.",
         });
     }
-    let config = leaf.child("config")?;
+    let config = leaf.child(Keyword::Config)?;
     if config.argument() == "false" && tree.state_above(list).is_none() {
         return Some(Objection {
             before: " The ",
@@ -69,7 +70,7 @@ fn objection_to<'s, 'a>(
 pub fn tell_unique<'a>(telling: &mut Message<'a>, list: &Site<'_, 'a>) -> Result<(), AllocError> {
     telling.subject("A `unique` of list ", " is wrong.");
     let mut explanation = Explanation::around(telling, list)?;
-    for unique in list.children().filter(|child| child.is("unique")) {
+    for unique in list.children().filter(|child| child.is(Keyword::Unique)) {
         if explanation.tree.is_spent() || explanation.say_unique(list, &unique)? {
             break;
         }
@@ -143,7 +144,7 @@ impl<'s, 'a> Explanation<'_, 's, 'a> {
                 self.say_no_node(node, name, Steps::Data)?;
                 Ok(true)
             }
-            Way::To(node) if !node.is("leaf") => {
+            Way::To(node) if !node.is(Keyword::Leaf) => {
                 self.message.point(" It is at ", unique, ".");
                 self.message.statement_at(
                     " A path has to lead to a leaf; this one leads to the ",
@@ -175,7 +176,7 @@ fn list_between<'s, 'a>(
         if at.number == list.number {
             return None;
         }
-        if at.is("list") {
+        if at.is(Keyword::List) {
             return Some(at);
         }
         at = tree.node_above(&at)?;
@@ -212,5 +213,5 @@ fn say_mixed<'a>(
 
 /// Whether a statement's keyword is one of nodes with a value.
 pub(crate) fn has_value(node: &Site<'_, '_>) -> bool {
-    is_among(node.keyword(), "leaf leaf-list")
+    node.is(Keyword::Leaf) || node.is(Keyword::LeafList)
 }

@@ -6,13 +6,14 @@ use crate::tree::Tree;
 use std::alloc::AllocError;
 use yv_link_scopes::local;
 use yv_note_statements::{Message, Site, Sites, last_step};
+use yv_text_statement::Keyword;
 
 /// Whether a node says that it is mandatory.
 pub(crate) fn is_mandatory(node: &Site<'_, '_>) -> bool {
-    if node.is("list") || node.is("leaf-list") {
-        node.child("min-elements").is_some() && !node.says("min-elements", "0")
+    if node.is(Keyword::List) || node.is(Keyword::LeafList) {
+        node.child(Keyword::MinElements).is_some() && !node.says(Keyword::MinElements, "0")
     } else {
-        node.says("mandatory", "true")
+        node.says(Keyword::Mandatory, "true")
     }
 }
 
@@ -26,8 +27,8 @@ pub fn tell_mandatory<'a>(
     telling: &mut Message<'a>,
     site: &Site<'_, 'a>,
 ) -> Result<(), AllocError> {
-    match site.child("default") {
-        Some(default) if site.is("choice") && !is_mandatory(site) => {
+    match site.child(Keyword::Default) {
+        Some(default) if site.is(Keyword::Choice) && !is_mandatory(site) => {
             tell_mandatory_case(telling, site, &default)
         }
         _ => say_both(telling, site),
@@ -36,24 +37,24 @@ pub fn tell_mandatory<'a>(
 
 // Adds that a node is mandatory and has a default, and where each of the two is said.
 fn say_both<'a>(telling: &mut Message<'a>, site: &Site<'_, 'a>) -> Result<(), AllocError> {
-    let demand = if site.is("leaf-list") {
+    let (demand, word) = if site.is(Keyword::LeafList) {
         telling.subject(
             "The leaf-list ",
             " has a default, and `min-elements` asks for an entry: leave out one of the two.",
         );
-        "min-elements"
+        (Keyword::MinElements, "min-elements")
     } else {
         telling.subject(
             "The node ",
             " is mandatory and has a default; it can't have both.",
         );
-        "mandatory"
+        (Keyword::Mandatory, "mandatory")
     };
     let mut explanation = Explanation::around(telling, site)?;
     explanation.message.say(" The default ");
-    explanation.say_place(site, "default")?;
+    explanation.say_place(site, Keyword::Default)?;
     explanation.message.say(", and `");
-    explanation.message.say(demand);
+    explanation.message.say(word);
     explanation.message.say("` ");
     explanation.say_place(site, demand)?;
     explanation.message.say(".");
@@ -62,7 +63,7 @@ fn say_both<'a>(telling: &mut Message<'a>, site: &Site<'_, 'a>) -> Result<(), Al
 
 impl<'s, 'a> Explanation<'_, 's, 'a> {
     // Adds where a property of a node is said.
-    fn say_place(&mut self, node: &Site<'s, 'a>, keyword: &str) -> Result<(), AllocError> {
+    fn say_place(&mut self, node: &Site<'s, 'a>, keyword: Keyword) -> Result<(), AllocError> {
         if let Some(property) = node.child(keyword) {
             self.message.point("is at ", &property, "");
             return Ok(());
@@ -90,7 +91,7 @@ impl<'s, 'a> Explanation<'_, 's, 'a> {
 
     // Adds the first node of a case that is mandatory by itself.
     fn say_mandatory_node(&mut self, case: &Site<'s, 'a>) -> Result<(), AllocError> {
-        if !case.is("case") {
+        if !case.is(Keyword::Case) {
             self.message.say(", namely itself");
             return Ok(());
         }
@@ -106,7 +107,7 @@ impl<'s, 'a> Explanation<'_, 's, 'a> {
 fn refine_of<'s, 'a>(
     tree: &mut Tree<'s, 'a>,
     node: &Site<'s, 'a>,
-    keyword: &str,
+    keyword: Keyword,
 ) -> Result<Option<Site<'s, 'a>>, AllocError> {
     for refine in Sites::all(node.entries) {
         if is_refine_of(&refine, node, keyword) && leads_to(tree, &refine, node)? {
@@ -117,8 +118,8 @@ fn refine_of<'s, 'a>(
 }
 
 // Whether a statement is a `refine` of a node of this one's name, and has a property.
-fn is_refine_of(refine: &Site<'_, '_>, node: &Site<'_, '_>, keyword: &str) -> bool {
-    refine.is("refine")
+fn is_refine_of(refine: &Site<'_, '_>, node: &Site<'_, '_>, keyword: Keyword) -> bool {
+    refine.is(Keyword::Refine)
         && last_step(refine.argument()) == node.argument()
         && refine.child(keyword).is_some()
 }

@@ -5,6 +5,7 @@ use crate::tree::Tree;
 use std::alloc::AllocError;
 use yv_link_scopes::local;
 use yv_note_statements::{Site, module_of, nearest_site, say_guess};
+use yv_text_statement::Keyword;
 
 /// A step of a path takes as long as so many looks at statements, beside those at nodes.
 const LOOKS_OF_STEP: usize = 10;
@@ -13,29 +14,28 @@ const LOOKS_OF_STEP: usize = 10;
 const LOOKS_OF_BLOCK: usize = 10;
 
 /// The keywords of nodes that have a name of their own.
-pub(crate) static DATA_NODES: &str =
-    "container leaf leaf-list list choice case anydata anyxml rpc action notification";
-
-// The same, and those of the sides of an operation. The most usual ones come first.
-static ALL_NODES: &[&str] = &[
-    "leaf",
-    "container",
-    "list",
-    "leaf-list",
-    "choice",
-    "case",
-    "anydata",
-    "anyxml",
-    "rpc",
-    "action",
-    "notification",
-    "input",
-    "output",
+pub(crate) static NAMED_NODES: &[Keyword] = &[
+    Keyword::Leaf,
+    Keyword::Container,
+    Keyword::List,
+    Keyword::LeafList,
+    Keyword::Choice,
+    Keyword::Case,
+    Keyword::Anydata,
+    Keyword::Anyxml,
+    Keyword::Rpc,
+    Keyword::Action,
+    Keyword::Notification,
 ];
+
+// Whether a statement is a side of an operation, which has no name.
+fn is_side(site: &Site<'_, '_>) -> bool {
+    site.is(Keyword::Input) || site.is(Keyword::Output)
+}
 
 // Whether a statement defines a node of the schema.
 fn is_node(site: &Site<'_, '_>) -> bool {
-    ALL_NODES.iter().any(|keyword| site.is(keyword))
+    site.is_one_of(NAMED_NODES) || is_side(site)
 }
 
 /// Which steps a path has: also to choices and cases, or only to data nodes.
@@ -183,18 +183,19 @@ pub(crate) fn node_in_block<'s, 'a>(
 
 // The block whose nodes are those of the block in which this statement is.
 fn block_at<'s, 'a>(child: &Site<'s, 'a>, steps: Steps) -> Option<Site<'s, 'a>> {
-    match child.keyword() {
-        "uses" => child.meaning(),
-        "choice" | "case" if steps == Steps::Data => Some(*child),
+    match child.kind() {
+        Keyword::Uses => child.meaning(),
+        Keyword::Choice | Keyword::Case if steps == Steps::Data => Some(*child),
         _ => None,
     }
 }
 
 /// The name of a node: `input` and `output` have that of their keyword.
 pub(crate) fn node_name<'a>(node: &Site<'_, 'a>) -> &'a str {
-    match node.keyword() {
-        "input" | "output" => node.keyword(),
-        _ => node.argument(),
+    if is_side(node) {
+        node.keyword()
+    } else {
+        node.argument()
     }
 }
 

@@ -5,16 +5,16 @@ use crate::nodes::{Steps, Way, follow, root_of};
 use crate::tree::Tree;
 use std::alloc::{AllocError, Global};
 use yv_note_statements::{Message, Site, chain, say_ring};
-use yv_text_statement::Code;
+use yv_text_statement::{Code, Keyword};
 
 // The `path` of a leafref, with the typedefs through which it is one.
 fn path_of<'s, 'a>(alloc: Global, leaf: &Site<'s, 'a>) -> Result<Option<Site<'s, 'a>>, AllocError> {
-    let Some(own_type) = leaf.child("type") else {
+    let Some(own_type) = leaf.child(Keyword::Type) else {
         return Ok(None);
     };
     let types = chain(alloc, &own_type)?;
     match types.last() {
-        Some(first) => Ok(first.child("path")),
+        Some(first) => Ok(first.child(Keyword::Path)),
         None => Ok(None),
     }
 }

@@ -1,10 +1,10 @@
 //! Nodes that can't be where they are, or whose names other nodes have there.
 use crate::augments::{target_of, way_of};
-use crate::nodes::{DATA_NODES, Way};
+use crate::nodes::{NAMED_NODES, Way};
 use crate::tree::Tree;
 use std::alloc::{AllocError, Global};
-use yv_note_statements::{Message, Site, Sites, is_among};
-use yv_text_statement::Code;
+use yv_note_statements::{Message, Site, Sites};
+use yv_text_statement::{Code, Keyword};
 
 /// How many `uses` of a grouping are looked at.
 const MOST_USES: usize = 64;
@@ -49,7 +49,7 @@ pub fn tell_operation<'a>(
     let mut tree = Tree::around(telling.alloc(), site)?;
     match find_hindrance(&mut tree, site)? {
         Some(hindrance) => say_hindrance(telling, &hindrance),
-        None if site.is("action") => {
+        None if site.is(Keyword::Action) => {
             telling.say("an action can't be at the top of a module; that is an `rpc`.");
         }
         None => telling.say(
@@ -71,7 +71,7 @@ struct Hindrance<'s, 'a> {
 impl Hindrance<'_, '_> {
     // Whether no action or notification can be there.
     fn is_one(&self) -> bool {
-        hinders(&self.around) || (self.is_direct && self.around.is("case"))
+        hinders(&self.around) || (self.is_direct && self.around.is(Keyword::Case))
     }
 }
 
@@ -81,13 +81,13 @@ fn say_hindrance<'a>(telling: &mut Message<'a>, hindrance: &Hindrance<'_, 'a>) {
     }
     let around = &hindrance.around;
     telling.statement_at(
-        if around.is("case") {
+        if around.is(Keyword::Case) {
             "it can't be in the "
         } else {
             "it is inside the "
         },
         around,
-        if around.is("list") {
+        if around.is(Keyword::List) {
             ", which has no key."
         } else {
             "."
@@ -140,7 +140,7 @@ fn push_around<'s, 'a>(
 
 // Whether the nodes in a statement are elsewhere in the tree.
 fn is_copied(site: &Site<'_, '_>) -> bool {
-    site.is("grouping") || site.is("augment")
+    site.is(Keyword::Grouping) || site.is(Keyword::Augment)
 }
 
 // Adds where in the tree the nodes in a grouping or in an `augment` are.
@@ -150,7 +150,7 @@ fn push_copies<'s, 'a>(
     copied: &Hindrance<'s, 'a>,
 ) -> Result<(), AllocError> {
     let around = &copied.around;
-    if !around.is("grouping") {
+    if !around.is(Keyword::Grouping) {
         return push_target(tree, open, copied);
     }
     for uses in tree.uses_of(around).take(MOST_USES) {
@@ -177,9 +177,9 @@ fn push_target<'s, 'a>(
 
 // Whether no operation or notification can be in a node.
 fn hinders(node: &Site<'_, '_>) -> bool {
-    match node.keyword() {
-        "rpc" | "action" | "notification" => true,
-        "list" => node.child("key").is_none(),
+    match node.kind() {
+        Keyword::Rpc | Keyword::Action | Keyword::Notification => true,
+        Keyword::List => node.child(Keyword::Key).is_none(),
         _ => false,
     }
 }
@@ -213,7 +213,7 @@ fn add_target<'s, 'a>(
 
 // Where a statement is, if it is a node of this name.
 fn landing_of<'s, 'a>(site: Site<'s, 'a>, name: &str) -> Option<Landing<'s, 'a>> {
-    if site.argument() == name && is_among(site.keyword(), DATA_NODES) {
+    if site.argument() == name && site.is_one_of(NAMED_NODES) {
         Some(Landing {
             node: site,
             block: site.parent()?,
@@ -247,10 +247,10 @@ fn follow_out<'s, 'a>(
         let Some(landing) = open.pop() else {
             break;
         };
-        match landing.block.keyword() {
-            "choice" | "case" => add_around(&mut open, &landing)?,
-            "grouping" => add_uses(tree, &mut open, &landing)?,
-            "augment" if augments < MOST_FOLLOWED => {
+        match landing.block.kind() {
+            Keyword::Choice | Keyword::Case => add_around(&mut open, &landing)?,
+            Keyword::Grouping => add_uses(tree, &mut open, &landing)?,
+            Keyword::Augment if augments < MOST_FOLLOWED => {
                 augments += 1;
                 add_target(tree, &mut open, &mut landings, landing)?;
             }
@@ -295,7 +295,7 @@ fn add_uses<'s, 'a>(
 
 // Whether two places are in one block, or in augments of one path.
 fn is_one_block(one: &Site<'_, '_>, other: &Site<'_, '_>) -> bool {
-    let are_augments = one.is("augment") && other.is("augment");
+    let are_augments = one.is(Keyword::Augment) && other.is(Keyword::Augment);
     let are_roots = one.is_root() && other.is_root();
     one.number == other.number
         || (are_augments && one.argument() == other.argument())

@@ -5,6 +5,7 @@ use crate::tree::Tree;
 use std::alloc::AllocError;
 use yv_link_scopes::{local, prefix_of};
 use yv_note_statements::{Message, Site, declaration, prefix_of_module};
+use yv_text_statement::Keyword;
 
 /// How many augments of a node are searched.
 const MOST_AUGMENTS: usize = 64;
@@ -72,7 +73,7 @@ impl<'s, 'a> Explanation<'_, 's, 'a> {
 fn module_meant<'s, 'a>(site: &Site<'s, 'a>, step: &str) -> Option<Site<'s, 'a>> {
     match prefix_of(step) {
         Some(prefix) => declaration(site, prefix)?.meaning(),
-        None if site.is("augment") => site.module(),
+        None if site.is(Keyword::Augment) => site.module(),
         None => None,
     }
 }
@@ -94,7 +95,7 @@ fn node_reached<'s, 'a>(
         let reached = Reached {
             node,
             module: block.module,
-            is_added: block.site.is("augment"),
+            is_added: block.site.is(Keyword::Augment),
         };
         if reached.is_of(module) {
             return Ok(Some(reached));

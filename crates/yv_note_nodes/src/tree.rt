@@ -7,7 +7,7 @@ use crate::nodes::Steps;
 use std::alloc::{AllocError, Global};
 use std::collections::BTreeMap;
 use yv_note_statements::{Message, Site, StatementEntry, StatementLists, node_above, state_above};
-use yv_text_statement::Code;
+use yv_text_statement::{Code, Keyword};
 
 /// How many statements are looked at for a note, beside as many as there are.
 const MOST_LOOKS: usize = 500_000;
@@ -126,7 +126,7 @@ impl<'s, 'a> Tree<'s, 'a> {
     /// The `augment` statements whose nodes a node can have: those whose path ends with its name,
     /// the last one first.
     pub(crate) fn augments_of(&self, node: &Site<'s, 'a>) -> NamedAugments<'_, 's, 'a> {
-        if node.is_root() || node.is("grouping") {
+        if node.is_root() || node.is(Keyword::Grouping) {
             self.no_augments()
         } else {
             self.augments.of_name(self.entries, node.argument())

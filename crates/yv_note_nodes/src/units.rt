@@ -3,7 +3,7 @@ use crate::weights::Weights;
 use std::alloc::{AllocError, Global};
 use yv_link_scopes::{Entry, Rows};
 use yv_note_statements::{Message, Site, StatementEntry};
-use yv_text_statement::{Code, Selection};
+use yv_text_statement::{Code, Keyword, Selection};
 
 /// The highest limit that may be asked for.
 const HIGHEST_LIMIT: u64 = 1_000_000;
@@ -74,7 +74,7 @@ fn largest_uses(
             break;
         }
         let weight = weights.weight(number);
-        if entry.statement.keyword() == "uses" && is_more(weight, largest) {
+        if entry.statement.is(Keyword::Uses) && is_more(weight, largest) {
             largest = Some((number, weight));
         }
     }

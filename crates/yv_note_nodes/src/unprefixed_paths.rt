@@ -4,6 +4,7 @@ use crate::nodes::{Steps, Way, follow};
 use std::alloc::{AllocError, Global};
 use yv_link_scopes::prefix_of;
 use yv_note_statements::{Message, Site, Sites};
+use yv_text_statement::Keyword;
 
 /// How many imports of a file are tried.
 const MOST_TRIED: usize = 8;
@@ -18,7 +19,7 @@ fn imports_of<'s, 'a>(alloc: Global, site: &Site<'s, 'a>) -> Result<Vec<Site<'s,
 
 // Whether a statement is the `prefix` of an `import` in the file of another one.
 fn is_import_of(prefix: &Site<'_, '_>, site: &Site<'_, '_>) -> bool {
-    prefix.is("prefix") && prefix.is_beside(site) && prefix.is_in("import")
+    prefix.is(Keyword::Prefix) && prefix.is_beside(site) && prefix.is_in(Keyword::Import)
 }
 
 // Whether a step of a path has no prefix.

@@ -1,17 +1,18 @@
 //! How many nodes and `uses` each statement expands to.
-use crate::nodes::DATA_NODES;
+use crate::nodes::NAMED_NODES;
 use std::alloc::{AllocError, Global};
 use yv_link_scopes::Entry;
-use yv_note_statements::{StatementEntry, StatementLists, is_among};
+use yv_note_statements::{StatementEntry, StatementLists};
+use yv_text_statement::Keyword;
 
 // What a statement of this keyword counts by itself: an operation three, with its input and its
 // output. None, if what is in it doesn't count either.
-fn own_weight(keyword: &str) -> Option<u64> {
+fn own_weight(keyword: Keyword) -> Option<u64> {
     match keyword {
-        "rpc" | "action" => Some(3),
-        "input" | "output" | "augment" => Some(0),
-        "uses" => Some(1),
-        _ if is_among(keyword, DATA_NODES) => Some(1),
+        Keyword::Rpc | Keyword::Action => Some(3),
+        Keyword::Input | Keyword::Output | Keyword::Augment => Some(0),
+        Keyword::Uses => Some(1),
+        _ if NAMED_NODES.contains(&keyword) => Some(1),
         _ => None,
     }
 }
@@ -59,7 +60,7 @@ impl<'r, 'a, 'b> Weights<'r, 'a, 'b> {
     }
 
     fn own(&self, number: usize) -> Option<u64> {
-        own_weight(self.rows.get(number)?.statement.keyword())
+        own_weight(self.rows.get(number)?.statement.kind())
     }
 
     fn sum(&self, number: usize) -> u64 {
@@ -137,7 +138,7 @@ fn takes_last(numbers: &mut [usize], place: usize) -> bool {
 // What each statement counts by itself.
 fn own_weights(alloc: Global, rows: &[Entry<'_, '_>]) -> Result<Vec<u64>, AllocError> {
     rows.iter()
-        .map(|row| own_weight(row.statement.keyword()).unwrap_or(0))
+        .map(|row| own_weight(row.statement.kind()).unwrap_or(0))
         .collect(alloc)
 }
 
@@ -149,7 +150,7 @@ fn parts_of(alloc: Global, entries: &[StatementEntry<'_>]) -> Result<Vec<usize>,
         if !entry.is_root {
             add_one(&mut parts, entry.scope);
         }
-        if entry.keyword == "uses" && entry.meaning.is_some() {
+        if entry.kind == Keyword::Uses && entry.meaning.is_some() {
             add_one(&mut parts, number);
         }
     }

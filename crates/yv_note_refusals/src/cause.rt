@@ -16,7 +16,7 @@ use yv_note_patterns::tell_pattern;
 use yv_note_statements::{Message, Site};
 use yv_note_syntax::{tell_argument, tell_cardinality, tell_keyword, tell_unsupported};
 use yv_note_types::{tell_default, tell_item, tell_restriction, tell_type};
-use yv_text_statement::Code;
+use yv_text_statement::{Code, Keyword};
 
 /// A refusal at a statement.
 #[derive(Clone, Copy)]
@@ -84,10 +84,10 @@ impl<'a> Refused<'_, '_, 'a, '_> {
     // The same, of definitions that lead to themselves.
     fn tell_definition_cycle(&self, telling: &mut Message<'a>) -> Result<(), AllocError> {
         let keyword = match self.code {
-            Code::FeatureCycle => "if-feature",
-            Code::IdentityCycle => "base",
-            Code::TypeCycle => "type",
-            _ => "uses",
+            Code::FeatureCycle => Keyword::IfFeature,
+            Code::IdentityCycle => Keyword::Base,
+            Code::TypeCycle => Keyword::Type,
+            _ => Keyword::Uses,
         };
         telling.sentence(self.code);
         tell_cycle(telling, self.rows, &self.site, keyword)
@@ -118,7 +118,7 @@ impl<'a> Refused<'_, '_, 'a, '_> {
             Code::DuplicateNode => return tell_second_node(telling, site),
             Code::BadKey => return tell_key(telling, site),
             Code::BadUnique => return tell_unique(telling, site),
-            Code::BadDefault if site.is("choice") => return tell_default_case(telling, site),
+            Code::BadDefault if site.is(Keyword::Choice) => return tell_default_case(telling, site),
             Code::BadDefault => return tell_default(telling, site),
             Code::BadMandatory => return tell_mandatory(telling, site),
             Code::BadPath => return self.tell_leafref(telling),
@@ -146,8 +146,8 @@ impl<'a> Refused<'_, '_, 'a, '_> {
     // The same, of the path of a leafref.
     fn tell_leafref(&self, telling: &mut Message<'a>) -> Result<(), AllocError> {
         let site = &self.site;
-        let path = match site.child("type") {
-            Some(kind) => kind.child("path"),
+        let path = match site.child(Keyword::Type) {
+            Some(kind) => kind.child(Keyword::Path),
             None => None,
         };
         let Some(path) = path else {

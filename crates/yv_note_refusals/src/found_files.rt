@@ -3,6 +3,7 @@ use yv_job::Job;
 use yv_link_scopes::prefix_of;
 use yv_note_names::{say_nearest_file, tell_missing, tell_second_module};
 use yv_note_statements::{Message, Site, Sites};
+use yv_text_statement::Keyword;
 
 // Of a path with more steps, the others aren't looked at.
 const MOST_STEPS: usize = 8;
@@ -116,6 +117,6 @@ pub(crate) fn say_bare_module<'a>(telling: &mut Message<'a>, module: &'a str, jo
 fn module_of_prefix<'a>(site: &Site<'_, 'a>, prefix: &str) -> Option<&'a str> {
     site.root()?
         .children()
-        .find(|child| child.is("import") && child.says("prefix", prefix))
+        .find(|child| child.is(Keyword::Import) && child.says(Keyword::Prefix, prefix))
         .map(|import| import.argument())
 }

@@ -3,13 +3,13 @@ ghost use Rattle.std.specs.Prelude.{◌≡◌, option_map};
 ghost use Rattle.yv_note_refusals.specs.Subject.{is_told_by_argument, subject, argument_or_keyword};
 ghost use Rattle.yv_link_scopes.specs.Rows.{is_extended};
 
-use yv_text_statement::{Code, Statement};
+use yv_text_statement::{Code, Keyword, Statement};
 
 // Whether a statement that isn't supported is so for its argument.
-fn is_told_by_argument(keyword: &str) -> bool
-    ensures { result ≡ is_told_by_argument keyword.now }
+fn is_told_by_argument(statement: &Statement<'_>) -> bool
+    ensures { result ≡ is_told_by_argument statement.now.head.keyword }
 {
-    keyword == "type" || keyword == "path"
+    statement.is(Keyword::Type) || statement.is(Keyword::Path)
 }
 
 // Whether a keyword is an extension's.
@@ -38,7 +38,7 @@ pub fn subject<'s>(code: Code, statement: &'s Statement<'_>) -> Option<&'s str>
     match code {
         Code::TooManyNodes => None,
         Code::UnknownStatement | Code::Cardinality => Some(keyword),
-        Code::Unsupported if !is_told_by_argument(keyword) => Some(keyword),
+        Code::Unsupported if !is_told_by_argument(statement) => Some(keyword),
         Code::UnknownPrefix if is_extended(keyword) => Some(keyword),
         _ => Some(argument_or_keyword(statement)),
     }

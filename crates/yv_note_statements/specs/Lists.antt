@@ -1,7 +1,8 @@
 -- The lists in which the numbered statements of the files are: those of a block, and the `uses` of
 -- a grouping.
-use Rattle.std.specs.Prelude.{◌≡◌, ◌≢◌, ℕ, ◌+◌, ◌-◌, ◌<◌, ◌==◌, Bool, false, cond, List, [], ◌∷◌, Option, None, Some, length, codes, drop, slice_index_or}
-use Rattle.std.specs.Str.{bytes_eq}
+use Rattle.std.specs.Prelude.{◌≡◌, ◌≢◌, ℕ, ◌+◌, ◌-◌, ◌<◌, ◌==◌, Bool, false, cond, List, [], ◌∷◌, Option, None, Some, length, drop, slice_index_or}
+use Rattle.yv_text_statement.specs.Keywords.{same}
+use Rattle.yv_text_statement.specs.declared.keyword.Keyword.TheVariants as word
 use Rattle.yv_note_statements.specs.declared.entry.StatementEntry.{StatementEntry}
 use Rattle.yv_note_statements.specs.declared.links.Links.{Links}
 use Rattle.yv_note_statements.specs.declared.statement_lists.StatementLists.{StatementLists}
@@ -27,11 +28,11 @@ block_of entry = cond entry.is_root None (Some entry.scope)
 
 -- the grouping that a `uses` means
 abbrev pub grouping_of : StatementEntry → Option ℕ
-grouping_of entry = cond (bytes_eq entry.keyword.now (codes "uses")) entry.meaning None
+grouping_of entry = cond (same entry.kind word.Uses) entry.meaning None
 
 -- the statement in whose block a `config` is
 abbrev pub configured_by : StatementEntry → Option ℕ
-configured_by entry = cond (bytes_eq entry.keyword.now (codes "config")) (block_of entry) None
+configured_by entry = cond (same entry.kind word.Config) (block_of entry) None
 
 -- the item that links keep as a number: its number and one
 abbrev pub item_of : ℕ → Option ℕ

@@ -1,6 +1,7 @@
 //! The nodes above a statement.
 use crate::site::Site;
 use crate::statement_lists::StatementLists;
+use yv_text_statement::Keyword;
 
 /// How many nodes above one are looked at.
 const MOST_STEPS: usize = 64;
@@ -10,10 +11,10 @@ const MOST_STEPS: usize = 64;
 pub fn node_above<'s, 'a>(lists: &StatementLists, node: &Site<'s, 'a>) -> Option<Site<'s, 'a>> {
     let mut at = node.parent()?;
     for _ in 0..MOST_STEPS {
-        match at.keyword() {
-            "choice" | "case" => at = at.parent()?,
-            "grouping" => at = Site::at(at.entries, lists.first_use(at.number)?)?.parent()?,
-            "module" | "submodule" => return None,
+        match at.kind() {
+            Keyword::Choice | Keyword::Case => at = at.parent()?,
+            Keyword::Grouping => at = Site::at(at.entries, lists.first_use(at.number)?)?.parent()?,
+            Keyword::Module | Keyword::Submodule => return None,
             _ => return Some(at),
         }
     }

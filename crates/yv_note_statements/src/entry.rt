@@ -1,7 +1,7 @@
 //! The statements of the files as one list, with what their arguments mean.
 use std::alloc::{AllocError, Global};
 use yv_link_scopes::{NameKind, NamePlaces, Rows, first_places, local, name_of};
-use yv_text_statement::Statement;
+use yv_text_statement::{Keyword, Statement};
 
 /// A statement of the files.
 #[derive(Clone, Copy)]
@@ -14,6 +14,8 @@ pub struct StatementEntry<'a> {
     pub scope: usize,
     /// The keyword, with a prefix if it is an extension's.
     pub keyword: &'a str,
+    /// What the keyword means, by which it is compared.
+    pub kind: Keyword,
     pub argument: Option<&'a str>,
     /// The line on which it begins, from 1.
     pub line: u64,
@@ -60,13 +62,13 @@ impl<'a> Definitions<'a> {
         statement: &'a Statement<'_>,
     ) -> Option<usize> {
         let name = name_of(statement);
-        match statement.keyword() {
-            "type" => rows.meaning(&self.typedefs, number, name),
-            "uses" => rows.meaning(&self.groupings, number, name),
-            "base" => self.identity(rows, file, name),
-            "prefix" => rows.module_of(file as usize, name),
-            "import" | "include" | "belongs-to" => rows.file_named(name),
-            "module" | "submodule" => Some(rows.module_file(number)),
+        match statement.kind() {
+            Keyword::Type => rows.meaning(&self.typedefs, number, name),
+            Keyword::Uses => rows.meaning(&self.groupings, number, name),
+            Keyword::Base => self.identity(rows, file, name),
+            Keyword::Prefix => rows.module_of(file as usize, name),
+            Keyword::Import | Keyword::Include | Keyword::BelongsTo => rows.file_named(name),
+            Keyword::Module | Keyword::Submodule => Some(rows.module_file(number)),
             _ => None,
         }
     }
@@ -86,6 +88,7 @@ pub fn entries<'a>(
             is_root: number < rows.files().len(),
             scope: row.scope,
             keyword: statement.keyword(),
+            kind: statement.kind(),
             argument: statement.argument(),
             line: statement.line(),
             offset: statement.offset(),

@@ -5,6 +5,7 @@ use crate::site::Site;
 use crate::sites::Sites;
 use yv_link_scopes::local;
 use yv_note_text::{Likeness, compare};
+use yv_text_statement::Keyword;
 
 /// A guess at what was meant: a name that is like one that was written. Of several the first that
 /// is most alike is kept.
@@ -56,7 +57,7 @@ pub fn nearest_site<'a>(written: &str, sites: &[Site<'_, 'a>]) -> Option<Guess<'
 /// The definition of this keyword whose name is most like one that was written.
 pub fn nearest_definition<'a>(
     entries: &[StatementEntry<'a>],
-    keyword: &str,
+    keyword: Keyword,
     written: &str,
 ) -> Option<Guess<'a>> {
     let name = local(written);

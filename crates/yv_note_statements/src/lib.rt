@@ -17,9 +17,7 @@ mod statement_lists;
 pub use ancestors::{node_above, state_above};
 pub use entry::{StatementEntry, entries};
 pub use guess::{Guess, nearest_definition, nearest_site, nearest_word, say_guess};
-pub use meanings::{
-    chain, declaration, definition, last_step, module_of, prefix_of_module, words_of,
-};
+pub use meanings::{chain, declaration, last_step, module_of, prefix_of_module, words_of};
 pub use pieces::{Message, push_around, push_plain};
 pub use ring::say_ring;
 pub use sentences::{Sentence, sentence_of};

@@ -3,6 +3,7 @@ use crate::site::{Site, named_in_file};
 use crate::sites::Sites;
 use std::alloc::{AllocError, Global};
 use yv_link_scopes::{local, prefix_of};
+use yv_text_statement::Keyword;
 
 /// How many steps from one typedef to the next are followed.
 const MOST_STEPS: usize = 64;
@@ -23,12 +24,12 @@ pub fn chain<'s, 'a>(alloc: Global, site: &Site<'s, 'a>) -> Result<Vec<Site<'s, 
 
 // The `type` of the typedef that a `type` means.
 fn next_type<'s, 'a>(site: &Site<'s, 'a>) -> Option<Site<'s, 'a>> {
-    site.meaning()?.child("type")
+    site.meaning()?.child(Keyword::Type)
 }
 
 /// The statement by which the file of a statement declares a prefix.
 pub fn declaration<'s, 'a>(site: &Site<'s, 'a>, prefix: &str) -> Option<Site<'s, 'a>> {
-    named_in_file(site, "prefix", prefix)
+    named_in_file(site, Keyword::Prefix, prefix)
 }
 
 /// The root of the module in which a name in a statement is looked up by its prefix.
@@ -37,12 +38,6 @@ pub fn module_of<'s, 'a>(site: &Site<'s, 'a>, name: &str) -> Option<Site<'s, 'a>
         Some(prefix) => declaration(site, prefix)?.meaning(),
         None => site.module(),
     }
-}
-
-/// The definition at the top of a module that a name in a statement means, of a keyword whose
-/// definitions are all there.
-pub fn definition<'s, 'a>(site: &Site<'s, 'a>, keyword: &str, name: &str) -> Option<Site<'s, 'a>> {
-    module_of(site, name)?.child_named(keyword, local(name))
 }
 
 /// How many words of an argument are looked at.
@@ -77,7 +72,7 @@ pub fn prefix_of_module<'a>(site: &Site<'_, 'a>, other: &Site<'_, 'a>) -> Option
         return Some("");
     }
     let declaration = Sites::all(site.entries).find(|other| {
-        other.is("prefix") && other.is_beside(site) && other.means(module.number)
+        other.is(Keyword::Prefix) && other.is_beside(site) && other.means(module.number)
     })?;
     declaration.entry.argument
 }

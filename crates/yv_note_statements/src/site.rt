@@ -3,6 +3,7 @@ use crate::entry::StatementEntry;
 use crate::sites::{Children, Sites};
 use std::alloc::{AllocError, Global};
 use yv_link_scopes::local;
+use yv_text_statement::Keyword;
 
 /// The site of a numbered statement of the files.
 #[derive(Clone, Copy)]
@@ -40,9 +41,19 @@ impl<'s, 'a> Site<'s, 'a> {
         local(self.argument())
     }
 
+    /// What its keyword means.
+    pub fn kind(&self) -> Keyword {
+        self.entry.kind
+    }
+
     /// Whether this is its keyword.
-    pub fn is(&self, keyword: &str) -> bool {
-        self.entry.keyword == keyword
+    pub fn is(&self, keyword: Keyword) -> bool {
+        self.entry.kind == keyword
+    }
+
+    /// Whether its keyword is one of these.
+    pub fn is_one_of(&self, keywords: &[Keyword]) -> bool {
+        keywords.contains(&self.entry.kind)
     }
 
     /// Whether it is the outermost statement of its file.
@@ -63,11 +74,6 @@ impl<'s, 'a> Site<'s, 'a> {
     /// Whether the argument means the statement of this number.
     pub fn means(&self, number: usize) -> bool {
         self.entry.meaning == Some(number)
-    }
-
-    /// Whether it is a `uses` of a grouping.
-    pub fn is_use_of(&self, grouping: &Site<'_, '_>) -> bool {
-        self.is("uses") && self.means(grouping.number)
     }
 
     /// The root of its file.
@@ -100,7 +106,7 @@ impl<'s, 'a> Site<'s, 'a> {
     }
 
     /// Whether it is in the block of a statement of this keyword.
-    pub fn is_in(&self, keyword: &str) -> bool {
+    pub fn is_in(&self, keyword: Keyword) -> bool {
         self.parent().is_some_and(|parent| parent.is(keyword))
     }
 
@@ -119,7 +125,7 @@ impl<'s, 'a> Site<'s, 'a> {
     pub fn children_of(
         &self,
         alloc: Global,
-        keyword: &str,
+        keyword: Keyword,
     ) -> Result<Vec<Site<'s, 'a>>, AllocError> {
         self.children()
             .filter(|child| child.is(keyword))
@@ -127,32 +133,26 @@ impl<'s, 'a> Site<'s, 'a> {
     }
 
     /// The first statement of its block with this keyword.
-    pub fn child(&self, keyword: &str) -> Option<Site<'s, 'a>> {
+    pub fn child(&self, keyword: Keyword) -> Option<Site<'s, 'a>> {
         self.children().find(|child| child.is(keyword))
     }
 
-    /// The first statement of its block with this keyword and this argument.
-    pub fn child_named(&self, keyword: &str, name: &str) -> Option<Site<'s, 'a>> {
-        self.children()
-            .find(|child| child.is(keyword) && child.argument() == name)
-    }
-
     /// Whether a statement of its block says this.
-    pub fn says(&self, keyword: &str, argument: &str) -> bool {
+    pub fn says(&self, keyword: Keyword, argument: &str) -> bool {
         self.child(keyword)
             .is_some_and(|child| child.argument() == argument)
     }
 }
 
 /// The first statement of this keyword in the file of another statement.
-pub fn first_in_file<'s, 'a>(site: &Site<'s, 'a>, keyword: &str) -> Option<Site<'s, 'a>> {
+pub fn first_in_file<'s, 'a>(site: &Site<'s, 'a>, keyword: Keyword) -> Option<Site<'s, 'a>> {
     Sites::all(site.entries).find(|other| other.is(keyword) && other.is_beside(site))
 }
 
 /// The first statement of this keyword and this argument in the file of another statement.
 pub fn named_in_file<'s, 'a>(
     site: &Site<'s, 'a>,
-    keyword: &str,
+    keyword: Keyword,
     name: &str,
 ) -> Option<Site<'s, 'a>> {
     Sites::all(site.entries).find(|other| other.is(keyword)

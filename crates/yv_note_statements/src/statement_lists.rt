@@ -5,6 +5,7 @@ ghost use Rattle.yv_note_statements.specs.Lists.{Puts, block_of, config_in, conf
 use crate::entry::StatementEntry;
 use crate::links::Links;
 use std::alloc::{AllocError, Global};
+use yv_text_statement::Keyword;
 
 /// The lists in which the statements of the files are: those of each block, the `uses` of each
 /// grouping, and the `config` of each block. They are made in one pass over the statements.
@@ -32,7 +33,7 @@ fn grouping_of(entry: &StatementEntry<'_>) -> Option<usize>
 {
     // Few statements mean another one.
     match entry.meaning {
-        Some(grouping) if entry.keyword == "uses" => Some(grouping),
+        Some(grouping) if entry.kind == Keyword::Uses => Some(grouping),
         _ => None,
     }
 }
@@ -41,7 +42,7 @@ fn grouping_of(entry: &StatementEntry<'_>) -> Option<usize>
 fn configured_by(entry: &StatementEntry<'_>) -> Option<usize>
     ensures { result ≡ configured_by entry.now }
 {
-    if entry.keyword == "config" {
+    if entry.kind == Keyword::Config {
         block_of(entry)
     } else {
         None

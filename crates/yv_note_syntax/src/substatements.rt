@@ -1,6 +1,6 @@
 //! Statements that are misplaced, duplicate, missing or misspelt.
 use yv_note_statements::{Guess, Message, Site, Sites, is_among, nearest_word, say_guess};
-use yv_text_statement::Code;
+use yv_text_statement::{Code, Keyword};
 
 const FILES: &str = "module submodule";
 
@@ -35,9 +35,9 @@ static KEYWORDS: &str =
     fraction-digits require-instance value position modifier error-message error-app-tag \
     argument yin-element module submodule must when deviation deviate";
 
-/// Whether YANG has a statement of this keyword.
-pub(crate) fn is_keyword(word: &str) -> bool {
-    is_among(word, KEYWORDS)
+/// Whether YANG has statements of a keyword.
+pub(crate) fn is_known(keyword: Keyword) -> bool {
+    !matches!(keyword, Keyword::Extended | Keyword::Unknown)
 }
 
 // Statements of these keywords, and those of which they may be substatements (RFC 7950, sections 7
@@ -103,12 +103,34 @@ fn parents_of(keyword: &str) -> &'static str {
     }
 }
 
-// Statements of these keywords, and a substatement that they need.
-static NEEDS: &[(&str, &str)] = &[
-    ("module", "namespace"),
-    ("module belongs-to import", "prefix"),
-    ("submodule", "belongs-to"),
-    ("leaf leaf-list typedef", "type"),
+// Statements of these keywords, and a substatement that they need, with how it is written.
+struct Need {
+    keywords: &'static [Keyword],
+    needed: Keyword,
+    word: &'static str,
+}
+
+static NEEDS: &[Need] = &[
+    Need {
+        keywords: &[Keyword::Module],
+        needed: Keyword::Namespace,
+        word: "namespace",
+    },
+    Need {
+        keywords: &[Keyword::Module, Keyword::BelongsTo, Keyword::Import],
+        needed: Keyword::Prefix,
+        word: "prefix",
+    },
+    Need {
+        keywords: &[Keyword::Submodule],
+        needed: Keyword::BelongsTo,
+        word: "belongs-to",
+    },
+    Need {
+        keywords: &[Keyword::Leaf, Keyword::LeafList, Keyword::Typedef],
+        needed: Keyword::Type,
+        word: "type",
+    },
 ];
 
 // The statements after one, in whose block they may be.
@@ -117,31 +139,31 @@ fn next_sites<'s, 'a>(site: &Site<'s, 'a>) -> Sites<'s, 'a> {
 }
 
 // The first statement of this keyword in a block.
-fn first_inner<'s, 'a>(site: &Site<'s, 'a>, keyword: &str) -> Option<Site<'s, 'a>> {
+fn first_inner<'s, 'a>(site: &Site<'s, 'a>, keyword: Keyword) -> Option<Site<'s, 'a>> {
     next_sites(site).find(|inner| inner.is(keyword) && inner.is_right_in(site))
 }
 
 // The first substatement that a statement needs and lacks.
 fn missing_substatement(site: &Site<'_, '_>) -> Option<&'static str> {
-    let (_, needed) = NEEDS.iter().find(|(keywords, needed)| {
-        is_among(site.keyword(), keywords) && first_inner(site, needed).is_none()
+    let need = NEEDS.iter().find(|need| {
+        site.is_one_of(need.keywords) && first_inner(site, need.needed).is_none()
     })?;
-    Some(*needed)
+    Some(need.word)
 }
 
 // The first of a block's statements whose keyword means nothing, and is like one that is needed.
 fn misspelt<'s, 'a>(site: &Site<'s, 'a>, needed: &str) -> Option<Site<'s, 'a>> {
-    next_sites(site).find(|inner| inner.is_right_in(site) && is_misspelt(inner.keyword(), needed))
+    next_sites(site).find(|inner| inner.is_right_in(site) && is_misspelt(inner, needed))
 }
 
-// Whether a keyword means nothing, and is like one that is needed.
-fn is_misspelt(keyword: &str, needed: &str) -> bool {
-    Guess::of(keyword, needed, None).is_some() && !is_keyword(keyword)
+// Whether a statement's keyword means nothing, and is like one that is needed.
+fn is_misspelt(site: &Site<'_, '_>, needed: &str) -> bool {
+    Guess::of(site.keyword(), needed, None).is_some() && !is_known(site.kind())
 }
 
 // The first statement of the same keyword in the same block, if this is a later one.
 fn first_of_keyword<'s, 'a>(site: &Site<'s, 'a>, parent: &Site<'s, 'a>) -> Option<Site<'s, 'a>> {
-    first_inner(parent, site.keyword()).filter(|first| first.number < site.number)
+    first_inner(parent, site.kind()).filter(|first| first.number < site.number)
 }
 
 // Adds the statements in which a statement may be.
@@ -212,9 +234,12 @@ pub fn tell_cardinality<'a>(telling: &mut Message<'a>, site: &Site<'_, 'a>) {
     }
 }
 
+// The keywords of the outermost statements of files.
+static ROOTS: &[Keyword] = &[Keyword::Module, Keyword::Submodule];
+
 fn tell_root<'a>(telling: &mut Message<'a>, site: &Site<'_, 'a>) {
     match missing_substatement(site) {
-        Some(needed) if is_among(site.keyword(), FILES) => tell_lacking(telling, site, needed),
+        Some(needed) if site.is_one_of(ROOTS) => tell_lacking(telling, site, needed),
         _ => telling.subject(
             "",
             " can't be the outermost statement of a file: that is `module` or `submodule`.",

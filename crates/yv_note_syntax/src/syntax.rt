@@ -2,12 +2,13 @@
 use crate::arguments::is_named;
 use crate::blanks::say_blank;
 use crate::outline::{Head, Kind, Outline, Token, word};
-use crate::substatements::is_keyword;
+use crate::substatements::is_known;
 use crate::syntax_note::text_of;
 use crate::tokens::CURLY;
 use std::alloc::{AllocError, Global};
-use yv_note_statements::{Message, is_among};
+use yv_note_statements::Message;
 use yv_note_text::{has_curly_quote, is_blank};
+use yv_text_statement::Keyword;
 
 // A place of a file: what was read before it, and what is at it.
 #[derive(Drop)]
@@ -18,7 +19,20 @@ struct Place<'a> {
 }
 
 // The statements whose argument is a text for people.
-static TEXTS: &str = "organization contact description reference error-message presence units";
+static TEXTS: &[Keyword] = &[
+    Keyword::Organization,
+    Keyword::Contact,
+    Keyword::Description,
+    Keyword::Reference,
+    Keyword::ErrorMessage,
+    Keyword::Presence,
+    Keyword::Units,
+];
+
+// What a keyword of these bytes means.
+fn kind_of(bytes: &[u8]) -> Keyword {
+    Keyword::read(text_of(bytes))
+}
 
 // That there is no sign between a keyword and its argument.
 const EQUALS: &str = "YANG has no `=`: write the keyword, a blank and the argument.";
@@ -219,7 +233,7 @@ impl<'a> Place<'a> {
 
     // Adds that an argument has several words.
     fn tell_several(&self, telling: &mut Message<'a>, head: &Head<'a>) {
-        let keyword = text_of(head.keyword);
+        let keyword = kind_of(head.keyword);
         if is_named(keyword) {
             self.say_head(telling, "A second word follows ", head, "");
             telling.say(", and a name has no blanks; or a `;` is missing.");
@@ -231,7 +245,7 @@ impl<'a> Place<'a> {
             head,
             " has several words, so it needs quotes",
         );
-        telling.say(if is_among(keyword, TEXTS) {
+        telling.say(if TEXTS.contains(&keyword) {
             "."
         } else {
             "; or a `;` is missing."
@@ -251,7 +265,7 @@ impl<'a> Place<'a> {
     fn is_several(&self, head: &Head<'a>, token: &Token<'a>) -> bool {
         token.kind == Kind::Word
             && token.last_line == self.outline.line()
-            && (is_among(text_of(head.keyword), TEXTS) || !self.is_statement())
+            && (TEXTS.contains(&kind_of(head.keyword)) || !self.is_statement())
     }
 
     // Whether a statement seems to begin at the place: with a keyword, and an argument after it.
@@ -259,7 +273,7 @@ impl<'a> Place<'a> {
         let word = self.word();
         let behind = self.rest.get(word.len()..).unwrap_or(&[]);
         let next = behind.iter().find(|byte| !is_blank(**byte));
-        is_keyword(text_of(word)) && !matches!(next, Some(b';' | b'{' | b'}'))
+        is_known(kind_of(word)) && !matches!(next, Some(b';' | b'{' | b'}'))
     }
 
     // Adds why a text can't follow an argument in quotes.

@@ -4,7 +4,7 @@ use crate::unread_texts::first_unread;
 use crate::values::say_values;
 use std::alloc::{AllocError, Global};
 use yv_note_statements::{Message, Site, Sites, StatementLists, chain, last_step, state_above};
-use yv_text_statement::Code;
+use yv_text_statement::{Code, Keyword};
 
 /// How many defaults a leaf-list has at most.
 const MOST_DEFAULTS: usize = 1024;
@@ -14,7 +14,7 @@ const MOST_READ: usize = 32;
 
 /// Adds what is wrong with the defaults of a leaf or a leaf-list.
 pub fn tell_default<'a>(telling: &mut Message<'a>, site: &Site<'_, 'a>) -> Result<(), AllocError> {
-    let Some(own_type) = site.child("type") else {
+    let Some(own_type) = site.child(Keyword::Type) else {
         telling.sentence(Code::BadDefault);
         return Ok(());
     };
@@ -53,7 +53,7 @@ fn say_refined<'a>(
     site: &Site<'_, 'a>,
     types: &[Site<'_, 'a>],
 ) -> Result<(), AllocError> {
-    if site.is("leaf-list") {
+    if site.is(Keyword::LeafList) {
         telling.subject(
             "A `refine` gives the leaf-list ",
             " a default that is not one of its values, or two that are the same.",
@@ -77,8 +77,8 @@ fn say_refined<'a>(
 // The first default that a `refine` gives a node of the name of this one.
 fn refined_default<'s, 'a>(node: &Site<'s, 'a>) -> Option<Site<'s, 'a>> {
     Sites::all(node.entries)
-        .filter(|site| site.is("refine") && last_step(site.argument()) == node.argument())
-        .find_map(|refine| refine.child("default"))
+        .filter(|site| site.is(Keyword::Refine) && last_step(site.argument()) == node.argument())
+        .find_map(|refine| refine.child(Keyword::Default))
 }
 
 // The defaults of a leaf or a leaf-list: its own, or that of the nearest typedef that has one.
@@ -87,7 +87,7 @@ fn defaults_of<'s, 'a>(
     node: &Site<'s, 'a>,
     types: &[Site<'s, 'a>],
 ) -> Result<Vec<Site<'s, 'a>>, AllocError> {
-    let mut defaults = node.children_of(alloc, "default")?;
+    let mut defaults = node.children_of(alloc, Keyword::Default)?;
     if defaults.is_empty() {
         if let Some(default) = type_default(types) {
             defaults.push(default)?;
@@ -99,7 +99,7 @@ fn defaults_of<'s, 'a>(
 // The default of the nearest typedef that has one.
 fn type_default<'s, 'a>(types: &[Site<'s, 'a>]) -> Option<Site<'s, 'a>> {
     for site in types.iter().skip(1) {
-        if let Some(default) = site.parent()?.child("default") {
+        if let Some(default) = site.parent()?.child(Keyword::Default) {
             return Some(default);
         }
     }

@@ -3,6 +3,7 @@ use std::alloc::{AllocError, Global};
 use std::cmp::Reverse;
 use std::collections::BinaryHeap;
 use yv_note_statements::{Site, Sites};
+use yv_text_statement::Keyword;
 
 /// How many times the `base` statements are looked at in turn.
 const MOST_ROUNDS: usize = 64;
@@ -18,7 +19,7 @@ struct Bases<'s, 'a> {
 impl<'s, 'a> Bases<'s, 'a> {
     fn read(alloc: Global, site: &Site<'s, 'a>) -> Result<Bases<'s, 'a>, AllocError> {
         let sites: Vec<Site<'s, 'a>> = Sites::all(site.entries)
-            .filter(|site| site.is("base"))
+            .filter(|site| site.is(Keyword::Base))
             .collect(alloc)?;
         let mut by_meaning = Vec::new(alloc);
         for (place, base) in sites.iter().enumerate() {
@@ -43,7 +44,7 @@ impl<'s, 'a> Bases<'s, 'a> {
         self.sites
             .get(place)?
             .parent()
-            .filter(|parent| parent.is("identity"))
+            .filter(|parent| parent.is(Keyword::Identity))
     }
 }
 

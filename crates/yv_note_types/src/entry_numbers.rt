@@ -2,12 +2,13 @@
 use crate::values::nearest_name;
 use std::alloc::{AllocError, Global};
 use yv_note_statements::{Message, Site, chain, say_guess};
+use yv_text_statement::Keyword;
 
 // The number that an item says.
 fn stated_number(site: &Site<'_, '_>) -> Option<i64> {
-    let value = match site.child("value") {
+    let value = match site.child(Keyword::Value) {
         Some(value) => value,
-        None => site.child("position")?,
+        None => site.child(Keyword::Position)?,
     };
     value.argument().parse::<i64>().ok()
 }
@@ -68,16 +69,16 @@ pub fn tell_item<'a>(telling: &mut Message<'a>, site: &Site<'_, 'a>) -> Result<(
         return Ok(());
     };
     let chain = chain(telling.alloc(), &parent)?;
-    match base_with(&chain, site.keyword(), parent.number) {
+    match base_with(&chain, site.kind(), parent.number) {
         Some(base) => say_in_base(
             telling,
             &base,
-            &base.children_of(telling.alloc(), site.keyword())?,
+            &base.children_of(telling.alloc(), site.kind())?,
             site,
         ),
         None => say_in_type(
             telling,
-            &parent.children_of(telling.alloc(), site.keyword())?,
+            &parent.children_of(telling.alloc(), site.kind())?,
             site,
         ),
     }
@@ -85,7 +86,11 @@ pub fn tell_item<'a>(telling: &mut Message<'a>, site: &Site<'_, 'a>) -> Result<(
 }
 
 // The nearest type with items in a chain of types, except this one.
-fn base_with<'s, 'a>(chain: &[Site<'s, 'a>], keyword: &str, except: usize) -> Option<Site<'s, 'a>> {
+fn base_with<'s, 'a>(
+    chain: &[Site<'s, 'a>],
+    keyword: Keyword,
+    except: usize,
+) -> Option<Site<'s, 'a>> {
     chain.iter().copied().find(|site| site.number != except && site.child(keyword).is_some())
 }
 
@@ -109,7 +114,11 @@ fn say_in_type<'a>(telling: &mut Message<'a>, items: &[Site<'_, 'a>], site: &Sit
 
 // What the number of an item is called.
 fn number_word(site: &Site<'_, '_>) -> &'static str {
-    if site.is("bit") { "position" } else { "value" }
+    if site.is(Keyword::Bit) {
+        "position"
+    } else {
+        "value"
+    }
 }
 
 // The number of an item of a type.

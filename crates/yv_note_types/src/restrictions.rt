@@ -3,6 +3,7 @@ use crate::spread::Spread;
 use std::alloc::{AllocError, Global};
 use yv_base_numbers::{Integer, integer_of, is_at_most, scaled_of};
 use yv_note_statements::{Message, Site, chain};
+use yv_text_statement::Keyword;
 
 // A bound as it is written, and as a number.
 #[derive(Clone, Copy)]
@@ -125,7 +126,7 @@ fn is_below(one: Integer, other: Integer) -> bool {
 /// The digits after the point of a decimal64.
 pub(crate) fn digits_of(first: &Site<'_, '_>) -> Option<u32> {
     first
-        .child("fraction-digits")?
+        .child(Keyword::FractionDigits)?
         .argument()
         .parse::<u32>()
         .ok()
@@ -149,7 +150,7 @@ fn reading_of<'a>(alloc: Global, site: &Site<'_, 'a>) -> Result<Option<Reading<'
     };
     for derived in chain.iter().rev() {
         if derived.number != restricted.number {
-            reading = narrow(reading, derived.child(site.keyword()));
+            reading = narrow(reading, derived.child(site.kind()));
         }
     }
     Ok(Some(reading))

@@ -1,67 +1,105 @@
 //! What types need and what they can't have.
 use std::alloc::{AllocError, Global};
 use yv_note_statements::{Message, Site, chain, is_among};
-use yv_text_statement::Code;
+use yv_text_statement::{Code, Keyword};
 
-// Built-in types, the substatements that they can have as far as these restrict values, and the one
-// that a use of them needs.
+// A substatement that restricts the values of a type: its keyword, and how that is written.
+type Restriction = (Keyword, &'static str);
+
+const LENGTH: Restriction = (Keyword::Length, "length");
+
+const PATTERN: Restriction = (Keyword::Pattern, "pattern");
+
+const RANGE: Restriction = (Keyword::Range, "range");
+
+const FRACTION_DIGITS: Restriction = (Keyword::FractionDigits, "fraction-digits");
+
+const ENUM: Restriction = (Keyword::Enum, "enum");
+
+const BIT: Restriction = (Keyword::Bit, "bit");
+
+const PATH: Restriction = (Keyword::Path, "path");
+
+const REQUIRE_INSTANCE: Restriction = (Keyword::RequireInstance, "require-instance");
+
+const BASE: Restriction = (Keyword::Base, "base");
+
+const TYPE: Restriction = (Keyword::Type, "type");
+
+static RESTRICTIONS: &[Restriction] = &[
+    LENGTH,
+    PATTERN,
+    RANGE,
+    FRACTION_DIGITS,
+    ENUM,
+    BIT,
+    PATH,
+    REQUIRE_INSTANCE,
+    BASE,
+    TYPE,
+];
+
+// What only the built-in type itself can have.
+static FIRST_ONLY: &[Restriction] = &[FRACTION_DIGITS, PATH, BASE, TYPE];
+
+// Built-in types, the restrictions that they can have, and the one that a use of them needs.
 struct BuiltIn {
     names: &'static str,
-    allowed: &'static str,
-    needed: Option<&'static str>,
+    allowed: &'static [Restriction],
+    needed: Option<Restriction>,
 }
 
 static BUILT_IN: &[BuiltIn] = &[
     BuiltIn {
         names: "string",
-        allowed: "length pattern",
+        allowed: &[LENGTH, PATTERN],
         needed: None,
     },
     BuiltIn {
         names: "binary",
-        allowed: "length",
+        allowed: &[LENGTH],
         needed: None,
     },
     BuiltIn {
         names: "int8 int16 int32 int64 uint8 uint16 uint32 uint64",
-        allowed: "range",
+        allowed: &[RANGE],
         needed: None,
     },
     BuiltIn {
         names: "decimal64",
-        allowed: "fraction-digits range",
-        needed: Some("fraction-digits"),
+        allowed: &[FRACTION_DIGITS, RANGE],
+        needed: Some(FRACTION_DIGITS),
     },
     BuiltIn {
         names: "enumeration",
-        allowed: "enum",
-        needed: Some("enum"),
+        allowed: &[ENUM],
+        needed: Some(ENUM),
     },
     BuiltIn {
         names: "bits",
-        allowed: "bit",
-        needed: Some("bit"),
+        allowed: &[BIT],
+        needed: Some(BIT),
     },
     BuiltIn {
         names: "leafref",
-        allowed: "path require-instance",
-        needed: Some("path"),
+        allowed: &[PATH, REQUIRE_INSTANCE],
+        needed: Some(PATH),
     },
     BuiltIn {
         names: "identityref",
-        allowed: "base",
-        needed: Some("base"),
+        allowed: &[BASE],
+        needed: Some(BASE),
     },
     BuiltIn {
         names: "union",
-        allowed: "type",
-        needed: Some("type"),
+        allowed: &[TYPE],
+        needed: Some(TYPE),
     },
 ];
 
 static OTHER: BuiltIn = BuiltIn {
     names: "",
-    allowed: "",
+    allowed: &[],
     needed: None,
 };
 
@@ -76,19 +114,13 @@ fn built_in_of(name: &str) -> &'static BuiltIn {
     }
 }
 
-// What only the built-in type itself can have.
-static FIRST_ONLY: &str = "fraction-digits path base type";
-
-static RESTRICTIONS: &str =
-    "length pattern range fraction-digits enum bit path require-instance base type";
-
 // Adds the substatements that a built-in type can have.
 fn say_allowed<'a>(telling: &mut Message<'a>, built_in: &'a str) {
     let allowed = built_in_of(built_in).allowed;
     telling.quote(" The type ", built_in, "");
-    for (place, word) in allowed.split_whitespace().enumerate() {
+    for (place, (_, word)) in allowed.iter().enumerate() {
         telling.say(if place == 0 { " can have `" } else { "` and `" });
-        telling.say(word);
+        telling.say(*word);
     }
     telling.say(if allowed.is_empty() {
         " can't be restricted."
@@ -97,16 +129,20 @@ fn say_allowed<'a>(telling: &mut Message<'a>, built_in: &'a str) {
     });
 }
 
+// Whether a substatement of a type is one of these restrictions.
+fn is_of(child: &Site<'_, '_>, restrictions: &[Restriction]) -> bool {
+    restrictions.iter().any(|(keyword, _)| child.is(*keyword))
+}
+
 // Whether a substatement of a type restricts its values, and this built-in type can't have it.
 fn is_foreign(child: &Site<'_, '_>, built_in: &str) -> bool {
-    is_among(child.keyword(), RESTRICTIONS)
-        && !is_among(child.keyword(), built_in_of(built_in).allowed)
+    is_of(child, RESTRICTIONS) && !is_of(child, built_in_of(built_in).allowed)
 }
 
 // The first substatement of a type that it can't have, where it is derived from this built-in type.
 fn misfit<'s, 'a>(site: &Site<'s, 'a>, built_in: &str, is_first: bool) -> Option<Site<'s, 'a>> {
     site.children().find(|child| {
-        let is_second = !is_first && is_among(child.keyword(), FIRST_ONLY);
+        let is_second = !is_first && is_of(child, FIRST_ONLY);
         is_second || is_foreign(child, built_in)
     })
 }
@@ -141,9 +177,9 @@ fn say_misfit<'a>(telling: &mut Message<'a>, child: &Site<'_, 'a>, built_in: &'a
 // Adds what a type needs, or that it can't be a member of a union.
 fn say_need<'a>(telling: &mut Message<'a>, site: &Site<'_, 'a>, built_in: &'a str, is_first: bool) {
     match built_in_of(built_in).needed {
-        Some(needed) if is_first && site.child(needed).is_none() => {
+        Some((keyword, word)) if is_first && site.child(keyword).is_none() => {
             telling.subject("The type ", " needs the substatement `");
-            telling.say(needed);
+            telling.say(word);
             telling.say("`.");
         }
         _ if built_in == "leafref" => telling.subject(

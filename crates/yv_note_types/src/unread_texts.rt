@@ -7,6 +7,7 @@ use std::alloc::{AllocError, Global};
 use std::collections::BTreeMap;
 use yv_base_numbers::Integer;
 use yv_note_statements::Site;
+use yv_text_statement::Keyword;
 
 /// How many bits of a default are looked at.
 const MOST_WORDS: usize = 8;
@@ -24,8 +25,8 @@ pub(crate) fn first_unread<'s, 'a>(
     match first.argument() {
         "boolean" => Ok(first_no_boolean(defaults)),
         "empty" => Ok(defaults.first().copied()),
-        "enumeration" => first_with_unknown(alloc, chain, "enum", defaults),
-        "bits" => first_with_unknown(alloc, chain, "bit", defaults),
+        "enumeration" => first_with_unknown(alloc, chain, Keyword::Enum, defaults),
+        "bits" => first_with_unknown(alloc, chain, Keyword::Bit, defaults),
         _ => match Notation::of(chain) {
             Some(notation) => first_outside(alloc, chain, notation, defaults),
             None => Ok(None),
@@ -43,7 +44,7 @@ fn first_no_boolean<'s, 'a>(defaults: &[Site<'s, 'a>]) -> Option<Site<'s, 'a>> {
 fn first_unknown(
     alloc: Global,
     chain: &[Site<'_, '_>],
-    keyword: &str,
+    keyword: Keyword,
     words: &[&str],
 ) -> Result<Option<usize>, AllocError> {
     let Some(site) = nearest_with(chain, keyword) else {
@@ -76,13 +77,13 @@ fn push_bits<'a>(words: &mut Vec<&'a str>, text: &'a str) -> Result<(), AllocErr
 fn first_with_unknown<'s, 'a>(
     alloc: Global,
     chain: &[Site<'s, 'a>],
-    keyword: &str,
+    keyword: Keyword,
     defaults: &[Site<'s, 'a>],
 ) -> Result<Option<Site<'s, 'a>>, AllocError> {
     let mut words = Vec::new(alloc);
     let mut ends = Vec::new(alloc);
     for default in defaults {
-        if keyword == "bit" {
+        if keyword == Keyword::Bit {
             push_bits(&mut words, default.argument())?;
         } else {
             words.push(default.argument())?;
@@ -106,7 +107,7 @@ pub(crate) fn unknown_bit<'a>(
 ) -> Result<Option<&'a str>, AllocError> {
     let mut words = Vec::new(alloc);
     push_bits(&mut words, text)?;
-    match first_unknown(alloc, chain, "bit", &words)? {
+    match first_unknown(alloc, chain, Keyword::Bit, &words)? {
         Some(place) => Ok(words.get(place).copied()),
         None => Ok(None),
     }
@@ -130,7 +131,7 @@ fn first_outside<'s, 'a>(
         }
     }
     for site in chain {
-        if let Some(range) = site.child("range") {
+        if let Some(range) = site.child(Keyword::Range) {
             let count = count_inside(alloc, &reading, range.argument(), &numbers)?;
             numbers.truncate(count);
         }

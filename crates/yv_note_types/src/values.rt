@@ -4,6 +4,7 @@ use crate::restrictions::{digits_of, limits_of};
 use crate::unread_texts::unknown_bit;
 use std::alloc::{AllocError, Global};
 use yv_note_statements::{Guess, Message, Site, prefix_of_module, say_guess};
+use yv_text_statement::Keyword;
 
 /// How many names of a type are listed.
 const MOST_NAMES: usize = 8;
@@ -49,9 +50,9 @@ fn say_range<'a>(telling: &mut Message<'a>, chain: &[Site<'_, 'a>], built_in: &'
     if let Some(digits) = digits_in(chain) {
         telling.count(" with `fraction-digits` ", digits as u64, "");
     }
-    match nearest_with(chain, "range") {
+    match nearest_with(chain, Keyword::Range) {
         Some(site) => {
-            if let Some(range) = site.child("range") {
+            if let Some(range) = site.child(Keyword::Range) {
                 telling.quote(
                     ", which expects numbers in the range ",
                     range.argument(),
@@ -80,6 +81,9 @@ fn digits_in(chain: &[Site<'_, '_>]) -> Option<u32> {
     digits_of(chain.last()?)
 }
 
+// The keywords of restrictions of numbers and texts.
+static RESTRICTIONS: &[Keyword] = &[Keyword::Range, Keyword::Length, Keyword::Pattern];
+
 // The restrictions along a chain of types.
 fn restrictions_of<'s, 'a>(
     alloc: Global,
@@ -88,7 +92,7 @@ fn restrictions_of<'s, 'a>(
     let mut restrictions = Vec::new(alloc);
     for site in chain {
         for child in site.children() {
-            if matches!(child.keyword(), "range" | "length" | "pattern") {
+            if child.is_one_of(RESTRICTIONS) {
                 restrictions.push(child)?;
             }
         }
@@ -118,7 +122,7 @@ fn say_restrictions<'a>(
 fn items_of<'s, 'a>(
     alloc: Global,
     chain: &[Site<'s, 'a>],
-    keyword: &str,
+    keyword: Keyword,
 ) -> Result<Vec<Site<'s, 'a>>, AllocError> {
     match nearest_with(chain, keyword) {
         Some(site) => site.children_of(alloc, keyword),
@@ -127,7 +131,10 @@ fn items_of<'s, 'a>(
 }
 
 /// The nearest of these types that has a substatement of this keyword.
-pub(crate) fn nearest_with<'s, 'a>(chain: &[Site<'s, 'a>], keyword: &str) -> Option<Site<'s, 'a>> {
+pub(crate) fn nearest_with<'s, 'a>(
+    chain: &[Site<'s, 'a>],
+    keyword: Keyword,
+) -> Option<Site<'s, 'a>> {
     chain
         .iter()
         .copied()
@@ -147,7 +154,7 @@ fn identities_of<'s, 'a>(
 
 // The identity that is the base of a type.
 fn base_of<'s, 'a>(site: &Site<'s, 'a>) -> Option<Site<'s, 'a>> {
-    site.child("base")?.meaning()
+    site.child(Keyword::Base)?.meaning()
 }
 
 /// Adds what values a type has; the chain leads from it to its built-in type.
@@ -189,12 +196,12 @@ fn say_named<'a>(
 ) -> Result<(), AllocError> {
     match first.argument() {
         "enumeration" => {
-            let names = items_of(telling.alloc(), chain, "enum")?;
+            let names = items_of(telling.alloc(), chain, Keyword::Enum)?;
             telling.say(" Its values are ");
             say_names(telling, &names, default, default.argument());
         }
         "bits" => {
-            let names = items_of(telling.alloc(), chain, "bit")?;
+            let names = items_of(telling.alloc(), chain, Keyword::Bit)?;
             let word = unknown_bit(telling.alloc(), chain, default.argument())?;
             match word {
                 Some(word) => telling.quote(" There is no bit ", word, "."),
