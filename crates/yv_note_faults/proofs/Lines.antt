@@ -8,8 +8,10 @@ use Rattle.std.proofs.lemmas.List.{append-nil, length-append, length-map, length
 use Rattle.yv_data_faults.specs.Flaw.{Flaw}
 use Rattle.yv_note_text.specs.Clear.{is_clear, visible_byte}
 use Rattle.yv_note_text.proofs.ClearTexts.{both_clear, bytes_clear}
-use Rattle.yv_note_faults.specs.Line.{IsPlaced, IsSentence, TellsRepeat, cleared_line, keys_text, like_text, numbers_text, place_text}
-use Rattle.yv_note_faults.specs.Sentences.{AreRepeats, AreSentences, IsHint, no_hint, state, Tells, TellsRepeats, chosen_faults, join_lines, marked_faults, more_line, more_text, state_text}
+use Rattle.yv_note_lines.specs.Lines.{cleared_line, join_texts, visible_text}
+use Rattle.yv_note_lines.proofs.ClearLines.{joined_more, line_clear, line_short}
+use Rattle.yv_note_faults.specs.Line.{IsPlaced, IsSentence, TellsRepeat, keys_text, like_text, numbers_text, place_text}
+use Rattle.yv_note_faults.specs.Sentences.{AreRepeats, AreSentences, IsHint, no_hint, state, Tells, TellsRepeats, chosen_faults, marked_faults, more_line, more_text, state_text}
 use Rattle.yv_note_faults.specs.InnerAdds.{IsSaid}
 
 -- what is said of a fault behind a place is its sentence
@@ -29,10 +31,6 @@ zip_more name [] [] f line each is = (is, tt)
 zip_more name [] (l ∷ ls) f line each is = absurd each
 zip_more name (g ∷ fs) [] f line each is = absurd each
 zip_more name (g ∷ fs) (l ∷ ls) f line each is = (each.0, zip_more name fs ls f line each.1 is)
-
-joined_more : (lines : List (List ℕ)) (line : List ℕ) → join_lines (lines ++ line ∷ []) ≡ join_lines lines ++ line
-joined_more [] line = append-nil line
-joined_more (l ∷ ls) line = ap (λ (t : List ℕ). l ++ t) (joined_more ls line) ∙ sym (append_assoc l (join_lines ls) line)
 
 -- one sentence more
 pub one_more : (name : List ℕ) (start : List Flaw) (f : Flaw) (old new line : List ℕ) → AreSentences name start old → IsSentence name f line → new ≡ old ++ line
@@ -63,28 +61,25 @@ repeat_more name before old new line are is e = record {
 pub no_repeats : (name text : List ℕ) (most : ℕ) → text ≡ [] → TellsRepeats most name text
 no_repeats name text most e = record { lines = []; count = omega arith; each = tt; is = e }
 
-line_clear : (text : List ℕ) → is_clear (cleared_line text) ≡ true
-line_clear text = both_clear (map visible_byte (take 1400 text)) (10 ∷ []) (bytes_clear (take 1400 text)) refl
-
 placed_clear : (name said line : List ℕ) → IsPlaced name said line → is_clear line ≡ true
 placed_clear name said line p =
     ap is_clear p.is
     ∙ both_clear (place_text name p.row p.column) (cleared_line said)
-    (both_clear (map visible_byte name) (map visible_byte (numbers_text p.row p.column)) (bytes_clear name) (bytes_clear (numbers_text p.row p.column)))
+    (both_clear (visible_text name) (visible_text (numbers_text p.row p.column)) (bytes_clear name) (bytes_clear (numbers_text p.row p.column)))
     (line_clear said)
 
-lines_clear : (name : List ℕ) (fs : List Flaw) (lines : List (List ℕ)) → AllZip (IsSentence name) fs lines → is_clear (join_lines lines) ≡ true
+lines_clear : (name : List ℕ) (fs : List Flaw) (lines : List (List ℕ)) → AllZip (IsSentence name) fs lines → is_clear (join_texts lines) ≡ true
 lines_clear name [] [] each = refl
 lines_clear name [] (l ∷ ls) each = absurd each
 lines_clear name (f ∷ fs) [] each = absurd each
-lines_clear name (f ∷ fs) (l ∷ ls) each = both_clear l (join_lines ls) (placed_clear name _ l each.0.placed) (lines_clear name fs ls each.1)
+lines_clear name (f ∷ fs) (l ∷ ls) each = both_clear l (join_texts ls) (placed_clear name _ l each.0.placed) (lines_clear name fs ls each.1)
 
 pub sentences_clear : (name : List ℕ) (fs : List Flaw) (text : List ℕ) → AreSentences name fs text → is_clear text ≡ true
 sentences_clear name fs text are = ap is_clear are.is ∙ lines_clear name fs are.lines are.each
 
-repeats_clear_by : (name : List ℕ) (lines : List (List ℕ)) → AreRepeats name lines → is_clear (join_lines lines) ≡ true
+repeats_clear_by : (name : List ℕ) (lines : List (List ℕ)) → AreRepeats name lines → is_clear (join_texts lines) ≡ true
 repeats_clear_by name [] each = refl
-repeats_clear_by name (l ∷ ls) each = both_clear l (join_lines ls) (placed_clear name _ l each.0.placed) (repeats_clear_by name ls each.1)
+repeats_clear_by name (l ∷ ls) each = both_clear l (join_texts ls) (placed_clear name _ l each.0.placed) (repeats_clear_by name ls each.1)
 
 pub repeats_clear : (name : List ℕ) (most : ℕ) (text : List ℕ) → TellsRepeats most name text → is_clear text ≡ true
 repeats_clear name most text tells = ap is_clear tells.is ∙ repeats_clear_by name tells.lines tells.each
@@ -104,10 +99,6 @@ hint_clear count hint (state missing le most e) = ap is_clear e ∙ line_clear (
 pub rest_clear : (most count : ℕ) (text hint : List ℕ) → IsHint count hint → text ≡ more_text most count ++ hint → is_clear text ≡ true
 rest_clear most count text hint hints e = ap is_clear e ∙ both_clear (more_text most count) hint (more_clear most count) (hint_clear count hint hints)
 
-line_short : (text : List ℕ) → length (cleared_line text) ≤ 1401
-line_short text =
-    omega (arith, length-append (map visible_byte (take 1400 text)) (10 ∷ []), length-map (take 1400 text) visible_byte, length-take 1400 text)
-
 five_parts : (a b c d e : List ℕ) → length (a ++ b ++ c ++ d ++ e) ≡ length a + length b + length c + length d + length e
 five_parts a b c d e =
     length-append (a ++ b ++ c ++ d) e
@@ -120,27 +111,27 @@ placed_short : (name said line : List ℕ) → length name ≤ 4096 → IsPlaced
 placed_short name said line le p =
     let numbers = numbers_text p.row p.column in
     let place : length (place_text name p.row p.column) ≤ 4140 =
-    omega (arith, le, numbers_short p.row p.column p.row_digits p.column_digits, length-append (map visible_byte name) (map visible_byte numbers), length-map name visible_byte, length-map numbers visible_byte) in
+    omega (arith, le, numbers_short p.row p.column p.row_digits p.column_digits, length-append (visible_text name) (visible_text numbers), length-map name visible_byte, length-map numbers visible_byte) in
     omega (arith, ap length p.is, place, line_short said, length-append (place_text name p.row p.column) (cleared_line said))
 
-lines_short : (name : List ℕ) (fs : List Flaw) (lines : List (List ℕ)) → length name ≤ 4096 → AllZip (IsSentence name) fs lines → length (join_lines lines) ≤ 6000 * length fs
+lines_short : (name : List ℕ) (fs : List Flaw) (lines : List (List ℕ)) → length name ≤ 4096 → AllZip (IsSentence name) fs lines → length (join_texts lines) ≤ 6000 * length fs
 lines_short name [] [] le each = omega arith
 lines_short name [] (l ∷ ls) le each = absurd each
 lines_short name (f ∷ fs) [] le each = absurd each
 lines_short name (f ∷ fs) (l ∷ ls) le each =
     let one : length l ≤ 6000 = placed_short name _ l le each.0.placed in
-    let others : length (join_lines ls) ≤ 6000 * length fs = lines_short name fs ls le each.1 in
-    omega (arith, one, others, length-append l (join_lines ls))
+    let others : length (join_texts ls) ≤ 6000 * length fs = lines_short name fs ls le each.1 in
+    omega (arith, one, others, length-append l (join_texts ls))
 
 pub sentences_short : (name : List ℕ) (fs : List Flaw) (text : List ℕ) → length name ≤ 4096 → AreSentences name fs text → length text ≤ 6000 * length fs
 sentences_short name fs text le are = omega (arith, ap length are.is, lines_short name fs are.lines le are.each)
 
-repeats_short_by : (name : List ℕ) (lines : List (List ℕ)) → length name ≤ 4096 → AreRepeats name lines → length (join_lines lines) ≤ 6000 * length lines
+repeats_short_by : (name : List ℕ) (lines : List (List ℕ)) → length name ≤ 4096 → AreRepeats name lines → length (join_texts lines) ≤ 6000 * length lines
 repeats_short_by name [] le each = omega arith
 repeats_short_by name (l ∷ ls) le each =
     let one : length l ≤ 6000 = placed_short name _ l le each.0.placed in
-    let others : length (join_lines ls) ≤ 6000 * length ls = repeats_short_by name ls le each.1 in
-    omega (arith, one, others, length-append l (join_lines ls))
+    let others : length (join_texts ls) ≤ 6000 * length ls = repeats_short_by name ls le each.1 in
+    omega (arith, one, others, length-append l (join_texts ls))
 
 pub repeats_short : (name : List ℕ) (most : ℕ) (text : List ℕ) → length name ≤ 4096 → TellsRepeats most name text → length text ≤ 6000 * most
 repeats_short name most text le tells = omega (arith, ap length tells.is, tells.count, repeats_short_by name tells.lines le tells.each)

@@ -1,18 +1,10 @@
 -- The line on one fault, and the one on a repeated member.
-use Rattle.std.specs.Prelude.{◌≡◌, ◌≤◌, ℕ, ◌==◌, List, [], ◌++◌, ◌∷◌, length, map, take, codes, decimal, if◌then◌else◌}
-use Rattle.yv_note_text.specs.Clear.{visible_byte}
+use Rattle.std.specs.Prelude.{◌≡◌, ◌≤◌, ℕ, ◌==◌, List, [], ◌++◌, ◌∷◌, length, codes, decimal, if◌then◌else◌}
+use Rattle.yv_note_lines.specs.Lines.{cleared_line, visible_text}
 use Rattle.yv_note_text.specs.Quotes.{in_quotes}
 use Rattle.yv_data_faults.specs.Line.{kind_name, line_text, places_text}
 use Rattle.yv_data_leafrefs.specs.Place.{Place}
 use Rattle.yv_data_faults.specs.Flaw.{Flaw}
-
--- what a terminal is given of a text: its first 1,400 bytes
-abbrev pub clear : List ℕ → List ℕ
-clear text = map visible_byte (take 1400 text)
-
--- the same as a line
-abbrev pub cleared_line : List ℕ → List ℕ
-cleared_line text = clear text ++ 10 ∷ []
 
 -- a line and a column behind the name of a file
 abbrev pub numbers_text : (line column : ℕ) → List ℕ
@@ -20,7 +12,7 @@ numbers_text line column = codes ":" ++ decimal line ++ codes ":" ++ decimal col
 
 -- a place in the file of a document: FILE:LINE:COLUMN, with a dot for each byte that isn't visible
 abbrev pub place_text : (name : List ℕ) → (line column : ℕ) → List ℕ
-place_text name line column = map visible_byte name ++ map visible_byte (numbers_text line column)
+place_text name line column = visible_text name ++ visible_text (numbers_text line column)
 
 -- a line that says this of a place in the file of this name, at a line and a column of at most 20
 -- digits

@@ -1,18 +1,15 @@
 -- The sentences for a person on the faults of a document.
 use Rattle.std.specs.Prelude.{◌≡◌, ◌<◌, ◌≤◌, ℕ, ◌-◌, ◌*◌, Bool, true, false, List, [], ◌∷◌, ◌++◌, length, take, nat_lt, codes, decimal, if◌then◌else◌}
-use Rattle.std.specs.List.{AllZip, flat_map}
+use Rattle.std.specs.List.{AllZip}
 use Rattle.yv_data_faults.specs.Flaw.{Flaw}
-use Rattle.yv_note_faults.specs.Line.{IsSentence, TellsRepeat, cleared_line}
-
--- lines, one after the other
-abbrev pub join_lines : List (List ℕ) → List ℕ
-join_lines lines = flat_map (λ line. line) lines
+use Rattle.yv_note_lines.specs.Lines.{cleared_line, join_texts}
+use Rattle.yv_note_faults.specs.Line.{IsSentence, TellsRepeat}
 
 -- the text is a sentence on each of these faults of the file of this name, in their order
 pub record AreSentences (name : List ℕ) (fs : List Flaw) (text : List ℕ) : Type 0 where
   pub lines : List (List ℕ)
   pub each : AllZip (IsSentence name) fs lines
-  pub is : text ≡ join_lines lines
+  pub is : text ≡ join_texts lines
 
 -- the faults whose marks are these
 abbrev pub marked_faults : (mark : Bool) → List Flaw → (marks : List Bool) → List Flaw
@@ -74,4 +71,4 @@ pub record TellsRepeats (most : ℕ) (name text : List ℕ) : Type 0 where
   pub lines : List (List ℕ)
   pub count : length lines ≤ most
   pub each : AreRepeats name lines
-  pub is : text ≡ join_lines lines
+  pub is : text ≡ join_texts lines

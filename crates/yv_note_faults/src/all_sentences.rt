@@ -5,7 +5,7 @@ ghost use Rattle.yv_note_text.specs.Clear.{is_clear};
 
 use crate::causes::Causes;
 use crate::choice::choose;
-use crate::clear::placed_line;
+use crate::place_line::placed_line;
 use crate::document::{FaultNote, NotedDocument};
 use crate::hint::{hint, push_more};
 use crate::places::places_of;

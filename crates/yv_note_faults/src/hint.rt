@@ -2,11 +2,11 @@
 ghost use Rattle.std.specs.Prelude.{◌≡◌, ◌≤◌, ◌++◌, length, IfOk, OnOk, string_bytes};
 ghost use Rattle.yv_note_faults.specs.Sentences.{IsHint, more_line, more_text, state_line, state_text};
 
-use crate::clear::push_line;
 use itoa::Buffer;
 use std::alloc::{AllocError, Global};
 use yv_data_faults::Fault;
 use yv_note_advice::Advisor;
+use yv_note_lines::push_line;
 
 /// Adds how many faults there are that have no line, where at most so many have one.
 pub(crate) fn push_more(

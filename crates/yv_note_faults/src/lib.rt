@@ -6,10 +6,10 @@
 mod all_sentences;
 mod causes;
 mod choice;
-mod clear;
 mod document;
 mod front;
 mod hint;
+mod place_line;
 mod places;
 mod repeats;
 mod sentence;

@@ -3,7 +3,7 @@ ghost use Rattle.std.specs.Prelude.{◌≡◌, ◌≤◌, ◌*◌, true, length,
 ghost use Rattle.yv_note_faults.specs.{Line.{TellsRepeat, repeat_text}, Sentences.{TellsRepeats}};
 ghost use Rattle.yv_note_text.specs.Clear.{is_clear};
 
-use crate::clear::placed_line;
+use crate::place_line::placed_line;
 use crate::document::NotedDocument;
 use crate::places::in_file;
 use std::alloc::{AllocError, Global};

@@ -8,10 +8,12 @@ use Rattle.yv_lint.specs.Rules.{name_of}
 use Rattle.yv_lint.specs.declared.finding.Finding.{Finding}
 use Rattle.yv_lint.specs.declared.rule.Rule.{Rule}
 use Rattle.yv_lint.specs.declared.rule.Rule.TheVariants as rule
-use Rattle.yv_note_text.specs.Clear.{is_clear, is_clear_byte, visible_byte}
+use Rattle.yv_note_text.specs.Clear.{is_clear}
 use Rattle.yv_note_text.specs.Excerpt.{ShowsPlace, ascii_text, begins_character, excerpt_text, shown_byte}
-use Rattle.yv_note_text.proofs.ClearTexts.{both_clear, bytes_clear, either}
-use Rattle.yv_note_findings.specs.Notes.{AreNotes, IsNote, IsNoteIn, bytes_at, cleared_line, join_notes}
+use Rattle.yv_note_text.proofs.ClearTexts.{both_clear}
+use Rattle.yv_note_lines.specs.Lines.{cleared_line, join_texts}
+use Rattle.yv_note_lines.proofs.ClearLines.{joined_more, line_clear, line_short, place_clear}
+use Rattle.yv_note_findings.specs.Notes.{AreNotes, IsNote, IsNoteIn, bytes_at}
 
 -- ### one note more
 
@@ -21,10 +23,6 @@ zip_more files [] [] f note each is = (is, tt)
 zip_more files [] (n ∷ ns) f note each is = absurd each
 zip_more files (g ∷ fs) [] f note each is = absurd each
 zip_more files (g ∷ fs) (n ∷ ns) f note each is = (each.0, zip_more files fs ns f note each.1 is)
-
-joined_more : (notes : List (List ℕ)) (note : List ℕ) → join_notes (notes ++ note ∷ []) ≡ join_notes notes ++ note
-joined_more [] note = append-nil note
-joined_more (n ∷ ns) note = ap (λ (t : List ℕ). n ++ t) (joined_more ns note) ∙ sym (append_assoc n (join_notes ns) note)
 
 -- one note more
 one_more : (files : List File) (fs : List Finding) (f : Finding) (old new note : List ℕ) → AreNotes files fs old → IsNoteIn files f note → new ≡ old ++ note → AreNotes files (fs ++ f ∷ []) new
@@ -50,37 +48,6 @@ joined line name said one two three e f g =
     ∙ append_assoc (line ++ name) (codes ": ") (cleared_line said) ∙ append_assoc line name (codes ": " ++ cleared_line said)
 
 -- ### notes are clear
-
-both : (a b : Bool) → a ≡ true → b ≡ true → (a && b) ≡ true
-both a b e f = rw e f
-
-byte_shown : (b : ℕ) → is_clear_byte (shown_byte b) ≡ true
-byte_shown b = cases (nat_le 32 b && nat_le b 126) refl (b == 9 || b == 13) refl
-  where
-    cases : (v : Bool) → (nat_le 32 b && nat_le b 126) ≡ v → (w : Bool) → (b == 9 || b == 13) ≡ w → is_clear_byte (shown_byte b) ≡ true
-    cases true e w f = let same : shown_byte b ≡ b = rw e refl in rw same (either (b == 10) (nat_le 32 b && nat_le b 126) e)
-    cases false e true f = let same : shown_byte b ≡ 32 = rw (e, f) refl in rw same refl
-    cases false e false f = let same : shown_byte b ≡ 46 = rw (e, f) refl in rw same refl
-
-shown_clear : (xs : List ℕ) → is_clear (map shown_byte xs) ≡ true
-shown_clear [] = refl
-shown_clear (b ∷ xs) = both (is_clear_byte (shown_byte b)) (is_clear (map shown_byte xs)) (byte_shown b) (shown_clear xs)
-
-blanks_clear : (n : ℕ) → is_clear (replicate n 32) ≡ true
-blanks_clear zero = refl
-blanks_clear (suc n) = blanks_clear n
-
-excerpt_clear : (line before : List ℕ) → is_clear (excerpt_text line before) ≡ true
-excerpt_clear line before =
-    let blanks : List ℕ = replicate (length (ascii_text before)) 32 in
-    both_clear (ascii_text line ++ (10 ∷ blanks)) (94 ∷ 10 ∷ [])
-    (both_clear (ascii_text line) (10 ∷ blanks) (shown_clear (filter begins_character line)) (blanks_clear (length (ascii_text before)))) refl
-
-place_clear : (bytes : List ℕ) (offset : ℕ) (text : List ℕ) → ShowsPlace bytes offset text → is_clear text ≡ true
-place_clear bytes offset text (start, end, at, is) = ap is_clear is ∙ excerpt_clear (slice_range bytes start end) (slice_range bytes start offset)
-
-line_clear : (said : List ℕ) → is_clear (cleared_line said) ≡ true
-line_clear said = both_clear (map visible_byte (take 1400 said)) (10 ∷ []) (bytes_clear (take 1400 said)) refl
 
 -- a name of a rule has at most 16 bytes, all clear
 record IsName (name : List ℕ) : Type 0 where
@@ -109,11 +76,11 @@ note_clear bytes f text n =
     ∙ both_clear n.line (name_of f.rule ++ (codes ": " ++ cleared_line n.sentence)) (place_clear bytes (min f.offset (length bytes)) n.line n.shows)
     (both_clear (name_of f.rule) (codes ": " ++ cleared_line n.sentence) (is_name f.rule).clear (both_clear (codes ": ") (cleared_line n.sentence) refl (line_clear n.sentence)))
 
-all_clear : (files : List File) (fs : List Finding) (notes : List (List ℕ)) → AllZip (IsNoteIn files) fs notes → is_clear (join_notes notes) ≡ true
+all_clear : (files : List File) (fs : List Finding) (notes : List (List ℕ)) → AllZip (IsNoteIn files) fs notes → is_clear (join_texts notes) ≡ true
 all_clear files [] [] each = refl
 all_clear files [] (n ∷ ns) each = absurd each
 all_clear files (f ∷ fs) [] each = absurd each
-all_clear files (f ∷ fs) (n ∷ ns) each = both_clear n (join_notes ns) (note_clear (bytes_at (slice_get files f.file)) f n each.0) (all_clear files fs ns each.1)
+all_clear files (f ∷ fs) (n ∷ ns) each = both_clear n (join_texts ns) (note_clear (bytes_at (slice_get files f.file)) f n each.0) (all_clear files fs ns each.1)
 
 -- no character of notes controls a terminal
 pub notes_clear : (files : List File) (fs : List Finding) (text : List ℕ) → AreNotes files fs text → is_clear text ≡ true
@@ -148,10 +115,6 @@ place_short bytes offset text (start, end, at, is) =
     let before : length (slice_range bytes start offset) ≤ 72 = omega (arith, range_short bytes start offset, at.near_start) in
     omega (arith, ap length is, excerpt_short (slice_range bytes start end) (slice_range bytes start offset) line before)
 
-line_short : (said : List ℕ) → length (cleared_line said) ≤ 1401
-line_short said =
-    omega (arith, length-append (map visible_byte (take 1400 said)) (10 ∷ []), length-map (take 1400 said) visible_byte, length-take 1400 said)
-
 note_short : (bytes : List ℕ) (f : Finding) (text : List ℕ) → IsNote bytes f text → length text ≤ 1700
 note_short bytes f text n =
     omega (
@@ -165,14 +128,14 @@ note_short bytes f text n =
       line_short n.sentence,
     )
 
-all_short : (files : List File) (fs : List Finding) (notes : List (List ℕ)) → AllZip (IsNoteIn files) fs notes → length (join_notes notes) ≤ 1700 * length fs
+all_short : (files : List File) (fs : List Finding) (notes : List (List ℕ)) → AllZip (IsNoteIn files) fs notes → length (join_texts notes) ≤ 1700 * length fs
 all_short files [] [] each = omega arith
 all_short files [] (n ∷ ns) each = absurd each
 all_short files (f ∷ fs) [] each = absurd each
 all_short files (f ∷ fs) (n ∷ ns) each =
     let one : length n ≤ 1700 = note_short (bytes_at (slice_get files f.file)) f n each.0 in
-    let others : length (join_notes ns) ≤ 1700 * length fs = all_short files fs ns each.1 in
-    omega (arith, one, others, length-append n (join_notes ns))
+    let others : length (join_texts ns) ≤ 1700 * length fs = all_short files fs ns each.1 in
+    omega (arith, one, others, length-append n (join_texts ns))
 
 -- at most 1,700 bytes for each note
 pub notes_short : (files : List File) (fs : List Finding) (text : List ℕ) → AreNotes files fs text → length text ≤ 1700 * length fs

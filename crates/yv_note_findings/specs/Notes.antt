@@ -1,16 +1,11 @@
 -- What is said of findings.
-use Rattle.std.specs.Prelude.{◌≡◌, ◌++◌, ◌∷◌, ℕ, List, [], Option, Some, None, length, map, min, take, slice_get, codes}
-use Rattle.std.specs.List.{AllZip, flat_map}
+use Rattle.std.specs.Prelude.{◌≡◌, ◌++◌, ℕ, List, [], Option, Some, None, length, min, slice_get, codes}
+use Rattle.std.specs.List.{AllZip}
 use Rattle.yv_base_streams.specs.Files.{File}
 use Rattle.yv_lint.specs.Rules.{name_of}
 use Rattle.yv_lint.specs.declared.finding.Finding.{Finding}
-use Rattle.yv_note_text.specs.Clear.{visible_byte}
+use Rattle.yv_note_lines.specs.Lines.{cleared_line, join_texts}
 use Rattle.yv_note_text.specs.Excerpt.{ShowsPlace}
-
--- what a terminal is given of a sentence: its first 1,400 bytes, with a dot for each that is not
--- visible, and a line feed
-abbrev pub cleared_line : List ℕ → List ℕ
-cleared_line said = map visible_byte (take 1400 said) ++ 10 ∷ []
 
 -- The note on a finding in a file with these bytes: the line that holds its place, and below that
 -- the rule's name with a sentence. Which words the sentence has is not said.
@@ -29,12 +24,8 @@ bytes_at (Some f) = f.bytes
 abbrev pub IsNoteIn : List File → Finding → List ℕ → Type 0
 IsNoteIn files finding text = IsNote (bytes_at (slice_get files finding.file)) finding text
 
--- texts, one after the other
-abbrev pub join_notes : List (List ℕ) → List ℕ
-join_notes notes = flat_map (λ note. note) notes
-
 -- the text is a note on each of these findings in these files, in their order
 pub record AreNotes (files : List File) (findings : List Finding) (text : List ℕ) : Type 0 where
   pub notes : List (List ℕ)
   pub each : AllZip (IsNoteIn files) findings notes
-  pub is : text ≡ join_notes notes
+  pub is : text ≡ join_texts notes

@@ -2,7 +2,6 @@
 //! under the place, and below it a sentence on what is wrong and how to mend it.
 #![tactic(auto)]
 
-mod clear;
 mod definition_sentences;
 mod file_facts;
 mod file_sentences;

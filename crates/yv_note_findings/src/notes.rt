@@ -4,12 +4,12 @@ ghost use Rattle.yv_base_streams.specs.Files.{file_of};
 ghost use Rattle.yv_note_text.specs.Clear.{is_clear};
 ghost use Rattle.yv_note_findings.specs.Notes.{AreNotes, IsNote, bytes_at};
 
-use crate::clear::push_line;
 use crate::file_facts::FileFacts;
 use crate::sentences::sentence;
 use std::alloc::{AllocError, Global};
 use yv_base_streams::Input;
 use yv_lint::Finding;
+use yv_note_lines::push_line;
 use yv_note_text::excerpt;
 use yv_text_statement::Statement;
 

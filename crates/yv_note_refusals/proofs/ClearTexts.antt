@@ -1,6 +1,6 @@
 -- What is clear, and what is clear_text.
-use Rattle.std.proofs.Common.{◌≡◌, ℕ, zero, suc, ◌==◌, ◌||◌, ◌&&◌, Bool, true, false, List, [], ◌∷◌, ◌++◌, Option, Some, None, IfSome, length, map, replicate, nat_le, nat_lt, codes, if◌then◌else◌, refl, sym, ap, ◌∙◌}
-use Rattle.std.specs.List.{filter, find, slice_range}
+use Rattle.std.proofs.Common.{◌≡◌, ℕ, ◌==◌, ◌||◌, ◌&&◌, Bool, true, false, List, [], ◌∷◌, ◌++◌, Option, Some, None, IfSome, length, nat_lt, codes, if◌then◌else◌, refl, sym, ap, ◌∙◌}
+use Rattle.std.specs.List.{find}
 use Rattle.std.specs.Option.{option_and_then}
 use Rattle.std.proofs.lemmas.List.{append_assoc, map-append}
 use Rattle.yv_text_statement.specs.Codes.{name_of}
@@ -10,11 +10,12 @@ use Rattle.yv_text_statement.specs.declared.refusal.Refusal.{Refusal}
 use Rattle.yv_link_scopes.specs.Rows.{Row}
 use Rattle.yv_link_scopes.specs.RowList.{rows_of}
 use Rattle.yv_base_streams.specs.Files.{File}
-use Rattle.yv_note_text.specs.Excerpt.{ShowsPlace, ascii_text, begins_character, excerpt_text, shown_byte}
+use Rattle.yv_note_text.specs.Excerpt.{ascii_text}
 use Rattle.yv_note_text.specs.Quotes.{Quotes, dots, front, in_quotes}
 use Rattle.yv_note_text.proofs.QuotedWords.{grown, named_behind}
 use Rattle.yv_note_text.specs.Clear.{is_clear, is_clear_byte, is_visible, visible_byte}
 use Rattle.yv_note_text.proofs.ClearTexts.{both_clear, byte_visible, either}
+use Rattle.yv_note_lines.proofs.ClearLines.{ascii_clear}
 use Rattle.yv_note_refusals.specs.Clear.{clear_text, cleared_byte}
 use Rattle.yv_note_refusals.specs.Explanations.{Speaks, names_row, names_syntax}
 use Rattle.yv_note_refusals.specs.Subject.{is_at, subject}
@@ -54,14 +55,6 @@ byte_same b e = cases (b == 10) refl (is_visible b) refl
         let no : false ≡ true = sym unclear ∙ e in
         absurd (cc)
 
-byte_shown : (b : ℕ) → is_clear_byte (shown_byte b) ≡ true
-byte_shown b = cases (nat_le 32 b && nat_le b 126) refl (b == 9 || b == 13) refl
-  where
-    cases : (v : Bool) → (nat_le 32 b && nat_le b 126) ≡ v → (w : Bool) → (b == 9 || b == 13) ≡ w → is_clear_byte (shown_byte b) ≡ true
-    cases true e w f = let same : shown_byte b ≡ b = rw e refl in rw same (either (b == 10) (nat_le 32 b && nat_le b 126) e)
-    cases false e true f = let same : shown_byte b ≡ 32 = rw (e, f) refl in rw same refl
-    cases false e false f = let same : shown_byte b ≡ 46 = rw (e, f) refl in rw same refl
-
 -- ### texts
 
 text_cleared : (xs : List ℕ) → is_clear (clear_text xs) ≡ true
@@ -73,17 +66,6 @@ text_same [] e = refl
 text_same (b ∷ xs) e =
     ap (λ (x : ℕ). x ∷ clear_text xs) (byte_same b (first_of_both (is_clear_byte b) (is_clear xs) e)) ∙ ap (λ (ys : List ℕ). b ∷ ys) (text_same xs (second_of_both (is_clear_byte b) (is_clear xs) e))
 
-shown_clear : (xs : List ℕ) → is_clear (map shown_byte xs) ≡ true
-shown_clear [] = refl
-shown_clear (b ∷ xs) = both (is_clear_byte (shown_byte b)) (is_clear (map shown_byte xs)) (byte_shown b) (shown_clear xs)
-
-ascii_clear : (xs : List ℕ) → is_clear (ascii_text xs) ≡ true
-ascii_clear xs = shown_clear (filter begins_character xs)
-
-blanks_clear : (n : ℕ) → is_clear (replicate n 32) ≡ true
-blanks_clear zero = refl
-blanks_clear (suc n) = blanks_clear n
-
 dots_clear : (name : List ℕ) → is_clear (dots name) ≡ true
 dots_clear name = cases (nat_lt 72 (length name))
   where
@@ -93,14 +75,6 @@ dots_clear name = cases (nat_lt 72 (length name))
 
 quoted_clear : (name : List ℕ) → is_clear (in_quotes name) ≡ true
 quoted_clear name = both_clear (ascii_text (front name)) (dots name ++ 34 ∷ []) (ascii_clear (front name)) (both_clear (dots name) (34 ∷ []) (dots_clear name) refl)
-
-excerpt_clear : (line before : List ℕ) → is_clear (excerpt_text line before) ≡ true
-excerpt_clear line before =
-    let blanks : List ℕ = replicate (length (ascii_text before)) 32 in
-    both_clear (ascii_text line ++ (10 ∷ blanks)) (94 ∷ 10 ∷ []) (both_clear (ascii_text line) (10 ∷ blanks) (ascii_clear line) (blanks_clear (length (ascii_text before)))) refl
-
-pub place_clear : (bytes : List ℕ) (offset : ℕ) (text : List ℕ) → ShowsPlace bytes offset text → is_clear text ≡ true
-place_clear bytes offset text (start, end, at, is) = ap is_clear is ∙ excerpt_clear (slice_range bytes start end) (slice_range bytes start offset)
 
 pub name_clear : (c : Code) → is_clear (name_of c) ≡ true
 name_clear code.NotUtf8 = refl

@@ -4,7 +4,7 @@ use Rattle.std.specs.Prelude.{count_by}
 use Rattle.std.specs.List.{AllZip}
 use Rattle.std.proofs.lemmas.Bool.{both_ways}
 use Rattle.std.proofs.lemmas.Grind.{common_steps}
-use Rattle.std.proofs.lemmas.List.{append-nil, length-append}
+use Rattle.std.proofs.lemmas.List.{length-append}
 use Rattle.std.proofs.lemmas.List.Sums.{sum_by-append}
 use mathlib.Core.Bool.{cond}
 use Rattle.yv_text_statement.specs.Order.{IsLeast}
@@ -16,8 +16,10 @@ use Rattle.yv_base_streams.specs.Files.{File}
 use Rattle.yv_source.specs.FileStatements.{IsRead}
 use Rattle.yv_note_text.specs.Clear.{is_clear, is_visible, visible_byte}
 use Rattle.yv_note_text.proofs.ClearTexts.{both_clear, bytes_clear}
+use Rattle.yv_note_lines.specs.Lines.{cleared_line, join_texts, visible_text}
+use Rattle.yv_note_lines.proofs.ClearLines.{joined_more, line_clear}
 use Rattle.yv_note_refusals.specs.InnerLines.{HoldsLines}
-use Rattle.yv_note_refusals.specs.OtherRefusals.{AreOtherLines, IsLineOn, IsOtherLine, IsRefusedAlone, LinesOn, front_text, join_lines, on_next, on_none, past, unfit, visible_text}
+use Rattle.yv_note_refusals.specs.OtherRefusals.{AreOtherLines, IsLineOn, IsOtherLine, IsRefusedAlone, LinesOn, front_text, on_next, on_none, past, unfit}
 use Rattle.yv_note_refusals.specs.declared.other_files.OtherLines.{OtherLines}
 
 -- ### one file more
@@ -31,10 +33,6 @@ past_last : {phase : ℕ} {fs : List File} {lines : List (List ℕ)} (f : File) 
 past_last f on_none = past on_none
 past_last f (on_next told on) = on_next told (past_last f on)
 past_last f (past on) = past (past_last f on)
-
-joined_more : (lines : List (List ℕ)) (line : List ℕ) → join_lines (lines ++ line ∷ []) ≡ join_lines lines ++ line
-joined_more [] line = append-nil line
-joined_more (l ∷ ls) line = ap (λ (t : List ℕ). l ++ t) (joined_more ls line) ∙ sym (append_assoc l (join_lines ls) line)
 
 more_length : (lines : List (List ℕ)) (line : List ℕ) (n : ℕ) → n ≡ length lines → n + 1 ≡ length (lines ++ line ∷ [])
 more_length lines line n e = omega (arith, length-append lines (line ∷ []), e)
@@ -78,16 +76,14 @@ no_lines phase fs text e = record { lines = []; on = past_all phase fs; few = om
 
 -- ### what lines have in common
 
-line_clear : (phase : ℕ) (f : File) (line : List ℕ) → IsOtherLine phase f line → is_clear line ≡ true
-line_clear phase f line is =
-    let shown : List ℕ = visible_text (take 1400 is.told.sentence) in
-    ap is_clear is.told.is ∙ both_clear (visible_text (front_text f is.refusal)) (shown ++ 10 ∷ []) (bytes_clear (front_text f is.refusal))
-    (both_clear shown (10 ∷ []) (bytes_clear (take 1400 is.told.sentence)) refl)
+other_clear : (phase : ℕ) (f : File) (line : List ℕ) → IsOtherLine phase f line → is_clear line ≡ true
+other_clear phase f line is =
+    ap is_clear is.told.is ∙ both_clear (visible_text (front_text f is.refusal)) (cleared_line is.told.sentence) (bytes_clear (front_text f is.refusal)) (line_clear is.told.sentence)
 
-next_clear : {phase : ℕ} {f : File} {line : List ℕ} {fs : List File} {lines : List (List ℕ)} → IsOtherLine phase f line → LinesOn phase fs lines → is_clear (join_lines lines) ≡ true → is_clear (line ++ join_lines lines) ≡ true
-next_clear {phase = phase} {f = f} {line = line} {lines = lines} told on others = both_clear line (join_lines lines) (line_clear phase f line told) others
+next_clear : {phase : ℕ} {f : File} {line : List ℕ} {fs : List File} {lines : List (List ℕ)} → IsOtherLine phase f line → LinesOn phase fs lines → is_clear (join_texts lines) ≡ true → is_clear (line ++ join_texts lines) ≡ true
+next_clear {phase = phase} {f = f} {line = line} {lines = lines} told on others = both_clear line (join_texts lines) (other_clear phase f line told) others
 
-lines_clear : {phase : ℕ} {fs : List File} {lines : List (List ℕ)} → LinesOn phase fs lines → is_clear (join_lines lines) ≡ true
+lines_clear : {phase : ℕ} {fs : List File} {lines : List (List ℕ)} → LinesOn phase fs lines → is_clear (join_texts lines) ≡ true
 lines_clear on_none = refl
 lines_clear (on_next told on) = next_clear told on (lines_clear on)
 lines_clear (past on) = lines_clear on
@@ -140,10 +136,10 @@ line_feeds phase f line is =
 feeds_more : (l ls : List ℕ) (n : ℕ) → feeds l ≡ 1 → feeds ls ≡ n → feeds (l ++ ls) ≡ suc n
 feeds_more l ls n e f = omega (arith, feeds_both l ls, e, f)
 
-next_feeds : {phase : ℕ} {f : File} {line : List ℕ} {fs : List File} {lines : List (List ℕ)} → IsOtherLine phase f line → LinesOn phase fs lines → feeds (join_lines lines) ≡ length lines → feeds (line ++ join_lines lines) ≡ suc (length lines)
-next_feeds {phase = phase} {f = f} {line = line} {lines = lines} told on others = feeds_more line (join_lines lines) (length lines) (line_feeds phase f line told) others
+next_feeds : {phase : ℕ} {f : File} {line : List ℕ} {fs : List File} {lines : List (List ℕ)} → IsOtherLine phase f line → LinesOn phase fs lines → feeds (join_texts lines) ≡ length lines → feeds (line ++ join_texts lines) ≡ suc (length lines)
+next_feeds {phase = phase} {f = f} {line = line} {lines = lines} told on others = feeds_more line (join_texts lines) (length lines) (line_feeds phase f line told) others
 
-all_feeds : {phase : ℕ} {fs : List File} {lines : List (List ℕ)} → LinesOn phase fs lines → feeds (join_lines lines) ≡ length lines
+all_feeds : {phase : ℕ} {fs : List File} {lines : List (List ℕ)} → LinesOn phase fs lines → feeds (join_texts lines) ≡ length lines
 all_feeds on_none = refl
 all_feeds (on_next told on) = next_feeds told on (all_feeds on)
 all_feeds (past on) = all_feeds on
@@ -174,6 +170,5 @@ pub front_same : (name name_too code code_too : List ℕ) (line column column_to
 front_same name name_too code code_too line column column_too e f g = rw (e, f, g) refl
 
 -- a line to which its parts were added one by one
-pub line_joined : (start front shown one two three : List ℕ) → start ≡ [] → one ≡ start ++ front → two ≡ one ++ shown → three ≡ two ++ 10 ∷ [] → three ≡ front ++ (shown ++ 10 ∷ [])
-line_joined start front shown one two three e f g h =
-    h ∙ ap (λ (t : List ℕ). t ++ 10 ∷ []) (g ∙ ap (λ (t : List ℕ). t ++ shown) (f ∙ ap (λ (t : List ℕ). t ++ front) e)) ∙ append_assoc front shown (10 ∷ [])
+pub line_joined : (start front said one two : List ℕ) → start ≡ [] → one ≡ start ++ front → two ≡ one ++ said → two ≡ front ++ said
+line_joined start front said one two e f g = g ∙ ap (λ (t : List ℕ). t ++ said) (f ∙ ap (λ (t : List ℕ). t ++ front) e)

@@ -1,6 +1,5 @@
 -- The lines on the other files that are refused.
-use Rattle.std.specs.Prelude.{◌≡◌, ℕ, ◌≤◌, List, [], ◌∷◌, ◌++◌, Some, length, map, take, codes, decimal}
-use Rattle.std.specs.List.{flat_map}
+use Rattle.std.specs.Prelude.{◌≡◌, ℕ, ◌≤◌, List, [], ◌∷◌, ◌++◌, Some, length, codes, decimal}
 use Rattle.yv_text_statement.specs.Codes.{name_of, phase_of}
 use Rattle.yv_text_statement.specs.Order.{IsLeast}
 use Rattle.yv_text_statement.specs.Tree.{Tree}
@@ -9,12 +8,8 @@ use Rattle.yv_text_grammar.specs.Refusals.{Bad}
 use Rattle.yv_base_positions.specs.Column.{column}
 use Rattle.yv_base_streams.specs.Files.{File}
 use Rattle.yv_source.specs.FileStatements.{IsRead, IsUnreadAt}
-use Rattle.yv_note_text.specs.Clear.{visible_byte}
+use Rattle.yv_note_lines.specs.Lines.{cleared_line, join_texts, visible_text}
 use Rattle.yv_note_refusals.specs.Explanations.{Speaks}
-
--- a text with a dot for each byte that is not visible
-abbrev pub visible_text : List ℕ → List ℕ
-visible_text text = map visible_byte text
 
 -- how the line on a refusal of a file begins: the file's name, the line, the column in bytes, and
 -- the code's name
@@ -29,11 +24,11 @@ pub data IsRefusedAlone (f : File) (r : Refusal) : Type 0 where
   unread : IsUnreadAt (f ∷ []) r → IsRefusedAlone f r
   unfit : (t : Tree) → IsRead f t → IsLeast (Bad t) (Some r) → IsRefusedAlone f r
 
--- the line on a refusal of a file: its front, and the first 1,400 bytes of a sentence
+-- the line on a refusal of a file: its front, and what a terminal is given of a sentence
 pub record IsLineOn (f : File) (r : Refusal) (line : List ℕ) : Type 0 where
   pub sentence : List ℕ
   pub speaks : Speaks (f ∷ []) r sentence
-  pub is : line ≡ visible_text (front_text f r) ++ (visible_text (take 1400 sentence) ++ 10 ∷ [])
+  pub is : line ≡ visible_text (front_text f r) ++ cleared_line sentence
 
 -- the line on the refusal of a file, which is one of this phase
 pub record IsOtherLine (phase : ℕ) (f : File) (line : List ℕ) : Type 0 where
@@ -50,13 +45,9 @@ pub data LinesOn (phase : ℕ) : List File → List (List ℕ) → Type 0 where
   past : {f : File} {fs : List File} {lines : List (List ℕ)} → LinesOn phase fs lines
       → LinesOn phase (f ∷ fs) lines
 
--- lines, one after the other
-abbrev pub join_lines : List (List ℕ) → List ℕ
-join_lines lines = flat_map (λ line. line) lines
-
 -- the text is such lines, one after the other, and no more than 20
 pub record AreOtherLines (phase : ℕ) (files : List File) (text : List ℕ) : Type 0 where
   pub lines : List (List ℕ)
   pub on : LinesOn phase files lines
   pub few : length lines ≤ 20
-  pub is : text ≡ join_lines lines
+  pub is : text ≡ join_texts lines

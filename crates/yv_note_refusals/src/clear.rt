@@ -1,6 +1,6 @@
 //! Texts as a terminal may show them.
 ghost use Rattle.std.specs.Prelude.{◌≡◌, ◌<◌, ◌++◌, map, OnOk, string_bytes};
-ghost use Rattle.yv_note_refusals.specs.{Clear.{clear_text, cleared_byte}, OtherRefusals.{visible_text}};
+ghost use Rattle.yv_note_refusals.specs.Clear.{clear_text, cleared_byte};
 
 use std::alloc::AllocError;
 use yv_note_text::visible_char;
@@ -24,17 +24,6 @@ pub(crate) fn push_clear(text: &mut String, words: &str) -> Result<(), AllocErro
 {
     for byte in words.as_bytes() {
         text.push(cleared_char(*byte))?;
-    }
-    Ok(())
-}
-
-/// Adds bytes, with a dot for each that is not visible: also for line feeds.
-pub(crate) fn push_visible(text: &mut String, bytes: &[u8]) -> Result<(), AllocError>
-    ensures { OnOk result
-        (string_bytes text.new ≡ string_bytes text.old ++ visible_text bytes.now) }
-{
-    for byte in bytes {
-        text.push(visible_char(*byte))?;
     }
     Ok(())
 }

@@ -1,5 +1,5 @@
 //! The other files that are refused, beside the one that is reported.
-ghost use Rattle.std.specs.Prelude.{◌≡◌, ◌<◌, ◌≤◌, ◌+◌, ◌++◌, ◌∷◌, [], List, Some, map, drop, length, take, true, count_by, string_bytes, IfOk, IfSome, OnOk};
+ghost use Rattle.std.specs.Prelude.{◌≡◌, ◌<◌, ◌≤◌, ◌+◌, ◌++◌, ◌∷◌, [], List, Some, map, drop, length, true, count_by, string_bytes, IfOk, IfSome, OnOk};
 ghost use Rattle.yv_text_statement.specs.{Codes.{phase_of}, Order.{IsLeast}, Tree.{Tree}};
 ghost use Rattle.yv_text_grammar.specs.Refusals.{Bad};
 ghost use Rattle.yv_base_positions.specs.Column.{is_line_feed};
@@ -7,21 +7,18 @@ ghost use Rattle.yv_base_streams.specs.Files.{file_of};
 ghost use Rattle.yv_note_text.specs.Clear.{is_clear};
 ghost use Rattle.yv_note_refusals.specs.{InnerLines.{HoldsLines, TakesFile}, OtherRefusals.{AreOtherLines, IsLineOn, IsOtherLine, IsRefusedAlone, front_text}};
 
-use crate::clear::push_visible;
 use crate::explain::sentence;
 use std::alloc::{AllocError, Global};
 use std::slice;
 use yv_base_positions::column_of;
 use yv_base_streams::Input;
 use yv_job::Job;
+use yv_note_lines::{push_line, push_visible};
 use yv_source::{Texts, conform};
 use yv_text_statement::{Refusal, Statement, Stop};
 
 /// How many files get a line.
 const MOST_LINES: usize = 20;
-
-/// The most bytes of a sentence in a line.
-const MOST_BYTES: usize = 1400;
 
 /// The last phase in which each file is looked at alone.
 const LAST_LONE_PHASE: u8 = 2;
@@ -158,8 +155,7 @@ fn line_on(alloc: Global, input: &Input, job: &Job, refusal: &Refusal) -> Result
     let sentence = sentence(alloc, slice::from_ref(input), job, refusal)?;
     let mut text = String::new(alloc);
     push_visible(&mut text, front.as_bytes())?;
-    push_visible(&mut text, shown_bytes(sentence.as_bytes()))?;
-    text.push_str("\n")?;
+    push_line(&mut text, sentence.as_str())?;
     Ok(text)
 }
 
@@ -173,15 +169,4 @@ fn front_of_line(alloc: Global, input: &Input, refusal: &Refusal) -> Result<Stri
     let column = column_of(input.bytes.as_slice(), refusal.offset as usize);
     let code = refusal.code.name();
     format!(in alloc; "{name}:{line}:{column}: {code}: ")
-}
-
-// What is shown of the bytes of a sentence.
-fn shown_bytes(bytes: &[u8]) -> &[u8]
-    ensures { result.now ≡ take 1400 bytes.now }
-{
-    if bytes.len() <= MOST_BYTES {
-        bytes
-    } else {
-        &bytes[..MOST_BYTES]
-    }
 }

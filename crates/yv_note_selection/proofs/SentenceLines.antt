@@ -1,9 +1,11 @@
 -- Lines behind others, and what they have in common.
-use Rattle.std.proofs.Common.{◌≡◌, ℕ, ◌+◌, ◌*◌, ◌≤◌, true, List, [], ◌∷◌, ◌++◌, length, map, take, refl, sym, ap, ◌∙◌, append_assoc, arith}
-use Rattle.std.proofs.lemmas.List.{append-nil, length-append, length-map, length-take}
-use Rattle.yv_note_text.specs.Clear.{is_clear, visible_byte}
-use Rattle.yv_note_text.proofs.ClearTexts.{both_clear, bytes_clear}
-use Rattle.yv_note_selection.specs.Lines.{AreLines, cleared_line, join_lines}
+use Rattle.std.proofs.Common.{◌≡◌, ℕ, ◌+◌, ◌*◌, ◌≤◌, true, List, [], ◌∷◌, ◌++◌, length, refl, sym, ap, ◌∙◌, append_assoc, arith}
+use Rattle.std.proofs.lemmas.List.{append-nil, length-append}
+use Rattle.yv_note_text.specs.Clear.{is_clear}
+use Rattle.yv_note_text.proofs.ClearTexts.{both_clear}
+use Rattle.yv_note_lines.specs.Lines.{cleared_line}
+use Rattle.yv_note_lines.proofs.ClearLines.{line_clear, line_short}
+use Rattle.yv_note_selection.specs.Lines.{AreLines, join_lines}
 use Rattle.yv_note_selection.specs.InnerLines.{HoldsLines}
 
 joined_more : (said : List (List ℕ)) (one : List ℕ) → join_lines (said ++ one ∷ []) ≡ join_lines said ++ cleared_line one
@@ -33,15 +35,11 @@ few_lines count text holds few = record {
 joined_clear : (said : List (List ℕ)) → is_clear (join_lines said) ≡ true
 joined_clear [] = refl
 joined_clear (s ∷ said) =
-    both_clear (cleared_line s) (join_lines said) (both_clear (map visible_byte (take 1400 s)) (10 ∷ []) (bytes_clear (take 1400 s)) refl) (joined_clear said)
+    both_clear (cleared_line s) (join_lines said) (line_clear s) (joined_clear said)
 
 -- lines have nothing that drives a terminal
 pub lines_clear : (text : List ℕ) → AreLines text → is_clear text ≡ true
 lines_clear text are = ap is_clear are.is ∙ joined_clear are.said
-
-line_short : (said : List ℕ) → length (cleared_line said) ≤ 1401
-line_short said =
-    omega (arith, length-append (map visible_byte (take 1400 said)) (10 ∷ []), length-map (take 1400 said) visible_byte, length-take 1400 said)
 
 joined_short : (said : List (List ℕ)) → length (join_lines said) ≤ 1401 * length said
 joined_short [] = omega arith

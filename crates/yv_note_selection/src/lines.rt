@@ -1,19 +1,16 @@
 //! The lines on the names of a selection.
-ghost use Rattle.std.specs.Prelude.{◌≡◌, ◌≤◌, ◌++◌, length, map, take, true, IfOk, OnOk, string_bytes};
-ghost use Rattle.yv_note_text.specs.Clear.{is_clear, visible_byte};
-ghost use Rattle.yv_note_selection.specs.{Lines.{AreLines, cleared_line}, InnerLines.{HoldsLines}};
+ghost use Rattle.std.specs.Prelude.{◌≡◌, ◌≤◌, length, true, IfOk, string_bytes};
+ghost use Rattle.yv_note_text.specs.Clear.{is_clear};
+ghost use Rattle.yv_note_selection.specs.{Lines.{AreLines}, InnerLines.{HoldsLines}};
 
 use crate::sentences::sentences;
 use std::alloc::{AllocError, Global};
 use yv_base_streams::Input;
 use yv_job::Job;
-use yv_note_text::visible_char;
+use yv_note_lines::push_line;
 
 /// The most lines.
 pub(crate) const MOST_LINES: usize = 20;
-
-/// The most bytes of a sentence.
-const MOST_BYTES: usize = 1400;
 
 /// A line for each of the first names in a job's `--support` and `--import-only` that mean nothing,
 /// with the features or modules that there are. Such a name has no effect, so it is often one that
@@ -52,36 +49,4 @@ fn lines_on(alloc: Global, sentences: &[String]) -> Result<String, AllocError>
         push_line(&mut text, sentence.as_str())?;
     }
     Ok(text)
-}
-
-// Adds what a terminal is given of a sentence, and a line feed.
-fn push_line(text: &mut String, sentence: &str) -> Result<(), AllocError>
-    ensures { OnOk result
-        (string_bytes text.new ≡ string_bytes text.old ++ cleared_line sentence.now) }
-{
-    push_visible(text, front(sentence.as_bytes()))?;
-    text.push_str("\n")?;
-    Ok(())
-}
-
-// The first bytes of a sentence.
-fn front(bytes: &[u8]) -> &[u8]
-    ensures { result.now ≡ take 1400 bytes.now }
-{
-    if bytes.len() <= MOST_BYTES {
-        bytes
-    } else {
-        &bytes[..MOST_BYTES]
-    }
-}
-
-// Adds bytes, and a dot for each that isn't visible.
-fn push_visible(text: &mut String, bytes: &[u8]) -> Result<(), AllocError>
-    ensures { OnOk result
-        (string_bytes text.new ≡ string_bytes text.old ++ map visible_byte bytes.now) }
-{
-    for byte in bytes {
-        text.push(visible_char(*byte))?;
-    }
-    Ok(())
 }

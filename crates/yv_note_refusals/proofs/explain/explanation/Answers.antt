@@ -5,7 +5,8 @@ use Rattle.yv_note_text.specs.Excerpt.{ShowsPlace}
 use Rattle.yv_note_text.specs.Clear.{is_clear}
 use Rattle.yv_note_refusals.specs.Clear.{clear_text}
 use Rattle.yv_note_refusals.specs.Explanations.{Explains, Speaks}
-use Rattle.yv_note_refusals.proofs.ClearTexts.{joined, name_clear, place_clear, said_clear, speaks_cleared}
+use Rattle.yv_note_lines.proofs.ClearLines.{place_clear}
+use Rattle.yv_note_refusals.proofs.ClearTexts.{joined, name_clear, said_clear, speaks_cleared}
 use Rattle.yv_note_refusals.proofs.NoteExtension.{speaks_longer}
 use Rattle.yv_note_refusals.proofs.explain.explanation.Goals as goal
 

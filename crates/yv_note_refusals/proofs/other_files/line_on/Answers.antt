@@ -1,7 +1,8 @@
-use Rattle.std.proofs.Common.{◌≡◌, ◌∙◌, ◌++◌, List, ℕ, ap, map, subst, take, string_bytes}
+use Rattle.std.proofs.Common.{◌≡◌, ◌∙◌, ◌++◌, List, ℕ, ap, map, subst, string_bytes}
 use Rattle.yv_base_streams.specs.Files.{file_of}
+use Rattle.yv_note_lines.specs.Lines.{cleared_line, visible_text}
 use Rattle.yv_note_refusals.specs.Explanations.{Speaks}
-use Rattle.yv_note_refusals.specs.OtherRefusals.{front_text, visible_text}
+use Rattle.yv_note_refusals.specs.OtherRefusals.{front_text}
 use Rattle.yv_note_refusals.proofs.OtherLines.{line_joined}
 use Rattle.yv_note_refusals.proofs.other_files.line_on.Goals as goal
 
@@ -13,10 +14,9 @@ returns c =
     let one : List ℕ = string_bytes c.push_visible.new.text in
     let front : List ℕ = front_text (file_of c.args.input.now) r in
     let fronted : one ≡ start ++ visible_text front = c.in_ok-push_visible.ensures ∙ ap (λ (t : List ℕ). start ++ visible_text t) (c.as_bytes.ensures.value ∙ c.in_ok-front.ensures) in
-    let shown : string_bytes c.push_visible-2.new.text ≡ one ++ visible_text (take 1400 sentence) =
-    c.in_ok-push_visible-2.ensures ∙ ap (λ (t : List ℕ). one ++ visible_text t) (c.shown_bytes.ensures ∙ ap (λ (t : List ℕ). take 1400 t) c.as_bytes-2.ensures.value) in
+    let said : string_bytes c.push_line.new.text ≡ one ++ cleared_line sentence = c.in_ok-push_line.ensures ∙ ap (λ (t : List ℕ). one ++ cleared_line t) c.as_str.ensures.value in
     record {
       sentence = sentence;
       speaks = subst (λ is. Speaks (map file_of is) r sentence) c.from_ref.ensures.value c.in_ok-sentence.ensures;
-      is = line_joined start (visible_text front) (visible_text (take 1400 sentence)) one (string_bytes c.push_visible-2.new.text) (string_bytes c.push_str.new.self) c.new-text.ensures.bytes fronted shown c.in_ok-push_str.ensures.bytes;
+      is = line_joined start (visible_text front) (cleared_line sentence) one (string_bytes c.push_line.new.text) c.new-text.ensures.bytes fronted said;
     }

@@ -1,5 +1,5 @@
 use Rattle.std.proofs.Common.{rules}
-use Rattle.yv_note_faults.proofs.clear.placed_line.Goals as goal
+use Rattle.yv_note_faults.proofs.place_line.placed_line.Goals as goal
 
 pub returns : goal.returns
 returns c = record {
