@@ -149,8 +149,8 @@ fn push_if_features<'d, 's>(
     Ok(())
 }
 
-// Whether data definitions are looked for in the block of a statement, or it is one.
-fn is_followed(keyword: Keyword) -> bool {
+// Whether a statement of this keyword defines a data node.
+fn is_data_node(keyword: Keyword) -> bool {
     matches!(
         keyword,
         Keyword::Container
@@ -159,25 +159,21 @@ fn is_followed(keyword: Keyword) -> bool {
             | Keyword::LeafList
             | Keyword::Anydata
             | Keyword::Anyxml
-            | Keyword::Choice
-            | Keyword::Case
-            | Keyword::Grouping
-            | Keyword::Uses
-            | Keyword::Augment
     )
+}
+
+// Whether data definitions are looked for in the block of a statement, or it is one.
+fn is_followed(keyword: Keyword) -> bool {
+    is_data_node(keyword)
+        || matches!(
+            keyword,
+            Keyword::Choice | Keyword::Case | Keyword::Grouping | Keyword::Uses | Keyword::Augment
+        )
 }
 
 // Whether a statement defines a data node of this name.
 fn is_node_named(statement: &Statement<'_>, name: &str) -> bool {
-    matches!(
-        statement.kind(),
-        Keyword::Container
-            | Keyword::List
-            | Keyword::Leaf
-            | Keyword::LeafList
-            | Keyword::Anydata
-            | Keyword::Anyxml
-    ) && statement.argument() == Some(name)
+    is_data_node(statement.kind()) && statement.argument() == Some(name)
 }
 
 // Whether the nodes in a statement's block are in the object of the node around it.
