@@ -31,8 +31,8 @@ fn front(bytes: &[u8]) -> &[u8]
     }
 }
 
-/// Adds bytes, with a dot for each that isn't visible, also for a line feed. If memory runs out, some
-/// of them may have been added.
+/// Adds bytes, with a dot for each that isn't visible, also for a line feed. If memory runs out,
+/// some of them may have been added.
 pub fn push_visible(text: &mut String, bytes: &[u8]) -> Result<(), AllocError>
     // Each byte is appended as a visible character.
     ensures { OnOk result
