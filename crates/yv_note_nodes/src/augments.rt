@@ -1,7 +1,7 @@
 //! Augments and refines.
 use crate::explanation::Explanation;
 use crate::mandatory::first_mandatory;
-use crate::nodes::{Steps, Way, follow, node_below, nodes_below, root_of};
+use crate::nodes::{Steps, Way, follow, is_side, node_below, nodes_below, root_of};
 use crate::tree::Tree;
 use std::alloc::AllocError;
 use yv_link_scopes::local;
@@ -292,11 +292,6 @@ fn side_of<'s, 'a>(operation: &Site<'s, 'a>, name: &'a str) -> Option<Target<'s,
         keyword: name,
         node: *operation,
     })
-}
-
-// Whether a node of this keyword is a side of an operation.
-fn is_side(kind: Keyword) -> bool {
-    matches!(kind, Keyword::Input | Keyword::Output)
 }
 
 fn is_operation(node: &Site<'_, '_>) -> bool {

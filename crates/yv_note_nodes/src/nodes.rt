@@ -28,14 +28,14 @@ pub(crate) static NAMED_NODES: &[Keyword] = &[
     Keyword::Notification,
 ];
 
-// Whether a statement is a side of an operation, which has no name.
-fn is_side(site: &Site<'_, '_>) -> bool {
-    site.is(Keyword::Input) || site.is(Keyword::Output)
+/// Whether nodes of this keyword are sides of operations, which have no name.
+pub(crate) fn is_side(keyword: Keyword) -> bool {
+    matches!(keyword, Keyword::Input | Keyword::Output)
 }
 
 // Whether a statement defines a node of the schema.
 fn is_node(site: &Site<'_, '_>) -> bool {
-    site.is_one_of(NAMED_NODES) || is_side(site)
+    site.is_one_of(NAMED_NODES) || is_side(site.kind())
 }
 
 /// Which steps a path has: also to choices and cases, or only to data nodes.
@@ -192,7 +192,7 @@ fn block_at<'s, 'a>(child: &Site<'s, 'a>, steps: Steps) -> Option<Site<'s, 'a>> 
 
 /// The name of a node: `input` and `output` have that of their keyword.
 pub(crate) fn node_name<'a>(node: &Site<'_, 'a>) -> &'a str {
-    if is_side(node) {
+    if is_side(node.kind()) {
         node.keyword()
     } else {
         node.argument()
