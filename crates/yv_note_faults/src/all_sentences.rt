@@ -5,9 +5,9 @@ ghost use Rattle.yv_note_text.specs.Clear.{is_clear};
 
 use crate::causes::Causes;
 use crate::choice::choose;
-use crate::place_line::placed_line;
 use crate::document::{FaultNote, NotedDocument};
 use crate::hint::{hint, push_more};
+use crate::place_line::placed_line;
 use crate::places::places_of;
 use crate::sentence::sentence;
 use std::alloc::{AllocError, Global};

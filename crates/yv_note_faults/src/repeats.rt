@@ -3,8 +3,8 @@ ghost use Rattle.std.specs.Prelude.{◌≡◌, ◌≤◌, ◌*◌, true, length,
 ghost use Rattle.yv_note_faults.specs.{Line.{TellsRepeat, repeat_text}, Sentences.{TellsRepeats}};
 ghost use Rattle.yv_note_text.specs.Clear.{is_clear};
 
-use crate::place_line::placed_line;
 use crate::document::NotedDocument;
+use crate::place_line::placed_line;
 use crate::places::in_file;
 use std::alloc::{AllocError, Global};
 use yv_note_places::{RepeatedMember, has_repeated_members, repeated_members};
