@@ -1,1 +1,2 @@
 pub mod StatementLinks
+mod EntryRows

@@ -1,4 +1,8 @@
 //! The statements of the files as one list, with what their arguments mean.
+ghost use Rattle.std.specs.{Prelude.{◌≡◌, ◌<◌, All, Some, length, map, nat_lt, slice_get, IfOk}};
+ghost use Rattle.yv_link_scopes.specs.Views.{files_in, rows_in};
+ghost use Rattle.yv_note_statements.specs.Entries.{MarkRoots, kind_of, row_of};
+
 use std::alloc::{AllocError, Global};
 use yv_link_scopes::{NameKind, NamePlaces, Rows, first_places, local, name_of};
 use yv_text_statement::{Keyword, Statement};
@@ -74,26 +78,50 @@ impl<'a> Definitions<'a> {
     }
 }
 
+// The entry of the statement of this number.
+fn entry_of<'a>(
+    rows: &Rows<'a, '_>,
+    definitions: &Definitions<'a>,
+    number: usize,
+) -> StatementEntry<'a>
+    requires { number < length (rows_in rows.now) }
+    ensures row { Some (row_of result) ≡ slice_get (rows_in rows.now) number }
+    ensures kind { result.kind ≡ kind_of (row_of result) }
+    ensures root { result.is_root ≡ nat_lt number (length (files_in rows.now)) }
+{
+    let row = &rows.entries()[number];
+    let statement = row.statement;
+    StatementEntry {
+        file: row.file,
+        is_root: number < rows.files().len(),
+        scope: row.scope,
+        keyword: statement.keyword(),
+        kind: statement.kind(),
+        argument: statement.argument(),
+        line: statement.line(),
+        offset: statement.offset(),
+        meaning: definitions.meaning(rows, number, row.file, statement),
+    }
+}
+
 /// The statements of the files in their order, which numbers them.
 pub fn entries<'a>(
     alloc: Global,
     rows: &Rows<'a, '_>,
-) -> Result<Vec<StatementEntry<'a>>, AllocError> {
+) -> Result<Vec<StatementEntry<'a>>, AllocError>
+    // Each entry has the file, the block, the words and the place of its statement.
+    ensures rows { IfOk result (λ entries. map row_of entries.items ≡ rows_in rows.now) }
+    // Its kind is what its keyword means.
+    ensures kinds { IfOk result
+        (λ entries. All (λ entry. entry.kind ≡ kind_of (row_of entry)) entries.items) }
+    // The roots of the files come first.
+    ensures roots { IfOk result
+        (λ entries. MarkRoots (length (files_in rows.now)) entries.items) }
+{
     let definitions = Definitions::read(alloc, rows)?;
     let mut entries = Vec::new(alloc);
-    for (number, row) in rows.entries().iter().enumerate() {
-        let statement = row.statement;
-        entries.push(StatementEntry {
-            file: row.file,
-            is_root: number < rows.files().len(),
-            scope: row.scope,
-            keyword: statement.keyword(),
-            kind: statement.kind(),
-            argument: statement.argument(),
-            line: statement.line(),
-            offset: statement.offset(),
-            meaning: definitions.meaning(rows, number, row.file, statement),
-        })?;
+    for number in 0..rows.len() {
+        entries.push(entry_of(rows, &definitions, number))?;
     }
     Ok(entries)
 }
