@@ -335,7 +335,11 @@ fn number_of(text: &[u8]) -> Option<u32> {
     Some(number)
 }
 
-/// The first flaw of a pattern. Takes time linear in the pattern.
+/// In so many bytes of a pattern its flaw is looked for. A pattern may have millions of bytes, and to
+/// read each once more takes longer than a note may.
+pub(crate) const MOST_READ: usize = 65_536;
+
+/// The first flaw of a pattern, if it begins in the bytes that are read.
 pub(crate) fn flaw_of(alloc: Global, text: &str) -> Result<Option<Flaw>, AllocError> {
     let bytes = text.as_bytes();
     let mut reader = Reader {
@@ -349,6 +353,9 @@ pub(crate) fn flaw_of(alloc: Global, text: &str) -> Result<Option<Flaw>, AllocEr
         let rest = bytes.get(at..).unwrap_or(&[]);
         if rest.is_empty() {
             break;
+        }
+        if at > MOST_READ {
+            return Ok(None);
         }
         match reader.read(rest, at)? {
             Ok(size) => at = at.saturating_add(size),

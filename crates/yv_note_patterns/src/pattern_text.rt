@@ -1,5 +1,5 @@
 //! What of a pattern is not in the dialect of regular expressions.
-use crate::pattern_flaw::flaw_of;
+use crate::pattern_flaw::{Flaw, MOST_READ, flaw_of};
 use std::alloc::{AllocError, Global};
 use yv_note_statements::Message;
 use yv_text_statement::Code;
@@ -7,17 +7,26 @@ use yv_text_statement::Code;
 /// Adds what of a pattern is not supported, at which character, and what to write.
 pub fn tell_pattern<'a>(telling: &mut Message<'a>, text: &'a str) -> Result<(), AllocError> {
     telling.sentence(Code::BadPattern);
-    if let Some(flaw) = flaw_of(telling.alloc(), text)? {
-        telling.quote(
-            " The reason is ",
-            part_of(text, flaw.start, flaw.size).unwrap_or(text),
-            "",
-        );
-        let before = count_characters(text, flaw.start);
-        telling.count(" at character ", before.saturating_add(1) as u64, ".");
-        telling.say(flaw.advice);
+    match flaw_of(telling.alloc(), text)? {
+        Some(flaw) => say_flaw(telling, text, &flaw),
+        None if text.len() > MOST_READ => {
+            telling.say(" Its first 65,536 bytes have no flaw.");
+        }
+        None => {}
     }
     Ok(())
+}
+
+// Adds what a flaw is, at which character, and what to write.
+fn say_flaw<'a>(telling: &mut Message<'a>, text: &'a str, flaw: &Flaw) {
+    telling.quote(
+        " The reason is ",
+        part_of(text, flaw.start, flaw.size).unwrap_or(text),
+        "",
+    );
+    let before = count_characters(text, flaw.start);
+    telling.count(" at character ", before.saturating_add(1) as u64, ".");
+    telling.say(flaw.advice);
 }
 
 // So many bytes of a text, after the first ones.

@@ -243,10 +243,20 @@ const BELOW: &str = " is below the least that is allowed, ";
 
 const OVERLAPPING: &str = " has to be above the part before it, which ends with ";
 
+// In so many bytes of a restriction the part that is wrong is looked for. A restriction may have
+// millions of parts, and to read each once more takes longer than a note may.
+const MOST_READ: usize = 65_536;
+
 // Adds which part of a restriction is wrong.
 fn say_parts<'a>(telling: &mut Message<'a>, site: &Site<'_, 'a>, reading: &Reading<'a>) {
     let mut before: Option<Bound<'a>> = None;
+    let mut read: usize = 0;
     for written in site.argument().split('|') {
+        if read > MOST_READ {
+            telling.say(" Its first 65,536 bytes have no wrong part.");
+            return;
+        }
+        read = read.saturating_add(written.len());
         let Some(part) = reading.part(written) else {
             say_fault(telling, reading, Fault::Unread(written.trim()));
             return;
