@@ -1,0 +1,10 @@
+pub mod Choices
+pub mod Cuts
+pub mod WordNames
+pub mod BlankRuns
+pub mod Tokens
+pub mod PartsRead
+pub mod PathsRead
+pub mod Completion
+pub mod BarePaths
+pub mod PlainForm

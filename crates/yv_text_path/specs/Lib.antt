@@ -1,0 +1,12 @@
+pub mod Bytes
+pub mod Pieces
+pub mod ShownPieces
+pub mod SpacedTokens
+pub mod Predicates
+pub mod Paths
+pub mod PlainPaths
+pub mod NamesLeft
+pub mod ShownPaths
+pub mod InnerPieces
+pub mod InnerStates
+pub mod InnerBrackets
