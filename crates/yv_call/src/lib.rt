@@ -1,0 +1,12 @@
+//! What a call from C has in memory: parts that lie in one buffer, and a writer that keeps the
+//! front of a text in a buffer and counts the rest. The program doesn't call this crate yet.
+#![tactic(auto)]
+
+mod front;
+mod log;
+mod parts;
+mod words;
+
+pub use front::TextFront;
+pub use parts::parts_of;
+pub use words::{command_line, texts_of};
