@@ -88,13 +88,18 @@ def files_below(folder):
     return sorted(os.path.relpath(path, folder) for path in found)
 
 
-def arguments(about, has_release=False):
-    """The arguments of a part: the program, the text that names of tests must contain, and, if it has that, whether it is for a release."""
+def arguments(about, has_release=False, folders=()):
+    """The arguments of a part: the program, the text that names of tests must contain, and, if it has that, whether it is for a release.
+
+    Further options may name a folder each: `folders` has their names, and what each is.
+    """
     words = argparse.ArgumentParser(description=about, formatter_class=argparse.RawDescriptionHelpFormatter)
     words.add_argument("--program", default=PROGRAM, metavar="PATH", help="the program to test (bin/yangcheck)")
     words.add_argument("--only", default="", metavar="TEXT", help="only the tests whose names contain TEXT")
     if has_release:
         words.add_argument("--release", action="store_true", help="fail where a test would be skipped")
+    for name, what in folders:
+        words.add_argument(f"--{name}", metavar="DIR", type=os.path.abspath, help=what)
     return words.parse_args()
 
 

@@ -24,6 +24,11 @@ def uses(top=TOP):
     return {name: [it for it in line.partition(":")[2].split() if it in lines] for name, line in lines.items()}
 
 
+def is_static(name):
+    """Whether a crate is a static library, for callers in C."""
+    return "staticlib" in listed()[name].partition(":")[0].split()
+
+
 def layers(top=TOP):
     """The layers of crates.txt, lowest first: each with what it is about and its crates."""
     found = []
