@@ -3,7 +3,8 @@
  * line, over files and documents that are in memory. `yangcheck --help` describes the words, and
  * docs/JSON-LINES.md what is written with `--format json`, the form for programs.
  *
- * Link with libyangcheck.a or libyangcheck.so. Both need only the C library.
+ * Link with libyangcheck.a or libyangcheck.so. Both need only the C library. They cannot be made
+ * yet: docs/ASSURANCE.md says what is missing.
  */
 #ifndef YANGCHECK_H
 #define YANGCHECK_H

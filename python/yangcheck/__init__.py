@@ -6,8 +6,7 @@
     for fault in modules.validate(document):
         print(fault.kind, fault.path)
 
-It does what the program `yangcheck` does, by a library in which every function is proved, and opens
-no files. Texts are bytes, or strings that are encoded as UTF-8. Threads may use it at once.
+It does what the program `yangcheck` does, by the library `libyangcheck.so`, and opens no files. Texts are bytes, or strings that are encoded as UTF-8. Threads may use it at once.
 """
 import json
 import re
@@ -218,7 +217,7 @@ class Modules:
 
 
 def version() -> str:
-    """The version of the library, and that of Rattle, in which it is proved."""
+    """The version of the library, and that of Rattle."""
     return _text_of(_run(["--version"], [], [], _MOST_OUTPUT).output).strip()
 
 
