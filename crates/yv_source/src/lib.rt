@@ -21,5 +21,5 @@ mod turn;
 pub use reader::parse;
 pub use source::{MOST_BYTES, Source};
 pub use texts::Texts;
-pub use yv_text_grammar::conform;
+pub use yv_text_grammar::{Xpath, conform};
 pub use yv_text_statement::{Code, Refusal, Statement, Stop};

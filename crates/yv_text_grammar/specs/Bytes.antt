@@ -9,6 +9,10 @@ slash = 47
 abbrev pub opening_bracket : ℕ
 opening_bracket = 91
 
+-- the byte `]`
+abbrev pub closing_bracket : ℕ
+closing_bracket = 93
+
 -- the byte `(`
 abbrev pub opening_parenthesis : ℕ
 opening_parenthesis = 40

@@ -5,15 +5,17 @@ use Rattle.yv_text_statement.specs.Tree.{Tree, trees}
 use Rattle.yv_text_statement.specs.Keywords.{same}
 use Rattle.yv_text_grammar.specs.Table.{occurs_in, rows_of}
 use Rattle.yv_text_grammar.specs.Argument.{ArgumentFits}
-use Rattle.yv_text_grammar.specs.Refusals.{keyword_at, is_unsupported, is_module}
+use Rattle.yv_text_grammar.specs.Conditions.{is_unsupported}
+use Rattle.yv_text_grammar.specs.Refusals.{keyword_at, is_module}
 use Rattle.yv_text_statement.specs.declared.keyword.Keyword.{Keyword}
 use Rattle.yv_text_statement.specs.declared.keyword.Keyword.TheVariants as word
 use Rattle.yv_text_grammar.specs.declared.table.Occurs.{Occurs}
+use Rattle.yv_text_grammar.specs.declared.xpath.Xpath.{Xpath}
 use Rattle.yv_text_grammar.specs.declared.table.Occurs.TheVariants.{One, Optional, Any}
 
 -- the statement itself is right, in the block of a parent
-pub record OwnFits (parent : Keyword) (s : Tree) : Type 0 where
-  pub supported : is_unsupported (keyword_at s) s.head.argument ≡ false
+pub record OwnFits (x : Xpath) (parent : Keyword) (s : Tree) : Type 0 where
+  pub supported : is_unsupported x (keyword_at s) s.head.argument ≡ false
   pub known : keyword_at s ≢ word.Unknown
   pub argument : ArgumentFits parent (keyword_at s) s.head.argument
 
@@ -36,12 +38,14 @@ IsCounted s = (k : Keyword) → k ≢ word.Extended
 
 -- an extension's statement fits whatever is in it; another fits where it is right, its children are
 -- counted and each fits
-pub data FitsIn : Keyword → Tree → Type 0 where
-  extension : {parent : Keyword} {s : Tree} → keyword_at s ≡ word.Extended → FitsIn parent s
-  plain : {parent : Keyword} {s : Tree} → OwnFits parent s → IsCounted s
-      → ((k : ℕ) (c : Tree) → slice_get (trees s.children) k ≡ Some c → FitsIn (keyword_at s) c)
-      → FitsIn parent s
+pub data FitsIn : Xpath → Keyword → Tree → Type 0 where
+  extension : {x : Xpath} {parent : Keyword} {s : Tree} → keyword_at s ≡ word.Extended
+      → FitsIn x parent s
+  plain : {x : Xpath} {parent : Keyword} {s : Tree} → OwnFits x parent s → IsCounted s
+      → ((k : ℕ) (c : Tree) → slice_get (trees s.children) k ≡ Some c
+      → FitsIn x (keyword_at s) c)
+      → FitsIn x parent s
 
 -- a file's root fits where it is a module or submodule, and fits without a parent
-abbrev pub Fits : Tree → Type 0
-Fits s = (is_module (keyword_at s) ≡ true) × FitsIn word.Unknown s
+abbrev pub Fits : Xpath → Tree → Type 0
+Fits x s = (is_module (keyword_at s) ≡ true) × FitsIn x word.Unknown s

@@ -4,6 +4,7 @@ pub mod Words
 pub mod Texts
 pub mod Forms
 pub mod Argument
+pub mod Conditions
 pub mod Fits
 pub mod Refusals
 pub mod InnerDistinct

@@ -1,43 +1,28 @@
 -- What is wrong with a statement, and which refusals say so. They name the file as 0.
-use Rattle.std.specs.Prelude.{◌≡◌, ◌≢◌, ℕ, ◌⊎◌, ◌==◌, Bool, true, false, not, ◌&&◌, ◌||◌, List, Option, None, Some, take, length, codes}
+use Rattle.std.specs.Prelude.{◌≡◌, ◌≢◌, ℕ, ◌⊎◌, Bool, true, false, not, ◌&&◌, List, Option, None, Some, take, length}
 use Rattle.std.specs.List.{list_any, slice_get}
-use Rattle.std.specs.Str.{bytes_eq}
 use Rattle.yv_text_statement.specs.Tree.{Tree, trees}
 use Rattle.yv_text_statement.specs.Order.{Among, Stands, refusal_at}
 use Rattle.yv_text_statement.specs.declared.refusal.Refusal.{Refusal}
 use Rattle.yv_text_statement.specs.declared.refusal.Code.TheVariants as code
-use Rattle.yv_text_grammar.specs.Bytes.{opening_bracket, opening_parenthesis}
 use Rattle.yv_text_statement.specs.Keywords.{keyword_of, same}
 use Rattle.yv_text_grammar.specs.Table.{Rows, rows_of, occurs_in, is_one}
 use Rattle.yv_text_grammar.specs.Argument.{ArgumentFits}
+use Rattle.yv_text_grammar.specs.Conditions.{is_unsupported}
 use Rattle.yv_text_statement.specs.declared.keyword.Keyword.{Keyword}
 use Rattle.yv_text_statement.specs.declared.keyword.Keyword.TheVariants as word
 use Rattle.yv_text_grammar.specs.declared.table.Occurs.{Occurs}
+use Rattle.yv_text_grammar.specs.declared.xpath.Xpath.{Xpath}
 use Rattle.yv_text_grammar.specs.declared.table.Occurs.TheVariants.{One, Optional, Any}
 
 -- the keyword of a statement
 abbrev pub keyword_at : Tree → Keyword
 keyword_at s = keyword_of s.head.keyword
 
--- a path has more than names
-abbrev pub has_call_or_filter : List ℕ → Bool
-has_call_or_filter text = list_any (λ b. b == opening_bracket || b == opening_parenthesis) text
-
--- what isn't supported, by the keyword and the argument: `must`, `when` and deviations, a path with
--- a predicate or a function, and the type `instance-identifier`
-abbrev pub is_unsupported : Keyword → Option (List ℕ) → Bool
-is_unsupported word.Must argument = true
-is_unsupported word.When argument = true
-is_unsupported word.Deviation argument = true
-is_unsupported word.Deviate argument = true
-is_unsupported word.Path (Some text) = has_call_or_filter text
-is_unsupported word.Type (Some text) = bytes_eq text (codes "instance-identifier")
-is_unsupported keyword argument = false
-
 -- the statement itself is wrong, in the block of a parent
-abbrev pub OwnRefusal : Keyword → Tree → Refusal → Type 0
-OwnRefusal parent s f =
-    Stands (is_unsupported (keyword_at s) s.head.argument ≡ true)
+abbrev pub OwnRefusal : Xpath → Keyword → Tree → Refusal → Type 0
+OwnRefusal x parent s f =
+    Stands (is_unsupported x (keyword_at s) s.head.argument ≡ true)
     (refusal_at code.Unsupported 0 s.head) f
     ⊎ (Stands (keyword_at s ≡ word.Unknown) (refusal_at code.UnknownStatement 0 s.head) f
     ⊎ Stands (ArgumentFits parent (keyword_at s) s.head.argument → ⊥)
@@ -78,14 +63,14 @@ CountsBadly s f =
     ⊎ Stands (LacksChild s) (refusal_at code.Cardinality 0 s.head) f
 
 -- f is at s or below it, in the block of a parent; an extension's statement isn't looked into
-pub data Faulty : Keyword → Tree → Refusal → Type 0 where
-  own : {parent : Keyword} {s : Tree} {f : Refusal} → keyword_at s ≢ word.Extended
-      → OwnRefusal parent s f → Faulty parent s f
-  number : {parent : Keyword} {s : Tree} {f : Refusal} → keyword_at s ≢ word.Extended
-      → CountsBadly s f → Faulty parent s f
-  below : {parent : Keyword} {s : Tree} {f : Refusal} (k : ℕ) (c : Tree)
+pub data Faulty : Xpath → Keyword → Tree → Refusal → Type 0 where
+  own : {x : Xpath} {parent : Keyword} {s : Tree} {f : Refusal} → keyword_at s ≢ word.Extended
+      → OwnRefusal x parent s f → Faulty x parent s f
+  number : {x : Xpath} {parent : Keyword} {s : Tree} {f : Refusal} → keyword_at s ≢ word.Extended
+      → CountsBadly s f → Faulty x parent s f
+  below : {x : Xpath} {parent : Keyword} {s : Tree} {f : Refusal} (k : ℕ) (c : Tree)
       → keyword_at s ≢ word.Extended → slice_get (trees s.children) k ≡ Some c
-      → Faulty (keyword_at s) c f → Faulty parent s f
+      → Faulty x (keyword_at s) c f → Faulty x parent s f
 
 -- a keyword is that of a root
 abbrev pub is_module : Keyword → Bool
@@ -94,6 +79,6 @@ is_module word.Submodule = true
 is_module _ = false
 
 -- a file's root isn't a module or submodule, or f is in the root, whose parent is unknown
-abbrev pub Bad : Tree → Refusal → Type 0
-Bad s f = Stands (is_module (keyword_at s) ≡ false) (refusal_at code.Cardinality 0 s.head) f
-    ⊎ Faulty word.Unknown s f
+abbrev pub Bad : Xpath → Tree → Refusal → Type 0
+Bad x s f = Stands (is_module (keyword_at s) ≡ false) (refusal_at code.Cardinality 0 s.head) f
+    ⊎ Faulty x word.Unknown s f

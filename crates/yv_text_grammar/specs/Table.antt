@@ -1,6 +1,6 @@
--- Which statements may be in the block of which, and how often (RFC 7950, section 7). What is left
--- out: `must`, `when` and deviations, which aren't supported. `yang-version` may be missing, and
--- `input`, `output` and `augment` may be without data definitions.
+-- Which statements may be in the block of which, and how often (RFC 7950, section 7). Deviations are
+-- left out, which aren't supported. `yang-version` may be missing, and `input`, `output` and
+-- `augment` may be without data definitions.
 use Rattle.std.specs.Prelude.{Bool, true, false, List, [], ◌∷◌, ◌++◌, Option, None, Some, if◌then◌else◌}
 use Rattle.yv_text_statement.specs.Keywords.{same}
 use Rattle.yv_text_statement.specs.declared.keyword.Keyword.{Keyword}
@@ -29,6 +29,14 @@ description = (word.Status, Optional) ∷ documentation
 -- these and the conditions
 abbrev pub with_if_features : Rows
 with_if_features = (word.IfFeature, Any) ∷ description
+
+-- these and `when`
+abbrev pub with_when : Rows
+with_when = (word.When, Optional) ∷ with_if_features
+
+-- these and `must`
+abbrev pub with_must_and_when : Rows
+with_must_and_when = (word.Must, Any) ∷ with_when
 
 -- what a module and a submodule share
 abbrev pub top : Rows
@@ -63,42 +71,49 @@ rows_of word.Type = (word.Base, Any) ∷ (word.Bit, Any) ∷ (word.Enum, Any)
 -- 7.5.2
 rows_of word.Container = definitions ++ (word.Action, Any) ∷ (word.Notification, Any)
     ∷ (word.Typedef, Any) ∷ (word.Grouping, Any) ∷ (word.Config, Optional)
-    ∷ (word.Presence, Optional) ∷ [] ++ with_if_features
+    ∷ (word.Presence, Optional) ∷ [] ++ with_must_and_when
+-- 7.5.4
+rows_of word.Must =
+    (word.ErrorMessage, Optional) ∷ (word.ErrorAppTag, Optional) ∷ [] ++ documentation
+-- 7.21.5
+rows_of word.When = documentation
 -- 7.6.2
 rows_of word.Leaf = (word.Type, One) ∷ (word.Units, Optional) ∷ (word.Default, Optional)
-    ∷ (word.Config, Optional) ∷ (word.Mandatory, Optional) ∷ [] ++ with_if_features
+    ∷ (word.Config, Optional) ∷ (word.Mandatory, Optional) ∷ [] ++ with_must_and_when
 -- 7.7.3
 rows_of word.LeafList = (word.Type, One) ∷ (word.Units, Optional) ∷ (word.Default, Any)
     ∷ (word.Config, Optional) ∷ (word.MinElements, Optional) ∷ (word.MaxElements, Optional)
-    ∷ (word.OrderedBy, Optional) ∷ [] ++ with_if_features
+    ∷ (word.OrderedBy, Optional) ∷ [] ++ with_must_and_when
 -- 7.8.1
 rows_of word.List = definitions ++ (word.Action, Any) ∷ (word.Notification, Any)
     ∷ (word.Typedef, Any) ∷ (word.Grouping, Any) ∷ (word.Config, Optional) ∷ (word.Key, Optional)
     ∷ (word.Unique, Any) ∷ (word.MinElements, Optional) ∷ (word.MaxElements, Optional)
-    ∷ (word.OrderedBy, Optional) ∷ [] ++ with_if_features
+    ∷ (word.OrderedBy, Optional) ∷ [] ++ with_must_and_when
 -- 7.9.1
 rows_of word.Choice = (word.Case, Any) ∷ (word.Choice, Any) ∷ (word.Container, Any)
     ∷ (word.Leaf, Any) ∷ (word.LeafList, Any) ∷ (word.List, Any) ∷ (word.Anydata, Any)
     ∷ (word.Anyxml, Any) ∷ (word.Default, Optional) ∷ (word.Config, Optional)
-    ∷ (word.Mandatory, Optional) ∷ [] ++ with_if_features
+    ∷ (word.Mandatory, Optional) ∷ [] ++ with_when
 -- 7.9.2.1
-rows_of word.Case = definitions ++ with_if_features
+rows_of word.Case = definitions ++ with_when
 -- 7.10.1
-rows_of word.Anydata = (word.Config, Optional) ∷ (word.Mandatory, Optional) ∷ [] ++ with_if_features
+rows_of word.Anydata =
+    (word.Config, Optional) ∷ (word.Mandatory, Optional) ∷ [] ++ with_must_and_when
 -- 7.11.1
-rows_of word.Anyxml = (word.Config, Optional) ∷ (word.Mandatory, Optional) ∷ [] ++ with_if_features
+rows_of word.Anyxml =
+    (word.Config, Optional) ∷ (word.Mandatory, Optional) ∷ [] ++ with_must_and_when
 -- 7.12.1
 rows_of word.Grouping = definitions ++ (word.Action, Any) ∷ (word.Notification, Any)
     ∷ (word.Typedef, Any) ∷ (word.Grouping, Any) ∷ [] ++ description
 -- 7.13.1
-rows_of word.Uses = (word.Refine, Any) ∷ (word.Augment, Any) ∷ [] ++ with_if_features
+rows_of word.Uses = (word.Refine, Any) ∷ (word.Augment, Any) ∷ [] ++ with_when
 -- 7.13.2
 rows_of word.Refine = (word.Default, Any) ∷ (word.Config, Optional) ∷ (word.Mandatory, Optional)
     ∷ (word.Presence, Optional) ∷ (word.MinElements, Optional) ∷ (word.MaxElements, Optional)
-    ∷ (word.IfFeature, Any) ∷ [] ++ documentation
+    ∷ (word.Must, Any) ∷ (word.IfFeature, Any) ∷ [] ++ documentation
 -- 7.17.1
 rows_of word.Augment = definitions ++ (word.Case, Any) ∷ (word.Action, Any)
-    ∷ (word.Notification, Any) ∷ [] ++ with_if_features
+    ∷ (word.Notification, Any) ∷ [] ++ with_when
 -- 7.14.1
 rows_of word.Rpc = (word.Input, Optional) ∷ (word.Output, Optional) ∷ (word.Typedef, Any)
     ∷ (word.Grouping, Any) ∷ [] ++ with_if_features
@@ -106,12 +121,15 @@ rows_of word.Rpc = (word.Input, Optional) ∷ (word.Output, Optional) ∷ (word.
 rows_of word.Action = (word.Input, Optional) ∷ (word.Output, Optional) ∷ (word.Typedef, Any)
     ∷ (word.Grouping, Any) ∷ [] ++ with_if_features
 -- 7.14.2.1
-rows_of word.Input = definitions ++ (word.Typedef, Any) ∷ (word.Grouping, Any) ∷ []
+rows_of word.Input =
+    definitions ++ (word.Must, Any) ∷ (word.Typedef, Any) ∷ (word.Grouping, Any) ∷ []
 -- 7.14.3.1
-rows_of word.Output = definitions ++ (word.Typedef, Any) ∷ (word.Grouping, Any) ∷ []
+rows_of word.Output =
+    definitions ++ (word.Must, Any) ∷ (word.Typedef, Any) ∷ (word.Grouping, Any) ∷ []
 -- 7.16.1
 rows_of word.Notification =
-    definitions ++ (word.Typedef, Any) ∷ (word.Grouping, Any) ∷ [] ++ with_if_features
+    definitions ++ (word.Must, Any) ∷ (word.Typedef, Any) ∷ (word.Grouping, Any) ∷ []
+    ++ with_if_features
 -- 7.18.1
 rows_of word.Identity = (word.Base, Any) ∷ [] ++ with_if_features
 -- 7.20.1.1

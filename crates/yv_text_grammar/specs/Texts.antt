@@ -4,7 +4,7 @@ use Rattle.std.specs.List.{list_all, list_any, slice_split, starts_with}
 use Rattle.std.specs.Str.{bytes_eq, trim}
 pub use Rattle.yv_text_if_feature.specs.Names.{is_start, is_part, is_identifier, is_name}
 use Rattle.yv_text_grammar.specs.Bytes.{slash}
-use Rattle.yv_text_if_feature.specs.Bytes.{dash, dot, is_blank, is_digit}
+use Rattle.yv_text_if_feature.specs.Bytes.{dash, is_blank, is_digit}
 use Rattle.yv_text_grammar.specs.Words.{words}
 use Rattle.yv_text_if_feature.specs.Tokens.{is_empty}
 
@@ -16,16 +16,6 @@ is_descendant_path text = list_all is_name (slice_split (λ b. b == slash) text)
 abbrev pub is_absolute_path : List ℕ → Bool
 is_absolute_path [] = false
 is_absolute_path (b ∷ bs) = b == slash && is_descendant_path bs
-
--- `../`, and then a descendant path or the same again
-abbrev pub is_relative_path : List ℕ → Bool
-is_relative_path (a ∷ b ∷ c ∷ rest) =
-    (a == dot && (b == dot && c == slash)) && (is_descendant_path rest || is_relative_path rest)
-is_relative_path _ = false
-
--- a leafref's path is absolute or relative (section 9.9.2, without predicates)
-abbrev pub is_leafref_path : List ℕ → Bool
-is_leafref_path text = is_absolute_path text || is_relative_path text
 
 -- not empty, and no blank at either end
 abbrev pub is_trimmed : List ℕ → Bool

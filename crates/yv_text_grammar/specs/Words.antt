@@ -1,5 +1,5 @@
 -- The words of an argument (RFC 7950, sections 6.1 and 14).
-use Rattle.std.specs.Prelude.{ℕ, Bool, not, List, filter, length, nat_eq}
+use Rattle.std.specs.Prelude.{ℕ, not, List, filter}
 use Rattle.std.specs.List.{slice_split}
 use Rattle.yv_text_if_feature.specs.Bytes.{is_blank}
 use Rattle.yv_text_if_feature.specs.Tokens.{is_empty}

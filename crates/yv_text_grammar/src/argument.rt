@@ -1,10 +1,11 @@
 //! Whether a statement's argument fits.
-ghost use Rattle.std.specs.{Prelude.{◌≡◌, ◌↔◌, IsTrue, MatchBool}, Option.{option_copied}};
-ghost use Rattle.yv_text_grammar.specs.Argument.{ArgumentFits, IfFeatureFits, argument_has, has_form};
+ghost use Rattle.std.specs.{Prelude.{◌≡◌, MatchBool}, Option.{option_copied}};
+ghost use Rattle.yv_text_grammar.specs.Argument.{ArgumentFits, IsSpelled, argument_has, has_form};
 
 use crate::form::{Form, find_form};
 use crate::{lists, text};
 use yv_text_if_feature::{is_identifier, is_if_feature, is_name};
+use yv_text_path::is_path;
 use yv_text_statement::Keyword;
 
 /// Whether the argument of a statement, in the block of a parent, is as its keyword wants it (RFC
@@ -15,16 +16,18 @@ pub fn fits(parent: Keyword, keyword: Keyword, argument: Option<&str>) -> bool
 {
     let form = find_form(parent, keyword);
     let has = argument_has(form, argument);
-    let fits = if_feature_fits(form, argument);
-    has && fits
+    let is_spelled = is_spelled(form, argument);
+    has && is_spelled
 }
 
-// Whether the expression of an `if-feature` is in its grammar.
-fn if_feature_fits(form: Form, argument: Option<&str>) -> bool
-    ensures { IsTrue result ↔ IfFeatureFits form (option_copied argument.entry) }
+// Whether the expression of an `if-feature`, or the path of a leafref, is in its grammar.
+fn is_spelled(form: Form, argument: Option<&str>) -> bool
+    ensures { MatchBool result (IsSpelled form (option_copied argument.entry))
+        (IsSpelled form (option_copied argument.entry) → ⊥) }
 {
     match (form, argument) {
         (Form::IfFeature, Some(text)) => is_if_feature(text),
+        (Form::LeafrefPath, Some(text)) => is_path(text.as_bytes()),
         _ => true,
     }
 }
@@ -60,8 +63,7 @@ fn has_form(form: Form, text: &str) -> bool
         Form::Unique => lists::is_unique(bytes),
         Form::DescendantPath => text::is_descendant_path(bytes),
         Form::AbsolutePath => text::is_absolute_path(bytes),
-        Form::LeafrefPath => text::is_leafref_path(bytes),
-        Form::IfFeature | Form::Text => true,
+        Form::LeafrefPath | Form::IfFeature | Form::Text => true,
         Form::Absent => false,
     }
 }

@@ -5,11 +5,14 @@ mod argument;
 mod distinct;
 mod form;
 mod keyword_set;
+pub mod laws;
 mod lists;
 mod refusal;
 mod table;
 mod text;
 mod words;
+mod xpath;
 
 pub use refusal::conform;
+pub use xpath::Xpath;
 pub use yv_text_statement::Keyword;

@@ -1,19 +1,20 @@
 //! What is wrong with the statements of a file.
 ghost use Rattle.std.specs.{Prelude.{◌≡◌, ◌↔◌, not, ◌&&◌, map, IfNone, IsOk}, List.{list_any}, Option.{option_copied}, Result.{result_err}};
 ghost use Rattle.yv_text_statement.specs.Order.{IsLeast};
-ghost use Rattle.yv_text_grammar.specs.{InnerEntries.{row}, InnerKeywordSet.{is_marked}, Refusals.{Bad, Faulty, CountsBadly, OwnRefusal, has_call_or_filter, is_excess, is_misplaced, is_module, is_unsupported, keyword_at}, Fits.{Fits, FitsIn, OwnFits}, Table.{is_one, occurs_in}};
+ghost use Rattle.yv_text_grammar.specs.{Conditions.{has_function, has_predicate, is_beyond, is_condition, is_unsupported}, InnerEntries.{row}, InnerKeywordSet.{is_marked}, Refusals.{Bad, Faulty, CountsBadly, OwnRefusal, is_excess, is_misplaced, is_module, keyword_at}, Fits.{Fits, FitsIn, OwnFits}, Table.{is_one, occurs_in}};
 
 use crate::argument;
 use crate::keyword_set::KeywordSet;
 use crate::table::{self, Occurs, Row};
+use crate::xpath::Xpath;
 use yv_text_statement::{Code, Keyword, Refusal, Statement, lesser, refusal_if};
 
 /// Whether the statements of a file are as the tables of RFC 7950, sections 7 and 9, say: each has
 /// the substatements that it may have, no more and no fewer, and an argument in its grammar. The
 /// refusal is the least by offset and code among
 ///
-/// - `Unsupported`: `must`, `when`, `deviation` or `deviate`, a leafref's path with a predicate or
-/// a function, or the type
+/// - `Unsupported`: `deviation` or `deviate`, or a leafref's path with a function; where conditions
+/// are refused, also `must` or `when`, a leafref's path with a predicate, or the type
 ///   `instance-identifier`;
 /// - `UnknownStatement`: a keyword without prefix that the language doesn't have;
 /// - `Cardinality`: a root that is not a module or submodule, a child that is not allowed where it
@@ -27,15 +28,15 @@ use yv_text_statement::{Code, Keyword, Refusal, Statement, lesser, refusal_if};
 /// No memory is allocated. The time is in proportion to the statements and their arguments, except
 /// for a `key`: one of n different names costs about n * n / 32,768 searches in a table, which is a
 /// second for 500,000 names.
-pub fn conform(root: &Statement) -> Result<(), Refusal>
+pub fn conform(root: &Statement, xpath: Xpath) -> Result<(), Refusal>
     // Ok exactly if the root fits the tables of substatements and the grammars of arguments.
-    ensures fits { IsOk result ↔ Fits root.now }
+    ensures fits { IsOk result ↔ Fits xpath root.now }
     // Otherwise the refusal is the least that applies.
-    ensures least { IsLeast (Bad root.now) (result_err result) }
+    ensures least { IsLeast (Bad xpath root.now) (result_err result) }
 {
     let keyword = root.kind();
     let outer = refusal_if(!is_module(keyword), Code::Cardinality, 0, root);
-    let inner = first_refusal(Keyword::Unknown, root);
+    let inner = first_refusal(xpath, Keyword::Unknown, root);
     let first = lesser(outer, inner);
     match first {
         None => Ok(()),
@@ -50,19 +51,19 @@ fn is_module(keyword: Keyword) -> bool
 }
 
 // The least refusal in a statement that is in the block of a parent; the root's parent is unknown.
-fn first_refusal(parent: Keyword, statement: &Statement) -> Option<Refusal>
-    ensures fits { IfNone result (FitsIn parent statement.now) }
-    ensures least { IsLeast (Faulty parent statement.now) result }
+fn first_refusal(xpath: Xpath, parent: Keyword, statement: &Statement) -> Option<Refusal>
+    ensures fits { IfNone result (FitsIn xpath parent statement.now) }
+    ensures least { IsLeast (Faulty xpath parent statement.now) result }
 {
     let keyword = statement.kind();
     if keyword == Keyword::Extended {
         return None;
     }
-    let own = own_refusal(parent, keyword, statement);
+    let own = own_refusal(xpath, parent, keyword, statement);
     let number = count_fault(keyword, statement);
     let mut best = None;
     for child in statement.children() {
-        let inner = first_refusal(keyword, child);
+        let inner = first_refusal(xpath, keyword, child);
         best = lesser(best, inner);
     }
     let outer = lesser(own, number);
@@ -70,13 +71,18 @@ fn first_refusal(parent: Keyword, statement: &Statement) -> Option<Refusal>
 }
 
 // The least refusal of the statement itself.
-fn own_refusal(parent: Keyword, keyword: Keyword, statement: &Statement) -> Option<Refusal>
+fn own_refusal(
+    xpath: Xpath,
+    parent: Keyword,
+    keyword: Keyword,
+    statement: &Statement,
+) -> Option<Refusal>
     requires { keyword ≡ keyword_at statement.now }
-    ensures fits { IfNone result (OwnFits parent statement.now) }
-    ensures least { IsLeast (OwnRefusal parent statement.now) result }
+    ensures fits { IfNone result (OwnFits xpath parent statement.now) }
+    ensures least { IsLeast (OwnRefusal xpath parent statement.now) result }
 {
     let argument = statement.argument();
-    let unsupported = is_unsupported(keyword, argument);
+    let unsupported = is_unsupported(xpath, keyword, argument);
     let unknown = keyword == Keyword::Unknown;
     let fits = argument::fits(parent, keyword, argument);
     let first = refusal_if(unsupported, Code::Unsupported, 0, statement);
@@ -105,22 +111,61 @@ fn count_fault(keyword: Keyword, statement: &Statement) -> Option<Refusal>
 }
 
 // Whether this statement isn't supported.
-fn is_unsupported(keyword: Keyword, argument: Option<&str>) -> bool
-    ensures { result ≡ is_unsupported keyword (option_copied argument.entry) }
+fn is_unsupported(xpath: Xpath, keyword: Keyword, argument: Option<&str>) -> bool
+    ensures { result ≡ is_unsupported xpath keyword (option_copied argument.entry) }
+{
+    is_beyond(keyword, argument) || xpath.is_refusal() && is_condition(keyword, argument)
+}
+
+// Whether this statement needs XPath.
+fn is_condition(keyword: Keyword, argument: Option<&str>) -> bool
+    ensures { result ≡ is_condition keyword (option_copied argument.entry) }
 {
     match (keyword, argument) {
-        (Keyword::Must | Keyword::When | Keyword::Deviation | Keyword::Deviate, _) => true,
-        (Keyword::Path, Some(text)) => has_call_or_filter(text.as_bytes()),
+        (Keyword::Must | Keyword::When, _) => true,
+        (Keyword::Path, Some(text)) => has_predicate(text.as_bytes()),
         (Keyword::Type, Some(text)) => text == "instance-identifier",
         _ => false,
     }
 }
 
-// Whether a path has more than names.
-fn has_call_or_filter(text: &[u8]) -> bool
-    ensures { result ≡ has_call_or_filter text.now }
+// Whether a path has a predicate.
+fn has_predicate(text: &[u8]) -> bool
+    ensures { result ≡ has_predicate text.now }
 {
-    text.iter().any(|byte| *byte == b'[' || *byte == b'(')
+    text.iter().any(|byte| *byte == b'[')
+}
+
+// Whether this statement is supported in no way.
+fn is_beyond(keyword: Keyword, argument: Option<&str>) -> bool
+    ensures { result ≡ is_beyond keyword (option_copied argument.entry) }
+{
+    match (keyword, argument) {
+        (Keyword::Deviation | Keyword::Deviate, _) => true,
+        (Keyword::Path, Some(text)) => has_function(text.as_bytes()),
+        _ => false,
+    }
+}
+
+// Whether a path has a `(` that is not between a `[` and the next `]`.
+fn has_function(text: &[u8]) -> bool
+    ensures { result ≡ has_function text.now }
+{
+    let mut is_inside = false;
+    let mut is_waiting = false;
+    for byte in text {
+        match *byte {
+            b'(' if is_inside => is_waiting = true,
+            b'(' => return true,
+            b'[' => is_inside = true,
+            b']' => {
+                is_inside = false;
+                is_waiting = false;
+            }
+            _ => {}
+        }
+    }
+    is_waiting
 }
 
 // Whether a child with this keyword may not be, or is one too many.

@@ -80,47 +80,57 @@ static TYPE: &[Row] = rows![
 static CONTAINER: &[Row] = rows![
     Container: Any, Leaf: Any, LeafList: Any, List: Any, Choice: Any, Anydata: Any, Anyxml: Any,
     Uses: Any, Action: Any, Notification: Any, Typedef: Any, Grouping: Any, Config: Optional,
-    Presence: Optional, IfFeature: Any, Status: Optional, Description: Optional,
-    Reference: Optional,
+    Presence: Optional, Must: Any, When: Optional, IfFeature: Any, Status: Optional,
+    Description: Optional, Reference: Optional,
+];
+
+static MUST: &[Row] = rows![
+    ErrorMessage: Optional, ErrorAppTag: Optional, Description: Optional, Reference: Optional,
+];
+
+static WHEN: &[Row] = rows![
+    Description: Optional, Reference: Optional,
 ];
 
 static LEAF: &[Row] = rows![
-    Type: One, Units: Optional, Default: Optional, Config: Optional, Mandatory: Optional,
-    IfFeature: Any, Status: Optional, Description: Optional, Reference: Optional,
+    Type: One, Units: Optional, Default: Optional, Config: Optional, Mandatory: Optional, Must: Any,
+    When: Optional, IfFeature: Any, Status: Optional, Description: Optional, Reference: Optional,
 ];
 
 static LEAF_LIST: &[Row] = rows![
     Type: One, Units: Optional, Default: Any, Config: Optional, MinElements: Optional,
-    MaxElements: Optional, OrderedBy: Optional, IfFeature: Any, Status: Optional,
-    Description: Optional, Reference: Optional,
+    MaxElements: Optional, OrderedBy: Optional, Must: Any, When: Optional, IfFeature: Any,
+    Status: Optional, Description: Optional, Reference: Optional,
 ];
 
 static LIST: &[Row] = rows![
     Container: Any, Leaf: Any, LeafList: Any, List: Any, Choice: Any, Anydata: Any, Anyxml: Any,
     Uses: Any, Action: Any, Notification: Any, Typedef: Any, Grouping: Any, Config: Optional,
     Key: Optional, Unique: Any, MinElements: Optional, MaxElements: Optional, OrderedBy: Optional,
-    IfFeature: Any, Status: Optional, Description: Optional, Reference: Optional,
+    Must: Any, When: Optional, IfFeature: Any, Status: Optional, Description: Optional,
+    Reference: Optional,
 ];
 
 static CHOICE: &[Row] = rows![
     Case: Any, Choice: Any, Container: Any, Leaf: Any, LeafList: Any, List: Any, Anydata: Any,
-    Anyxml: Any, Default: Optional, Config: Optional, Mandatory: Optional, IfFeature: Any,
-    Status: Optional, Description: Optional, Reference: Optional,
+    Anyxml: Any, Default: Optional, Config: Optional, Mandatory: Optional, When: Optional,
+    IfFeature: Any, Status: Optional, Description: Optional, Reference: Optional,
 ];
 
 static CASE: &[Row] = rows![
     Container: Any, Leaf: Any, LeafList: Any, List: Any, Choice: Any, Anydata: Any, Anyxml: Any,
-    Uses: Any, IfFeature: Any, Status: Optional, Description: Optional, Reference: Optional,
+    Uses: Any, When: Optional, IfFeature: Any, Status: Optional, Description: Optional,
+    Reference: Optional,
 ];
 
 static ANYDATA: &[Row] = rows![
-    Config: Optional, Mandatory: Optional, IfFeature: Any, Status: Optional, Description: Optional,
-    Reference: Optional,
+    Config: Optional, Mandatory: Optional, Must: Any, When: Optional, IfFeature: Any,
+    Status: Optional, Description: Optional, Reference: Optional,
 ];
 
 static ANYXML: &[Row] = rows![
-    Config: Optional, Mandatory: Optional, IfFeature: Any, Status: Optional, Description: Optional,
-    Reference: Optional,
+    Config: Optional, Mandatory: Optional, Must: Any, When: Optional, IfFeature: Any,
+    Status: Optional, Description: Optional, Reference: Optional,
 ];
 
 static GROUPING: &[Row] = rows![
@@ -130,19 +140,19 @@ static GROUPING: &[Row] = rows![
 ];
 
 static USES: &[Row] = rows![
-    Refine: Any, Augment: Any, IfFeature: Any, Status: Optional, Description: Optional,
-    Reference: Optional,
+    Refine: Any, Augment: Any, When: Optional, IfFeature: Any, Status: Optional,
+    Description: Optional, Reference: Optional,
 ];
 
 static REFINE: &[Row] = rows![
     Default: Any, Config: Optional, Mandatory: Optional, Presence: Optional, MinElements: Optional,
-    MaxElements: Optional, IfFeature: Any, Description: Optional, Reference: Optional,
+    MaxElements: Optional, Must: Any, IfFeature: Any, Description: Optional, Reference: Optional,
 ];
 
 static AUGMENT: &[Row] = rows![
     Container: Any, Leaf: Any, LeafList: Any, List: Any, Choice: Any, Anydata: Any, Anyxml: Any,
-    Uses: Any, Case: Any, Action: Any, Notification: Any, IfFeature: Any, Status: Optional,
-    Description: Optional, Reference: Optional,
+    Uses: Any, Case: Any, Action: Any, Notification: Any, When: Optional, IfFeature: Any,
+    Status: Optional, Description: Optional, Reference: Optional,
 ];
 
 static RPC: &[Row] = rows![
@@ -157,18 +167,18 @@ static ACTION: &[Row] = rows![
 
 static INPUT: &[Row] = rows![
     Container: Any, Leaf: Any, LeafList: Any, List: Any, Choice: Any, Anydata: Any, Anyxml: Any,
-    Uses: Any, Typedef: Any, Grouping: Any,
+    Uses: Any, Must: Any, Typedef: Any, Grouping: Any,
 ];
 
 static OUTPUT: &[Row] = rows![
     Container: Any, Leaf: Any, LeafList: Any, List: Any, Choice: Any, Anydata: Any, Anyxml: Any,
-    Uses: Any, Typedef: Any, Grouping: Any,
+    Uses: Any, Must: Any, Typedef: Any, Grouping: Any,
 ];
 
 static NOTIFICATION: &[Row] = rows![
     Container: Any, Leaf: Any, LeafList: Any, List: Any, Choice: Any, Anydata: Any, Anyxml: Any,
-    Uses: Any, Typedef: Any, Grouping: Any, IfFeature: Any, Status: Optional, Description: Optional,
-    Reference: Optional,
+    Uses: Any, Must: Any, Typedef: Any, Grouping: Any, IfFeature: Any, Status: Optional,
+    Description: Optional, Reference: Optional,
 ];
 
 static IDENTITY: &[Row] = rows![
@@ -224,6 +234,8 @@ pub fn rows(parent: Keyword) -> &'static [Row]
         Keyword::Typedef => TYPEDEF,
         Keyword::Type => TYPE,
         Keyword::Container => CONTAINER,
+        Keyword::Must => MUST,
+        Keyword::When => WHEN,
         Keyword::Leaf => LEAF,
         Keyword::LeafList => LEAF_LIST,
         Keyword::List => LIST,

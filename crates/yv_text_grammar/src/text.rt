@@ -1,6 +1,6 @@
 //! The forms of arguments that can be checked from the text only.
 ghost use Rattle.std.specs.{Prelude.{◌≡◌, ◌<◌, ◌==◌, ◌^◌}, List.{list_all}};
-ghost use Rattle.yv_text_grammar.specs.Texts.{is_absolute_path, is_date, is_descendant_path, is_enum_name, is_enum_value, is_fraction_digits, is_leafref_path, is_max_elements, is_number, is_relative_path, is_trimmed};
+ghost use Rattle.yv_text_grammar.specs.Texts.{is_absolute_path, is_date, is_descendant_path, is_enum_name, is_enum_value, is_fraction_digits, is_max_elements, is_number, is_trimmed};
 ghost use Rattle.yv_text_if_feature.specs.Bytes.{is_digit};
 
 use crate::words::is_blank;
@@ -28,26 +28,6 @@ pub fn is_absolute_path(text: &[u8]) -> bool
         None => false,
         Some((first, rest)) => *first == b'/' && is_descendant_path(rest),
     }
-}
-
-/// An absolute path, or a descendant one after one `../` or more (RFC 7950, section 9.9.2).
-pub fn is_leafref_path(text: &[u8]) -> bool
-    ensures { result ≡ is_leafref_path text.now }
-{
-    is_absolute_path(text) || is_relative_path(text)
-}
-
-fn is_relative_path(text: &[u8]) -> bool
-    ensures { result ≡ is_relative_path text.now }
-{
-    let mut rest = text;
-    while let Some(path) = rest.strip_prefix(b"../") {
-        if is_descendant_path(path) {
-            return true;
-        }
-        rest = path;
-    }
-    false
 }
 
 /// Not empty, and no blank at either end.

@@ -24,29 +24,31 @@ first_refusal-inner-requires t c =
 pub loop-child-preserved : goal.loop-child-preserved
 loop-child-preserved t c =
     let s = c.args.statement.now in
+    let x = c.args.xpath in
     let i = c.loop-child.child-index in
     let child = c.child-item.result in
     let at_child : slice_get (trees s.children) i ≡ Some child =
     rw (← c.children-child-items.ensures) (slice_get_read _ _ i child refl (omega arith) c.child-item.is) in
     let kind : c.kind-keyword.result ≡ keyword_at s = c.kind-keyword.ensures in
-    let here : IsLeast (Faulty (keyword_at s) child) c.first_refusal-inner.result = rw (← kind) c.first_refusal-inner.ensures.least in
-    let fits : IfNone c.first_refusal-inner.result (FitsIn (keyword_at s) child) = rw (← kind) c.first_refusal-inner.ensures.fits in
+    let here : IsLeast (Faulty x (keyword_at s) child) c.first_refusal-inner.result = rw (← kind) c.first_refusal-inner.ensures.least in
+    let fits : IfNone c.first_refusal-inner.result (FitsIn x (keyword_at s) child) = rw (← kind) c.first_refusal-inner.ensures.fits in
     record {
-      least = least_more (trees s.children) (λ k c. Faulty (keyword_at s) c) i child _ _ _ at_child c.lesser-best.ensures c.loop-child.invariant.least here;
-      fit = fit_more s i child _ _ _ at_child c.lesser-best.ensures c.loop-child.invariant.fit fits;
+      least = least_more (trees s.children) (λ k c. Faulty x (keyword_at s) c) i child _ _ _ at_child c.lesser-best.ensures c.loop-child.invariant.least here;
+      fit = fit_more x s i child _ _ _ at_child c.lesser-best.ensures c.loop-child.invariant.fit fits;
     }
 
 pub returns : goal.returns
 returns t c =
     let s = c.args.statement.now in
+    let x = c.args.xpath in
     let all : c.loop-child.child-index ≡ length (trees s.children) = rw (← c.children-child-items.ensures) (omega arith) in
     let kind : c.kind-keyword.result ≡ keyword_at s = c.kind-keyword.ensures in
     let plain : keyword_at s ≢ word.Extended = λ e. other _ _ (sym c.eq.ensures ∙ c.if-eq.false) (kind ∙ e) in
-    let inner : IsLeast (Inner s) c.loop-child.best = rw (← all) c.loop-child.invariant.least in
-    let fit : FitBelow s (length (trees s.children)) c.loop-child.best = rw (← all) c.loop-child.invariant.fit in
+    let inner : IsLeast (Inner x s) c.loop-child.best = rw (← all) c.loop-child.invariant.least in
+    let fit : FitBelow x s (length (trees s.children)) c.loop-child.best = rw (← all) c.loop-child.invariant.fit in
     record {
-      least = least_inside c.args.parent s _ _ _ _ _ c.lesser-outer.ensures c.lesser.ensures plain c.own_refusal-own.ensures.least c.count_fault-number.ensures inner;
-      fits = all_fit c.args.parent s _ _ _ _ _ c.lesser-outer.ensures c.lesser.ensures c.own_refusal-own.ensures.fits c.count_fault-number.ensures fit;
+      least = least_inside x c.args.parent s _ _ _ _ _ c.lesser-outer.ensures c.lesser.ensures plain c.own_refusal-own.ensures.least c.count_fault-number.ensures inner;
+      fits = all_fit x c.args.parent s _ _ _ _ _ c.lesser-outer.ensures c.lesser.ensures c.own_refusal-own.ensures.fits c.count_fault-number.ensures fit;
     }
 
 pub returns-then-eq-clause-fits : goal.returns-then-eq-clause-fits

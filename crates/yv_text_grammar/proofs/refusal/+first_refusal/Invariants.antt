@@ -6,8 +6,8 @@ use Rattle.yv_text_grammar.proofs.refusal.+first_refusal.Given as goal
 
 abbrev pub invariant-loop-child : goal.invariant-loop-child
 invariant-loop-child l = record {
-  least : IsLeast (Among (trees l.statement.children) (λ k c. Faulty (keyword_at l.statement) c) l.child-index) l.best;
-  fit : FitBelow l.statement l.child-index l.best;
+  least : IsLeast (Among (trees l.statement.children) (λ k c. Faulty l.xpath (keyword_at l.statement) c) l.child-index) l.best;
+  fit : FitBelow l.xpath l.statement l.child-index l.best;
 }
 
 abbrev pub decreases-first_refusal : goal.decreases-first_refusal

@@ -1,7 +1,8 @@
 use Rattle.std.proofs.Common.{◌≡◌, MatchBool, true, sym, ◌∙◌}
 use Rattle.yv_text_statement.specs.Order.{IsLeast, Stands, refusal_at}
 use Rattle.yv_text_grammar.specs.Argument.{ArgumentFits}
-use Rattle.yv_text_grammar.specs.Refusals.{is_unsupported, keyword_at}
+use Rattle.yv_text_grammar.specs.Conditions.{is_unsupported}
+use Rattle.yv_text_grammar.specs.Refusals.{keyword_at}
 use Rattle.yv_text_statement.specs.declared.keyword.Keyword.TheVariants as word
 use Rattle.yv_text_statement.specs.declared.refusal.Code.TheVariants as code
 use Rattle.yv_text_grammar.proofs.StatementFit.{neither, spared, told}
@@ -13,10 +14,10 @@ pub returns : goal.returns
 returns c =
     let s = c.args.statement.now in
     let at_keyword : c.args.keyword ≡ keyword_at s = c.requires in
-    let U : Type 0 = is_unsupported (keyword_at s) s.head.argument ≡ true in
+    let U : Type 0 = is_unsupported c.args.xpath (keyword_at s) s.head.argument ≡ true in
     let N : Type 0 = keyword_at s ≡ word.Unknown in
     let F : Type 0 = ArgumentFits c.args.parent (keyword_at s) s.head.argument in
-    let unsupported : c.is_unsupported-unsupported.result ≡ is_unsupported (keyword_at s) s.head.argument =
+    let unsupported : c.is_unsupported-unsupported.result ≡ is_unsupported c.args.xpath (keyword_at s) s.head.argument =
     rw (← c.requires, ← c.argument-argument.ensures) c.is_unsupported-unsupported.ensures in
     let first : IsLeast (Stands U (refusal_at code.Unsupported 0 s.head)) c.refusal_if-first.result =
     rw c.refusal_if-first.ensures (least_refused U _ _ (λ h. sym unsupported ∙ h) (λ h. unsupported ∙ h)) in
