@@ -13,6 +13,7 @@ use Rattle.yv_text_statement.specs.Keywords.{keyword_of, same}
 use Rattle.yv_text_grammar.specs.Table.{Rows as Table, occurs_in, rows_of as table_of}
 use Rattle.yv_text_grammar.specs.Refusals.{is_module, keyword_at}
 use Rattle.yv_text_grammar.specs.Fits.{FitsIn, IsAllowed, extension, occurrences, plain}
+use Rattle.yv_text_grammar.specs.declared.xpath.Xpath.TheVariants.{Skip}
 use Rattle.yv_text_grammar.proofs.KeywordCounts.{some}
 use Rattle.yv_text_grammar.proofs.Keywords.{is_same, one}
 use Rattle.yv_text_statement.specs.Words.{is_among}
@@ -106,7 +107,7 @@ none_allowed None n is h = h
 none_allowed (Some o) n is h = absurd (let bad : Some o ≡ None = is in cc)
 
 -- so none of those stands in the block of one of these that fits
-not_in : (parent : Keyword) (s t : Tree) (i : ℕ) → FitsIn parent s → slice_get (trees s.children) i ≡ Some t → is_last (keyword_at s) ≡ true
+not_in : (parent : Keyword) (s t : Tree) (i : ℕ) → FitsIn Skip parent s → slice_get (trees s.children) i ≡ Some t → is_last (keyword_at s) ≡ true
     → is_given (keyword_at t) ≡ true → ⊥
 not_in parent s t i (extension e) at last given = last_not_extended (keyword_at s) last e
 not_in parent s t i (plain own counted each) at last given =

@@ -10,6 +10,7 @@ use Rattle.yv_text_statement.specs.declared.keyword.Keyword.TheVariants as word
 use Rattle.yv_text_statement.specs.Keywords.{keyword_in, keyword_of, names}
 use Rattle.yv_text_grammar.specs.Refusals.{is_module, keyword_at}
 use Rattle.yv_text_grammar.specs.Fits.{FitsIn, extension, plain}
+use Rattle.yv_text_grammar.specs.declared.xpath.Xpath.TheVariants.{Skip}
 use Rattle.yv_link_scopes.specs.Files.{Files}
 use Rattle.yv_link_scopes.specs.Rows.{is_extended}
 use Rattle.yv_link_scopes.specs.RowList.{inner_statements, statements_in, statements_of}
@@ -25,15 +26,15 @@ second false b h = h
 
 abbrev AllFit : List Tree → Type 0
 AllFit [] = Unit {0}
-AllFit (c ∷ cs) = ((parent : Keyword) × FitsIn parent c) × AllFit cs
+AllFit (c ∷ cs) = ((parent : Keyword) × FitsIn Skip parent c) × AllFit cs
 
 both_fit : (xs ys : List Tree) → AllFit xs → AllFit ys → AllFit (xs ++ ys)
 both_fit [] ys p q = q
 both_fit (x ∷ xs) ys p q = (p.0, both_fit xs ys p.1 q)
 
-fits_at : (xs : List Tree) (k : ℕ) (c : Tree) → AllFit xs → slice_get xs k ≡ Some c → (parent : Keyword) × FitsIn parent c
+fits_at : (xs : List Tree) (k : ℕ) (c : Tree) → AllFit xs → slice_get xs k ≡ Some c → (parent : Keyword) × FitsIn Skip parent c
 fits_at [] k c p at = cc
-fits_at (x ∷ xs) zero c p at = subst (λ (y : Tree). (parent : Keyword) × FitsIn parent y) (same_Some x c at) p.0
+fits_at (x ∷ xs) zero c p at = subst (λ (y : Tree). (parent : Keyword) × FitsIn Skip parent y) (same_Some x c at) p.0
 fits_at (x ∷ xs) (suc k) c p at = fits_at xs k c p.1 at
 
 abbrev is_of_extension : Keyword → Bool
@@ -59,13 +60,13 @@ inner_fit : (extended : Bool) (text : List ℕ) (cs : Forest) → is_extended te
 inner_fit true text cs e all = tt
 inner_fit false text cs e all = all e
 
-children_fit : (parent : Keyword) (t : Tree) → FitsIn parent t → keyword_at t ≢ word.Extended → (k : ℕ) (c : Tree)
-    → slice_get (trees t.children) k ≡ Some c → FitsIn (keyword_at t) c
+children_fit : (parent : Keyword) (t : Tree) → FitsIn Skip parent t → keyword_at t ≢ word.Extended → (k : ℕ) (c : Tree)
+    → slice_get (trees t.children) k ≡ Some c → FitsIn Skip (keyword_at t) c
 children_fit parent t (extension e) other k c at = absurd (other e)
 children_fit parent t (plain own counted each) other k c at = each k c at
 
 -- all numbered statements of a block
-block_fits : (parent : Keyword) (block : Forest) → ((k : ℕ) (c : Tree) → slice_get (trees block) k ≡ Some c → FitsIn parent c) → AllFit (statements_in block)
+block_fits : (parent : Keyword) (block : Forest) → ((k : ℕ) (c : Tree) → slice_get (trees block) k ≡ Some c → FitsIn Skip parent c) → AllFit (statements_in block)
 block_fits parent End fit = tt
 block_fits parent (Then h c o) fit =
     let s : Tree = record { head = h; children = c } in (
@@ -91,6 +92,6 @@ root_all_fit : (files : Files) → Conform files → AllFit files
 root_all_fit [] fine = tt
 root_all_fit (t ∷ ts) fine = ((word.Unknown, (fine 0 t refl).1), root_all_fit ts (λ n u at. fine (suc n) u at))
 
-pub statement_fits : (files : Files) (k : ℕ) (t : Tree) → Conform files → slice_get (statements_of files) k ≡ Some t → (parent : Keyword) × FitsIn parent t
+pub statement_fits : (files : Files) (k : ℕ) (t : Tree) → Conform files → slice_get (statements_of files) k ≡ Some t → (parent : Keyword) × FitsIn Skip parent t
 statement_fits files k t fine at =
     fits_at (statements_of files) k t (both_fit files (inner_statements files) (root_all_fit files fine) (inner_all_fit files fine)) at

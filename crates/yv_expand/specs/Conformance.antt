@@ -2,14 +2,15 @@
 use Rattle.std.specs.Prelude.{◌≡◌, ℕ, ◌||◌, Bool, List, [], ◌∷◌, Some, codes, slice_get}
 use Rattle.yv_text_statement.specs.Tree.{Tree}
 use Rattle.yv_text_grammar.specs.Fits.{Fits}
+use Rattle.yv_text_grammar.specs.declared.xpath.Xpath.TheVariants.{Skip}
 use Rattle.yv_text_statement.specs.Words.{is_among}
 use Rattle.yv_link_scopes.specs.Files.{Files}
 use Rattle.yv_link_scopes.specs.Rows.{Row}
 use Rattle.yv_expand_statements.specs.Units.{nodes, operations}
 
--- each file conforms
+-- each file conforms, where conditions are skipped
 abbrev pub Conform : Files → Type 0
-Conform files = (n : ℕ) (root : Tree) → slice_get files n ≡ Some root → Fits root
+Conform files = (n : ℕ) (root : Tree) → slice_get files n ≡ Some root → Fits Skip root
 
 -- a leaf, leaf-list, anydata or anyxml: no schema node is below one
 abbrev pub lowest : List (List ℕ)

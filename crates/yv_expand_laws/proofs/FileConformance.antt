@@ -12,6 +12,8 @@ use Rattle.yv_text_statement.specs.declared.refusal.Refusal.{Refusal}
 use Rattle.yv_text_grammar.specs.declared.table.Occurs.{Occurs}
 use Rattle.yv_text_grammar.specs.Fits.{Fits, FitsIn, IsAllowed, extension, occurrences, plain}
 use Rattle.yv_text_grammar.specs.Refusals.{Bad, is_module, keyword_at}
+use Rattle.yv_text_grammar.specs.declared.xpath.Xpath.{Xpath}
+use Rattle.yv_text_grammar.specs.declared.xpath.Xpath.TheVariants.{Skip}
 use Rattle.yv_text_grammar.specs.Table.{occurs_in, rows_of as table_of}
 use Rattle.yv_link_scopes.specs.Files.{Files, has_word}
 use Rattle.yv_link_scopes.specs.RowList.{rows_of, statements_of}
@@ -27,19 +29,19 @@ use Rattle.yv_expand_laws.specs.Impositions.{UsesAreOptional}
 -- a file of which nothing is refused conforms
 -- (yv_expand::conformance_laws::what_is_not_refused_fits)
 abbrev pub FitsUnlessBad : Type 0
-FitsUnlessBad = (t : Tree) → ((f : Refusal) → Bad t f → ⊥) → Fits t
+FitsUnlessBad = (x : Xpath) (t : Tree) → ((f : Refusal) → Bad x t f → ⊥) → Fits x t
 
 -- each numbered statement fits (yv_expand::conformance_laws::numbered_statements_fit)
 abbrev pub StatementsFit : Type 0
 StatementsFit =
-    (files : Files) (k : ℕ) (t : Tree) → Conform files → slice_get (statements_of files) k ≡ Some t → (parent : Keyword) × FitsIn parent t
+    (files : Files) (k : ℕ) (t : Tree) → Conform files → slice_get (statements_of files) k ≡ Some t → (parent : Keyword) × FitsIn Skip parent t
 
 -- statements have the heads of their rows (yv_link_scopes::laws::statements_have_their_rows)
 abbrev pub HaveRows : Type 0
 HaveRows = (files : Files) → map (λ t. t.head) (statements_of files) ≡ map (λ r. r.head) (rows_of files)
 
 pub conform : FitsUnlessBad → (files : Files) → NoFileIsBad files → Conform files
-conform fits files none n t at = fits t (none n t at)
+conform fits files none n t at = fits Skip t (none n t at)
 
 pub augment_word : keyword_of (codes "augment") ≡ word.Augment
 unfolding keyword_of
@@ -59,7 +61,7 @@ none_allowed None n is h = h
 none_allowed (Some o) n is h = absurd (let bad : Some o ≡ None = is in cc)
 
 -- what the table of a statement doesn't name doesn't stand in its block
-pub none_stands : (parent : Keyword) (s : Tree) (k : Keyword) → FitsIn parent s → keyword_at s ≢ word.Extended → k ≢ word.Extended
+pub none_stands : (parent : Keyword) (s : Tree) (k : Keyword) → FitsIn Skip parent s → keyword_at s ≢ word.Extended → k ≢ word.Extended
     → occurs_in (table_of (keyword_at s)) k ≡ None → occurrences k (trees s.children) ≡ 0
 none_stands parent s k (extension e) known other none = absurd (known e)
 none_stands parent s k (plain own counted each) known other none =

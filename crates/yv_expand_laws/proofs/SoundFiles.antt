@@ -14,6 +14,7 @@ use Rattle.yv_text_statement.specs.declared.keyword.Keyword.{Keyword}
 use Rattle.yv_text_statement.specs.declared.keyword.Keyword.TheVariants as word
 use Rattle.yv_text_statement.specs.declared.refusal.Code.TheVariants as code
 use Rattle.yv_text_grammar.specs.Fits.{FitsIn, occurrences}
+use Rattle.yv_text_grammar.specs.declared.xpath.Xpath.TheVariants.{Skip}
 use Rattle.yv_text_grammar.specs.Refusals.{keyword_at}
 use Rattle.yv_text_grammar.specs.Table.{occurs_in, rows_of as table_of}
 use Rattle.yv_text_grammar.proofs.KeywordCounts.{some}
@@ -149,7 +150,7 @@ unfolding table_of
 no_output = refl
 
 -- what the table of augments doesn't name stands in the block of none
-not_there : (parent : Keyword) (s t : Tree) (i : ℕ) (k : Keyword) → FitsIn parent s → keyword_at s ≡ word.Augment
+not_there : (parent : Keyword) (s t : Tree) (i : ℕ) (k : Keyword) → FitsIn Skip parent s → keyword_at s ≡ word.Augment
     → slice_get (trees s.children) i ≡ Some t → keyword_at t ≡ k → k ≢ word.Extended → occurs_in (table_of word.Augment) k ≡ None → ⊥
 not_there parent s t i k fits augment at is other none =
     let known : keyword_at s ≢ word.Extended = λ x. (let bad : word.Augment ≡ word.Extended = sym augment ∙ x in cc) in
@@ -158,7 +159,7 @@ not_there parent s t i k fits augment at is other none =
     let some_stand : 0 < occurrences k (trees s.children) = some k (trees s.children) i t at (is_same (keyword_at t) k is) in
     omega (arith, zero_there, some_stand)
 
-not_part : (parent : Keyword) (s t : Tree) (i : ℕ) → FitsIn parent s → keyword_at s ≡ word.Augment → slice_get (trees s.children) i ≡ Some t
+not_part : (parent : Keyword) (s t : Tree) (i : ℕ) → FitsIn Skip parent s → keyword_at s ≡ word.Augment → slice_get (trees s.children) i ≡ Some t
     → is_part t.head.keyword ≡ true → ⊥
 not_part parent s t i fits augment at part = by (bytes_eq t.head.keyword (codes "input")) refl part
   where

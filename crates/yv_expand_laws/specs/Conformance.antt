@@ -8,6 +8,7 @@ use Rattle.yv_text_statement.specs.declared.refusal.Refusal.{Refusal}
 use Rattle.yv_text_statement.specs.Selection.{ModuleChoice}
 use Rattle.yv_text_statement.specs.Tree.{Tree}
 use Rattle.yv_text_grammar.specs.Refusals.{Bad}
+use Rattle.yv_text_grammar.specs.declared.xpath.Xpath.TheVariants.{Skip}
 use Rattle.yv_link_scopes.specs.Files.{Files}
 use Rattle.yv_link_scopes.specs.RowList.{rows_of}
 use Rattle.yv_link_features.specs.On.{Holds}
@@ -25,9 +26,10 @@ use Rattle.yv_expand_laws.specs.Files.{ShowFiles}
 use Rattle.yv_expand_laws.specs.Schema.{shown_nodes}
 use Rattle.yv_expand_laws.specs.Shows.{Items}
 
--- nothing is refused of any of the files by itself
+-- nothing is refused of any of the files by itself, where conditions are skipped
 abbrev pub NoFileIsBad : Files → Type 0
-NoFileIsBad files = (n : ℕ) (t : Tree) → slice_get files n ≡ Some t → IsLeast (Bad t) None
+NoFileIsBad files = (n : ℕ) (t : Tree) → slice_get files n ≡ Some t
+    → IsLeast (Bad Skip t) None
 
 -- nothing is refused of the files by themselves and of the names of their definitions, and their
 -- statements can be numbered

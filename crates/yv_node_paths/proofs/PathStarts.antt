@@ -9,6 +9,7 @@ use Rattle.yv_expand.proofs.StatementFit.{statement_fits}
 use Rattle.yv_link_scopes.specs.Files.{Files}
 use Rattle.yv_link_scopes.specs.RowList.{statements_of}
 use Rattle.yv_node_paths.specs.Referral.{climbs_of}
+use Rattle.yv_text_grammar.specs.declared.xpath.Xpath.TheVariants.{Skip}
 use Rattle.yv_node_paths.proofs.PathTexts.{begins_within}
 
 pub begins_in_files : (files : Files) (k j : ℕ) (t c : Tree) (text : List ℕ) → Conform files → slice_get (statements_of files) k ≡ Some t
@@ -16,4 +17,4 @@ pub begins_in_files : (files : Files) (k j : ℕ) (t c : Tree) (text : List ℕ)
     → climbs_of text ≢ Some 0
 begins_in_files files k j t c text fine at other inner is says none =
     let (parent, fits) = statement_fits files k t fine at in
-    begins_within parent t c j text fits other inner is says none
+    begins_within Skip parent t c j text fits other inner is says none

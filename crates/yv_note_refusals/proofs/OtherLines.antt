@@ -11,6 +11,7 @@ use Rattle.yv_text_statement.specs.Order.{IsLeast}
 use Rattle.yv_text_statement.specs.Tree.{Tree}
 use Rattle.yv_text_statement.specs.declared.refusal.Refusal.{Refusal}
 use Rattle.yv_text_grammar.specs.Refusals.{Bad}
+use Rattle.yv_text_grammar.specs.declared.xpath.Xpath.TheVariants.{Refuse}
 use Rattle.yv_base_positions.specs.Column.{is_line_feed}
 use Rattle.yv_base_streams.specs.Files.{File}
 use Rattle.yv_source.specs.FileStatements.{IsRead}
@@ -152,13 +153,13 @@ others_short phase fs text are =
 
 -- ### one file
 
-unfit_alone : (f : File) (ts roots : List Tree) (r : Refusal) → AllZip IsRead (f ∷ []) ts → roots ≡ ts → (root : Tree) × (others : List Tree) × (roots ≡ root ∷ others) × IsLeast (Bad root) (Some r) → IsRefusedAlone f r
+unfit_alone : (f : File) (ts roots : List Tree) (r : Refusal) → AllZip IsRead (f ∷ []) ts → roots ≡ ts → (root : Tree) × (others : List Tree) × (roots ≡ root ∷ others) × IsLeast (Bad Refuse root) (Some r) → IsRefusedAlone f r
 unfit_alone f ts roots r each same (root, others, e, least) =
     let read = subst (λ (xs : List Tree). AllZip IsRead (f ∷ []) xs) (sym same ∙ e) each in
     unfit root read.0 least
 
 -- the only statement of a file, where it is not as the tables say
-pub unfit_if : (f : File) (ts roots : List Tree) (found : Option Refusal) → AllZip IsRead (f ∷ []) ts → roots ≡ ts → IfSome found (λ r. (root : Tree) × (others : List Tree) × (roots ≡ root ∷ others) × IsLeast (Bad root) (Some r))
+pub unfit_if : (f : File) (ts roots : List Tree) (found : Option Refusal) → AllZip IsRead (f ∷ []) ts → roots ≡ ts → IfSome found (λ r. (root : Tree) × (others : List Tree) × (roots ≡ root ∷ others) × IsLeast (Bad Refuse root) (Some r))
     → IfSome found (IsRefusedAlone f)
 unfit_if f ts roots None each same is = tt
 unfit_if f ts roots (Some r) each same is = unfit_alone f ts roots r each same is

@@ -5,6 +5,7 @@ use Rattle.yv_text_statement.specs.Order.{IsLeast}
 use Rattle.yv_text_statement.specs.Tree.{Tree}
 use Rattle.yv_text_statement.specs.declared.refusal.Refusal.{Refusal}
 use Rattle.yv_text_grammar.specs.Refusals.{Bad}
+use Rattle.yv_text_grammar.specs.declared.xpath.Xpath.TheVariants.{Refuse}
 use Rattle.yv_base_positions.specs.Column.{column}
 use Rattle.yv_base_streams.specs.Files.{File}
 use Rattle.yv_source.specs.FileStatements.{IsRead, IsUnreadAt}
@@ -22,7 +23,7 @@ front_text f r =
 -- tables of the language say
 pub data IsRefusedAlone (f : File) (r : Refusal) : Type 0 where
   unread : IsUnreadAt (f ∷ []) r → IsRefusedAlone f r
-  unfit : (t : Tree) → IsRead f t → IsLeast (Bad t) (Some r) → IsRefusedAlone f r
+  unfit : (t : Tree) → IsRead f t → IsLeast (Bad Refuse t) (Some r) → IsRefusedAlone f r
 
 -- the line on a refusal of a file: its front, and what a terminal is given of a sentence
 pub record IsLineOn (f : File) (r : Refusal) (line : List ℕ) : Type 0 where

@@ -1,7 +1,7 @@
 //! The other files that are refused, beside the one that is reported.
 ghost use Rattle.std.specs.Prelude.{◌≡◌, ◌<◌, ◌≤◌, ◌+◌, ◌++◌, ◌∷◌, [], List, Some, map, drop, length, true, count_by, string_bytes, IfOk, IfSome, OnOk};
 ghost use Rattle.yv_text_statement.specs.{Codes.{phase_of}, Order.{IsLeast}, Tree.{Tree}};
-ghost use Rattle.yv_text_grammar.specs.Refusals.{Bad};
+ghost use Rattle.yv_text_grammar.specs.{Refusals.{Bad}, declared.xpath.Xpath.TheVariants.{Refuse}};
 ghost use Rattle.yv_base_positions.specs.Column.{is_line_feed};
 ghost use Rattle.yv_base_streams.specs.Files.{file_of};
 ghost use Rattle.yv_note_text.specs.Clear.{is_clear};
@@ -14,7 +14,7 @@ use yv_base_positions::column_of;
 use yv_base_streams::Input;
 use yv_job::Job;
 use yv_note_lines::{push_line, push_visible};
-use yv_source::{Texts, conform};
+use yv_source::{Texts, Xpath, conform};
 use yv_text_statement::{Refusal, Statement, Stop};
 
 /// How many files get a line.
@@ -139,10 +139,10 @@ fn refusal_alone(alloc: Global, input: &Input) -> Result<Option<Refusal>, AllocE
 fn first_unfit(roots: &[Statement<'_>]) -> Option<Refusal>
     ensures { IfSome result
         (λ r. (root : Tree) × (others : List Tree) × (roots.now ≡ root ∷ others)
-        × IsLeast (Bad root) (Some r)) }
+        × IsLeast (Bad Refuse root) (Some r)) }
 {
     match roots {
-        [root, ..] => conform(root).err(),
+        [root, ..] => conform(root, Xpath::Refuse).err(),
         [] => None,
     }
 }

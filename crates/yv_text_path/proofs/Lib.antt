@@ -8,3 +8,4 @@ pub mod PathsRead
 pub mod Completion
 pub mod BarePaths
 pub mod PlainForm
+pub mod Beginnings

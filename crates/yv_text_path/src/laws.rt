@@ -1,5 +1,5 @@
 //! Laws about the definitions only.
-ghost use Rattle.std.specs.Prelude.{◌≡◌, ◌↔◌, ◌⊎◌, ℕ, List, ◌++◌, codes, Contains, IsTrue};
+ghost use Rattle.std.specs.Prelude.{◌≡◌, ◌↔◌, ◌⊎◌, ℕ, List, Contains, IsTrue};
 ghost use Rattle.yv_text_path.specs.{Bytes.{opening_bracket}, Paths.{IsPath}, PlainPaths.{is_plain_path}};
 
 /// A path has one path without predicates, and its predicates have one list of names.
@@ -30,11 +30,4 @@ pub fn a_text_is_a_path_or_none()
     ensures { (text : List ℕ)
         → ((bare : List ℕ) × (names : List (List ℕ)) × IsPath text bare names)
         ⊎ ((bare : List ℕ) (names : List (List ℕ)) → IsPath text bare names → ⊥) }
-{}
-
-/// The path of a leafref is absolute, or begins with `../`.
-pub fn paths_begin()
-    ensures { (text bare : List ℕ) (names : List (List ℕ)) → IsPath text bare names
-        → ((rest : List ℕ) × (text ≡ codes "/" ++ rest))
-        ⊎ ((rest : List ℕ) × (text ≡ codes "../" ++ rest)) }
 {}
