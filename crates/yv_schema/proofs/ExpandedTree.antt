@@ -17,6 +17,8 @@ use Rattle.yv_expand_definition.specs.Gives.{Wrong}
 use Rattle.yv_expand_definition.specs.Refusals.{BadExpanded}
 use Rattle.yv_expand_tree.specs.FinalTree.{AreKept, FinalTreeView}
 use Rattle.yv_expand_tree.specs.Refusals.{BadExpansion}
+use Rattle.yv_text_grammar.specs.declared.xpath.Xpath.TheVariants.{Refuse}
+use Rattle.yv_schema.proofs.RequiredLinks.{SkippingSpares}
 use Rattle.yv_expand_laws.specs.Conformance.{AreAccepted, ConformingRefusalsAreOne, NoFileIsBad}
 use Rattle.yv_expand_laws.specs.Files.{HaveRoots}
 use Rattle.yv_expand_laws.specs.LeftSchema.{LeftIsSchema}
@@ -52,6 +54,7 @@ on_ok_from (Err e) p c to = tt
 
 -- what laws say of files that conform, and of the items of their final tree
 pub record TreeLaws : Type 0 where
+  pub skipping : SkippingSpares
   pub left_is_schema : (files : Files) → LeftIsSchema files
   pub sound : (files : Files) → AreAccepted files → AreSound files
   pub roots : (files : Files) → NoFileIsBad files → HaveRoots files
@@ -60,7 +63,7 @@ pub record TreeLaws : Type 0 where
 module _ (laws : TreeLaws) (choice : ModuleChoice) (files : Files) (linked : Linked) (names : Names) (named : AreNamed choice files linked names) where
   accepted : AreAccepted files
   accepted = record {
-    each = λ n t at f bad. named.clear.own (in_file n f) (n, slice_get_within files n t at, t, at, record { own = f; stands = bad; is = refl });
+    each = λ n t at f bad. named.clear.own (in_file n f) (n, slice_get_within files n t at, t, at, record { own = f; stands = laws.skipping Refuse t f bad; is = refl });
     names = named.fine;
     few = named.clear.statements;
   }

@@ -12,6 +12,7 @@ use Rattle.yv_text_statement.specs.declared.keyword.Keyword.TheVariants as word
 use Rattle.yv_text_statement.specs.Keywords.{keyword_of}
 use Rattle.yv_text_grammar.specs.Argument.{argument_has}
 use Rattle.yv_text_grammar.specs.Refusals.{keyword_at}
+use Rattle.yv_text_grammar.specs.declared.xpath.Xpath.TheVariants.{Skip}
 use Rattle.yv_text_grammar.specs.Fits.{Fits, FitsIn, extension, plain}
 use Rattle.yv_text_grammar.specs.Forms.{form_of}
 use Rattle.yv_link_scopes.specs.Files.{Files, has_word}
@@ -35,7 +36,7 @@ use Rattle.yv_node_leafrefs.specs.Schema.{Referral}
 use Rattle.yv_schema.specs.Referrals.{referral_of_path, referral_of, referral_at}
 
 abbrev pub Conform : Files → Type 0
-Conform files = (n : ℕ) (root : Tree) → slice_get files n ≡ Some root → Fits root
+Conform files = (n : ℕ) (root : Tree) → slice_get files n ≡ Some root → Fits Skip root
 
 abbrev pub Headed : Files → Type 0
 Headed files = map (λ (t : Tree). t.head) (statements_of files) ≡ map (λ (r : Row). r.head) (rows_of files)
@@ -81,12 +82,12 @@ lacks : (parent keyword : Keyword) → keyword ≡ word.Path → argument_has (f
 unfolding form_of
 lacks parent keyword is has = false≢true (ap (λ (k : Keyword). argument_has (form_of parent k) None) (sym is) ∙ has)
 
-written : (parent : Keyword) (c : Tree) → FitsIn parent c → keyword_at c ≡ word.Path → c.head.argument ≡ None → ⊥
+written : (parent : Keyword) (c : Tree) → FitsIn Skip parent c → keyword_at c ≡ word.Path → c.head.argument ≡ None → ⊥
 written parent c (extension e) is none = let bad : word.Extended ≡ word.Path = sym e ∙ is in absurd (cc)
 written parent c (plain own counted each) is none =
     lacks parent (keyword_at c) is (ap (argument_has (form_of parent (keyword_at c))) (sym none) ∙ own.argument.0)
 
-child_fits : (parent : Keyword) (t c : Tree) (j : ℕ) → FitsIn parent t → keyword_at t ≢ word.Extended → slice_get (trees t.children) j ≡ Some c → FitsIn (keyword_at t) c
+child_fits : (parent : Keyword) (t c : Tree) (j : ℕ) → FitsIn Skip parent t → keyword_at t ≢ word.Extended → slice_get (trees t.children) j ≡ Some c → FitsIn Skip (keyword_at t) c
 child_fits parent t c j (extension e) other at = absurd (other e)
 child_fits parent t c j (plain own counted each) other at = each j c at
 

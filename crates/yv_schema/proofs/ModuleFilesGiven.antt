@@ -16,6 +16,7 @@ use Rattle.yv_text_statement.specs.contracts.keyword.Keyword.{the_type}
 use Rattle.yv_text_statement.specs.declared.keyword.Keyword.{Keyword}
 use Rattle.yv_text_statement.specs.declared.keyword.Keyword.TheVariants as word
 use Rattle.yv_text_grammar.specs.Refusals.{Bad, has, keyword_at, number}
+use Rattle.yv_text_grammar.specs.declared.xpath.Xpath.TheVariants.{Refuse}
 use Rattle.yv_text_grammar.specs.Refusals.{is_module as is_module_word}
 use Rattle.yv_text_grammar.specs.Table.{is_one}
 use Rattle.yv_text_grammar.specs.Table.{rows_of as table_of}
@@ -81,7 +82,7 @@ of_two word.Module h = inl refl
 of_two word.Submodule h = inr refl
 of_two _ h = absurd (false≢true h)
 
-root_kind : (t : Tree) → ((f : Refusal) → Bad t f → ⊥) → (keyword_at t ≡ word.Module) ⊎ (keyword_at t ≡ word.Submodule)
+root_kind : (t : Tree) → ((f : Refusal) → Bad Refuse t f → ⊥) → (keyword_at t ≡ word.Module) ⊎ (keyword_at t ≡ word.Submodule)
 root_kind t fine = elim (cases_Bool (is_module_word (keyword_at t))) [
   | inl is ↦ of_two (keyword_at t) is
   | inr isn't ↦ absurd (fine (refusal_at code.Cardinality 0 t.head) (inl (isn't, refl)))
@@ -92,7 +93,7 @@ lacks : (cs : List Tree) → has word.BelongsTo cs ≡ false → list_any (λ r.
 unfolding table_of
 lacks cs h = rw h refl
 
-belonging : (t : Tree) → ((f : Refusal) → Bad t f → ⊥) → keyword_at t ≡ word.Submodule → has word.BelongsTo (trees t.children) ≡ true
+belonging : (t : Tree) → ((f : Refusal) → Bad Refuse t f → ⊥) → keyword_at t ≡ word.Submodule → has word.BelongsTo (trees t.children) ≡ true
 belonging t fine is = elim (cases_Bool (has word.BelongsTo (trees t.children))) [
   | inl there ↦ there
   | inr absent ↦
@@ -184,7 +185,7 @@ no_include : (h : Head) → has_word (codes "belongs-to") h ≡ true → has_wor
 no_include h e = ap (λ w. bytes_eq w (codes "include")) ((bytes_eq-Decides h.keyword (codes "belongs-to")).0 e)
 
 -- a submodule's module is one of the files
-module _ (choice : ModuleChoice) (files : Files) (fine : (n : ℕ) (t : Tree) (f : Refusal) → slice_get files n ≡ Some t → Bad t f → ⊥)
+module _ (choice : ModuleChoice) (files : Files) (fine : (n : ℕ) (t : Tree) (f : Refusal) → slice_get files n ≡ Some t → Bad Refuse t f → ⊥)
     (linked : (f : Refusal) → BadLinks files f → ⊥) where
   link_named : (r : Row) → IsIn r (rows_of files) → has_word (codes "belongs-to") r.head ≡ true → (m : ℕ) × (file_named (map brief_of files) (name_in r) ≡ Some m)
   link_named r (j, at) belongs =

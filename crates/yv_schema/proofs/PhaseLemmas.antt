@@ -18,6 +18,7 @@ use Rattle.yv_text_grammar.specs.declared.form.Form.TheVariants as form
 use Rattle.yv_text_statement.specs.Keywords.{keyword_of}
 use Rattle.yv_text_grammar.specs.Argument.{ArgumentFits, argument_has}
 use Rattle.yv_text_grammar.specs.Refusals.{Bad, keyword_at, own}
+use Rattle.yv_text_grammar.specs.declared.xpath.Xpath.TheVariants.{Refuse}
 use Rattle.yv_text_grammar.specs.Forms.{form_of}
 use Rattle.yv_text_grammar.specs.Texts.{is_identifier, is_part, is_start}
 use Rattle.yv_text_statement.specs.Selection.{ModuleChoice, is_implemented}
@@ -98,7 +99,7 @@ named_by None h = absurd (false≢true h)
 named_by (Some text) h = h
 
 -- a module that is as the tables say has an identifier as its name
-module_named : (t : Tree) → is_module t ≡ true → ((f : Refusal) → Bad t f → ⊥) → is_identifier (tree_name t) ≡ true
+module_named : (t : Tree) → is_module t ≡ true → ((f : Refusal) → Bad Refuse t f → ⊥) → is_identifier (tree_name t) ≡ true
 module_named t given fine = elim (cases_Bool (argument_has form.Identifier t.head.argument)) [
   | inl fits ↦ named_by t.head.argument fits
   | inr unfit ↦
@@ -125,7 +126,7 @@ own_name briefs n g h = by (file_named briefs g.name) refl (not_false (is_at n (
         e ∙ ap Some same
 
 module _ (choice : ModuleChoice) (files : Files) (fine : (f : Refusal) → Among files BadFile (length files) f → ⊥) (linked : (f : Refusal) → BadLinks files f → ⊥) where
-  fine_at : (n : ℕ) (t : Tree) (f : Refusal) → slice_get files n ≡ Some t → Bad t f → ⊥
+  fine_at : (n : ℕ) (t : Tree) (f : Refusal) → slice_get files n ≡ Some t → Bad Refuse t f → ⊥
   fine_at n t f at bad =
       fine (record { code = f.code; file = n; offset = f.offset; line = f.line }) (n, slice_get_within files n t at, t, at, record { own = f; stands = bad; is = refl })
 

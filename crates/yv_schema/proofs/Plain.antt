@@ -17,6 +17,7 @@ use Rattle.yv_text_grammar.specs.declared.form.Form.TheVariants as form
 use Rattle.yv_text_statement.specs.Keywords.{keyword_in, keyword_of, names}
 use Rattle.yv_text_grammar.specs.Argument.{argument_has}
 use Rattle.yv_text_grammar.specs.Refusals.{Bad, Faulty, is_module, keyword_at, own, below}
+use Rattle.yv_text_grammar.specs.declared.xpath.Xpath.TheVariants.{Refuse}
 use Rattle.yv_text_grammar.specs.Forms.{form_of}
 use Rattle.yv_text_grammar.specs.Texts.{is_identifier, is_part, is_start}
 use Rattle.yv_node_statements.specs.Definitions.{kind_of, node_name, refined_definition}
@@ -43,7 +44,7 @@ second false b h = h
 
 -- nothing is wrong at a statement, nor below it, in the block of a parent
 abbrev Clean : Keyword → Tree → Type 0
-Clean parent s = (f : Refusal) → Faulty parent s f → ⊥
+Clean parent s = (f : Refusal) → Faulty Refuse parent s f → ⊥
 
 abbrev AllClean : List Tree → Type 0
 AllClean [] = Unit {0}
@@ -94,22 +95,22 @@ block_clean parent (Then h c o) own_clean =
     )
 
 -- a root of which nothing is refused is a module or a submodule
-module_word : (t : Tree) → ((f : Refusal) → slice_get (t ∷ []) 0 ≡ Some t → Bad t f → ⊥) → keyword_at t ≢ word.Extended
+module_word : (t : Tree) → ((f : Refusal) → slice_get (t ∷ []) 0 ≡ Some t → Bad Refuse t f → ⊥) → keyword_at t ≢ word.Extended
 module_word t fine e = fine (refusal_at code.Cardinality 0 t.head) refl (inl (ap is_module e, refl))
 
 -- all numbered statements of files
-inner_all_clean : (files : Files) → ((n : ℕ) (t : Tree) (f : Refusal) → slice_get files n ≡ Some t → Bad t f → ⊥) → AllClean (inner_statements files)
+inner_all_clean : (files : Files) → ((n : ℕ) (t : Tree) (f : Refusal) → slice_get files n ≡ Some t → Bad Refuse t f → ⊥) → AllClean (inner_statements files)
 inner_all_clean [] fine = tt
 inner_all_clean (t ∷ ts) fine =
     both_clean (statements_in t.children) (inner_statements ts)
     (block_clean (keyword_at t) t.children (λ k c at f bad. fine 0 t f refl (inr (below k c (module_word t (fine 0 t)) at bad))))
     (inner_all_clean ts (λ n u f at bad. fine (suc n) u f at bad))
 
-root_all_clean : (files : Files) → ((n : ℕ) (t : Tree) (f : Refusal) → slice_get files n ≡ Some t → Bad t f → ⊥) → AllClean files
+root_all_clean : (files : Files) → ((n : ℕ) (t : Tree) (f : Refusal) → slice_get files n ≡ Some t → Bad Refuse t f → ⊥) → AllClean files
 root_all_clean [] fine = tt
 root_all_clean (t ∷ ts) fine = ((word.Unknown, λ f bad. fine 0 t f refl (inr bad)), root_all_clean ts (λ n u f at bad. fine (suc n) u f at bad))
 
-all_clean : (files : Files) → ((n : ℕ) (t : Tree) (f : Refusal) → slice_get files n ≡ Some t → Bad t f → ⊥) → AllClean (statements_of files)
+all_clean : (files : Files) → ((n : ℕ) (t : Tree) (f : Refusal) → slice_get files n ≡ Some t → Bad Refuse t f → ⊥) → AllClean (statements_of files)
 all_clean files fine = both_clean files (inner_statements files) (root_all_clean files fine) (inner_all_clean files fine)
 
 -- what begins an identifier, and what stands in one, is no colon
@@ -208,7 +209,7 @@ not_extension : (k : Keyword) → defines k ≡ true → k ≢ word.Extended
 not_extension k d e = false≢true (ap defines (sym e) ∙ d)
 
 -- the name of a node that a numbered statement defines has no colon
-pub plain_at : (files : Files) → ((n : ℕ) (t : Tree) (f : Refusal) → slice_get files n ≡ Some t → Bad t f → ⊥)
+pub plain_at : (files : Files) → ((n : ℕ) (t : Tree) (f : Refusal) → slice_get files n ≡ Some t → Bad Refuse t f → ⊥)
     → map (λ t. t.head) (statements_of files) ≡ map (λ r. r.head) (rows_of files)
     → (k : ℕ) (r : Row) (t : Tree) → slice_get (rows_of files) k ≡ Some r → slice_get (statements_of files) k ≡ Some t
     → is_uses (kind_at (Some r)) ≡ false → HasNoColon (node_name (kind_of (keyword_at t)) (name_of t.head))
@@ -226,7 +227,7 @@ plain_at files fine heads k r t row at kind_is =
 
 -- what is known of the files, in short
 pub record Fine (files : Files) : Type 0 where
-  pub fine : (n : ℕ) (t : Tree) (f : Refusal) → slice_get files n ≡ Some t → Bad t f → ⊥
+  pub fine : (n : ℕ) (t : Tree) (f : Refusal) → slice_get files n ≡ Some t → Bad Refuse t f → ⊥
   pub heads : map (λ t. t.head) (statements_of files) ≡ map (λ r. r.head) (rows_of files)
 
 plain_statement : (files : Files) → Fine files → (k : ℕ) (row : Option Row) (at : Option Tree) → slice_get (rows_of files) k ≡ row → slice_get (statements_of files) k ≡ at

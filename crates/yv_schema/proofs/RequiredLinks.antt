@@ -8,6 +8,8 @@ use Rattle.yv_text_statement.specs.Order.{Among, IsLeast}
 use Rattle.yv_text_statement.specs.declared.refusal.Refusal.{Refusal}
 use Rattle.yv_text_statement.specs.declared.refusal.Code.TheVariants as code
 use Rattle.yv_text_grammar.specs.Refusals.{Bad}
+use Rattle.yv_text_grammar.specs.declared.xpath.Xpath.{Xpath}
+use Rattle.yv_text_grammar.specs.declared.xpath.Xpath.TheVariants.{Refuse, Skip}
 use Rattle.yv_text_grammar.specs.Fits.{Fits}
 use Rattle.yv_text_statement.specs.Selection.{ModuleChoice}
 use Rattle.yv_link_scopes.specs.Files.{Files}
@@ -37,12 +39,18 @@ module _ (choice : ModuleChoice) (b : NumberedBasis) (is : IsNumberedBasis choic
   leafref_begins n ref says = at_node (slice_get (nodes_in b) n) ref says
 
 -- a file of which nothing is refused conforms
+-- (yv_expand::conformance_laws::what_is_not_refused_fits)
 abbrev pub Spared : Type 0
-Spared = (t : Tree) → ((f : Refusal) → Bad t f → ⊥) → Fits t
+Spared = (x : Xpath) (t : Tree) → ((f : Refusal) → Bad x t f → ⊥) → Fits x t
 
-pub conform_of : Spared → (files : Files) → IsLeast (Among files BadFile (length files)) None → Conform files
-conform_of spared files clear n root at =
-    spared root (λ f bad. clear (in_file n f) (n, slice_get_within files n root at, root, at, record { own = f; stands = bad; is = refl }))
+-- skipping conditions refuses no more (yv_text_grammar::laws::skipping_refuses_no_more)
+abbrev pub SkippingSpares : Type 0
+SkippingSpares = (x : Xpath) (t : Tree) (r : Refusal) → Bad Skip t r → Bad x t r
+
+pub conform_of : Spared → SkippingSpares → (files : Files) → IsLeast (Among files BadFile (length files)) None → Conform files
+conform_of spared skipping files clear n root at =
+    spared Skip root
+    (λ f bad. clear (in_file n f) (n, slice_get_within files n root at, root, at, record { own = f; stands = skipping Refuse root f bad; is = refl }))
 
 -- what types a node has tells whether it refers to one
 types_refer : (s : Schema) {n e : ℕ} → HasTypesOf s n e → (((target : ℕ) → RefersTo s n target → ⊥) → ⊥) → (target : ℕ) × RefersTo s n target

@@ -3,6 +3,7 @@
 use Rattle.std.specs.Prelude.{◌≡◌, ◌≢◌, ◌<◌, ℕ, true, slice_get, Some}
 use Rattle.yv_text_statement.specs.Tree as statement
 use Rattle.yv_text_grammar.specs.Refusals.{Bad}
+use Rattle.yv_text_grammar.specs.declared.xpath.Xpath.TheVariants.{Refuse}
 use Rattle.yv_text_statement.specs.Selection.{ModuleChoice}
 use Rattle.yv_link_scopes.specs.Files.{Files, tree_name}
 use Rattle.yv_expand_statements.specs.FileOrder.{HaveModuleFiles, is_given}
@@ -23,7 +24,7 @@ use Rattle.yv_schema.specs.Refusals.{BadNodes}
 -- the modules of files: nothing is wrong with a file as such, the names of modules have no colon
 -- and differ, and the files of those that are implemented have these
 pub record AreNames (choice : ModuleChoice) (files : Files) : Type 0 where
-  pub fine : (n : ℕ) (t : statement.Tree) (f : Refusal) → slice_get files n ≡ Some t → Bad t f → ⊥
+  pub fine : (n : ℕ) (t : statement.Tree) (f : Refusal) → slice_get files n ≡ Some t → Bad Refuse t f → ⊥
   pub plain : (n : ℕ) (t : statement.Tree) → slice_get files n ≡ Some t → is_given choice t ≡ true
       → HasNoColon (tree_name t)
   pub differ : (m n : ℕ) (t u : statement.Tree) → m < n → slice_get files m ≡ Some t

@@ -4,6 +4,7 @@ use Rattle.std.specs.Prelude.{◌≡◌, ◌⊎◌, ℕ, length}
 use Rattle.yv_text_statement.specs.Tree.{Tree}
 use Rattle.yv_text_statement.specs.declared.refusal.Refusal.{Refusal}
 use Rattle.yv_text_grammar.specs.Refusals.{Bad}
+use Rattle.yv_text_grammar.specs.declared.xpath.Xpath.TheVariants.{Refuse}
 use Rattle.yv_text_statement.specs.Order.{Among}
 use Rattle.yv_text_statement.specs.Selection.{ModuleChoice}
 use Rattle.yv_link_scopes.specs.Files.{Files}
@@ -24,7 +25,7 @@ in_file n r = record { code = r.code; file = n; offset = r.offset; line = r.line
 -- f is in the file of this number: its statements aren't as the tables of the language say
 pub record BadFile (n : ℕ) (t : Tree) (f : Refusal) : Type 0 where
   pub own : Refusal
-  pub stands : Bad t own
+  pub stands : Bad Refuse t own
   pub is : f ≡ in_file n own
 
 -- f is at a type of the files, by the truth of their conditions

@@ -3,7 +3,7 @@ ghost use Rattle.std.specs.{Prelude.{◌≡◌, ◌≤◌, length}, Option.{opti
 ghost use Rattle.yv_text_statement.specs.Order.{Among, IsLeast};
 ghost use Rattle.yv_schema.specs.Refusals.{BadFile, in_file};
 
-use yv_text_grammar::conform;
+use yv_text_grammar::{Xpath, conform};
 use yv_text_statement::{Refusal, Statement, lesser};
 
 /// The least refusal of statements that aren't as the tables of the language say.
@@ -23,7 +23,7 @@ pub(crate) fn first_bad_file(files: &[Statement<'_>]) -> Option<Refusal>
 fn bad_file(number: u32, file: &Statement<'_>) -> Option<Refusal>
     ensures { IsLeast (BadFile number file.now) result }
 {
-    let own = conform(file).err();
+    let own = conform(file, Xpath::Refuse).err();
     told_of(number, own)
 }
 

@@ -30,6 +30,7 @@ use yv_link_features::laws::an_expression_has_one_truth;
 use yv_node_leafrefs::laws::a_tree_is_typed_once;
 use yv_node_statements::laws::{files_have_one_typing, types_tell_typing};
 use yv_schema_tables::Schema;
+use yv_text_grammar::laws::skipping_refuses_no_more;
 use yv_text_statement::{Selection, Stop};
 use yv_types::{Types, types};
 
@@ -112,6 +113,7 @@ fn expanded_tree(
     files_that_conform_have_roots();
     refusals_of_conforming_files_are_one();
     what_is_left_shows_the_schema();
+    skipping_refuses_no_more();
     final_tree(alloc, linked, linked.rows(), names, selection, limit)
 }
 
@@ -171,6 +173,7 @@ fn of_expanded(
     nothing_stands_below_a_leaf();
     yv_expand_definition::laws::files_have_one_schema();
     yv_expand::conformance_laws::what_is_not_refused_fits();
+    skipping_refuses_no_more();
     yv_link_scopes::laws::statements_have_their_rows();
     yv_types::leafref_laws::an_origin_is_a_leafref();
     let types = match last_types(alloc, linked, names) {

@@ -146,7 +146,7 @@ returns-clause-links c = λ files given.
     let is_of : IsBasisOf choice (lent_in c.rows.result.now) c.in-Ok.types c.args.tree b = record { of_files = sym read; typing = refl; kept = k.kept; final = refl; nodes = refl } in
     let parts : AreParts b c.in_ok-parts.parts = c.in_ok-parts.ensures.parts b is_of in
     let are_items : LeftAreItems = λ choice files truth f nodes place x final left at. let r = c.what_is_left_are_nodes.ensures choice files truth f nodes place x final left at in (r.0, r.1, r.2, r.3) in
-    let conform : Conform files = conform_of c.what_is_not_refused_fits.ensures files clear.own in
+    let conform : Conform files = conform_of c.what_is_not_refused_fits.ensures c.skipping_refuses_no_more.ensures files clear.own in
     let fine = features_clear choice files limit c.an_expression_has_one_truth.ensures given.before in
     if_ok c.build.result (c.build.ensures.references b parts) (c.build.ensures.clear b parts)
     (λ s links h. linked_of are_items choice b k.its is_basis k.told k.are_nodes c.an_expression_has_one_truth.ensures c.files_have_one_typing.ensures
