@@ -1,0 +1,3 @@
+pub mod Conditions
+pub mod Sums
+pub mod InnerCounts

@@ -1,0 +1,10 @@
+//! Which statements of files need XPath, and how many there are of each kind. The program doesn't
+//! call this crate yet.
+#![tactic(auto)]
+
+mod count;
+mod counts;
+pub mod laws;
+
+pub use counts::Unevaluated;
+pub use count::passed_over;
