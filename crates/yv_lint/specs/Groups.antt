@@ -1,28 +1,34 @@
 -- The order of the statements at the top of a file (RFC 7950, section 14).
-use Rattle.std.specs.Prelude.{ℕ, nat_lt, Bool, ◌&&◌}
+use Rattle.std.specs.Prelude.{ℕ, nat_lt, Bool, ◌&&◌, [], ◌∷◌, if◌then◌else◌}
 use Rattle.std.specs.List.{list_any}
 use Rattle.yv_text_statement.specs.Tree.{Tree}
+use Rattle.yv_text_statement.specs.Keywords.{same}
 use Rattle.yv_text_statement.specs.declared.keyword.Keyword.{Keyword}
 use Rattle.yv_text_statement.specs.declared.keyword.Keyword.TheVariants as word
-use Rattle.yv_lint.specs.Statements.{keyword_at}
+use Rattle.yv_lint.specs.Newer.{is_link}
+use Rattle.yv_lint.specs.Statements.{is_one_of, keyword_at}
 use Rattle.yv_lint.specs.Places.{Place}
+
+-- a statement of the header
+abbrev pub is_of_header : Keyword → Bool
+is_of_header =
+    is_one_of (word.YangVersion ∷ word.Namespace ∷ word.Prefix ∷ word.BelongsTo ∷ [])
+
+-- a meta statement
+abbrev pub is_meta : Keyword → Bool
+is_meta =
+    is_one_of (word.Organization ∷ word.Contact ∷ word.Description ∷ word.Reference ∷ [])
 
 -- The group of a keyword: the header, the linkage, the meta statements, the revisions, and the
 -- body. Those of extensions have none, and may be anywhere.
 abbrev pub group_of : Keyword → ℕ
-group_of word.YangVersion = 1
-group_of word.Namespace = 1
-group_of word.Prefix = 1
-group_of word.BelongsTo = 1
-group_of word.Import = 2
-group_of word.Include = 2
-group_of word.Organization = 3
-group_of word.Contact = 3
-group_of word.Description = 3
-group_of word.Reference = 3
-group_of word.Revision = 4
-group_of word.Extended = 0
-group_of _ = 5
+group_of k =
+    if is_of_header k then 1
+    else if is_link k then 2
+    else if is_meta k then 3
+    else if same k word.Revision then 4
+    else if same k word.Extended then 0
+    else 5
 
 -- one statement is of a later group than this
 abbrev pub is_of_later : ℕ → Tree → Bool

@@ -8,36 +8,25 @@ use Rattle.yv_text_statement.specs.Tree.{Tree}
 use Rattle.yv_text_statement.specs.declared.keyword.Keyword.{Keyword}
 use Rattle.yv_text_statement.specs.declared.keyword.Keyword.TheVariants as word
 use Rattle.yv_link_scopes.specs.Files.{tree_name}
-use Rattle.yv_lint.specs.Statements.{keyword_at, has_keyword, has_one}
+use Rattle.yv_lint.specs.Statements.{keyword_at, has_keyword, has_one, is_one_of}
 use Rattle.yv_lint.specs.Places.{Place}
 use Rattle.yv_lint.specs.Versions.{is_newer_file}
 
 -- the root of a file
 abbrev pub is_module : Keyword → Bool
-is_module word.Module = true
-is_module word.Submodule = true
-is_module _ = false
+is_module = is_one_of (word.Module ∷ word.Submodule ∷ [])
 
 -- an import or an include: these may have a `description` and a `reference`
 abbrev pub is_link : Keyword → Bool
-is_link word.Import = true
-is_link word.Include = true
-is_link _ = false
+is_link = is_one_of (word.Import ∷ word.Include ∷ [])
 
 -- a bit, an enum, an identity or a refine: these may have an `if-feature`
 abbrev pub takes_if_feature : Keyword → Bool
-takes_if_feature word.Bit = true
-takes_if_feature word.Enum = true
-takes_if_feature word.Identity = true
-takes_if_feature word.Refine = true
-takes_if_feature _ = false
+takes_if_feature = is_one_of (word.Bit ∷ word.Enum ∷ word.Identity ∷ word.Refine ∷ [])
 
 -- an input, an output or a notification: these may have a `must`
 abbrev pub takes_must : Keyword → Bool
-takes_must word.Input = true
-takes_must word.Output = true
-takes_must word.Notification = true
-takes_must _ = false
+takes_must = is_one_of (word.Input ∷ word.Output ∷ word.Notification ∷ [])
 
 -- the words of a condition are one name
 abbrev pub is_one_name : List Token → Bool

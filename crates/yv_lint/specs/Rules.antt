@@ -1,5 +1,5 @@
 -- The rules, and where they find something to mend.
-use Rattle.std.specs.Prelude.{ℕ, ◌&&◌, not, Bool, true, false, List, [], ◌∷◌, codes}
+use Rattle.std.specs.Prelude.{ℕ, ◌&&◌, not, Bool, false, List, [], ◌∷◌, codes}
 use Rattle.yv_text_statement.specs.Tree.{Tree}
 use Rattle.yv_text_statement.specs.Words.{is_among}
 use Rattle.yv_text_statement.specs.declared.keyword.Keyword.{Keyword}
@@ -7,7 +7,7 @@ use Rattle.yv_text_statement.specs.declared.keyword.Keyword.TheVariants as word
 use Rattle.yv_link_scopes.specs.Files.{Files}
 use Rattle.yv_lint.specs.declared.rule.Rule.{Rule}
 use Rattle.yv_lint.specs.declared.rule.Rule.TheVariants as rule
-use Rattle.yv_lint.specs.Statements.{keyword_at, has_keyword, has_child, child_name}
+use Rattle.yv_lint.specs.Statements.{keyword_at, has_keyword, has_child, child_name, is_one_of}
 use Rattle.yv_lint.specs.Places.{Place}
 use Rattle.yv_lint.specs.Versions.{mixes_versions}
 use Rattle.yv_lint.specs.Groups.{is_out_of_order}
@@ -62,15 +62,9 @@ lacks_header root =
 
 -- the statements that define something for others (RFC 8407, sections 4.12 to 4.17)
 abbrev pub is_definition : Keyword → Bool
-is_definition word.Typedef = true
-is_definition word.Grouping = true
-is_definition word.Identity = true
-is_definition word.Feature = true
-is_definition word.Extension = true
-is_definition word.Rpc = true
-is_definition word.Action = true
-is_definition word.Notification = true
-is_definition _ = false
+is_definition =
+    is_one_of (word.Typedef ∷ word.Grouping ∷ word.Identity ∷ word.Feature ∷ word.Extension ∷
+    word.Rpc ∷ word.Action ∷ word.Notification ∷ [])
 
 -- a definition doesn't say what it is for
 abbrev pub lacks_description : Tree → Bool

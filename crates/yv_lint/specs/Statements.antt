@@ -6,6 +6,10 @@ use Rattle.yv_text_statement.specs.Keywords.{keyword_of, same}
 use Rattle.yv_text_statement.specs.declared.keyword.Keyword.{Keyword}
 use Rattle.yv_link_scopes.specs.Files.{first_name}
 
+-- a keyword is one of these
+abbrev pub is_one_of : List Keyword → Keyword → Bool
+is_one_of keywords k = list_any (same k) keywords
+
 -- the keyword of a statement
 abbrev pub keyword_at : Tree → Keyword
 keyword_at t = keyword_of t.head.keyword

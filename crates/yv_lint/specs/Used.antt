@@ -1,5 +1,5 @@
 -- The prefixes that a file uses (RFC 7950, sections 6.3.1, 6.4 and 7.1.4).
-use Rattle.std.specs.Prelude.{ℕ, ◌==◌, ◌||◌, Bool, true, false, List, [], ◌∷◌, ◌++◌, filter, if◌then◌else◌}
+use Rattle.std.specs.Prelude.{ℕ, ◌==◌, ◌||◌, Bool, false, List, [], ◌∷◌, ◌++◌, filter, if◌then◌else◌}
 use Rattle.std.specs.Option.{option_to_list}
 use Rattle.yv_text_if_feature.specs.Bytes.{colon}
 use Rattle.yv_text_if_feature.specs.Names.{is_identifier, is_part}
@@ -9,6 +9,7 @@ use Rattle.yv_text_statement.specs.declared.keyword.Keyword.{Keyword}
 use Rattle.yv_text_statement.specs.declared.keyword.Keyword.TheVariants as word
 use Rattle.yv_link_scopes.specs.Names.{prefix_of}
 use Rattle.yv_link_scopes.specs.Rows.{is_extended}
+use Rattle.yv_lint.specs.Statements.{is_one_of}
 
 -- the longest runs of characters of identifiers that have a colon after them, where this run was
 -- read before
@@ -24,19 +25,9 @@ prefixes_in text = filter is_identifier (runs_after [] text)
 
 -- the statements whose arguments have names of other statements in them, or values with prefixes
 abbrev pub takes_names : Keyword → Bool
-takes_names word.Type = true
-takes_names word.Base = true
-takes_names word.Uses = true
-takes_names word.IfFeature = true
-takes_names word.Augment = true
-takes_names word.Refine = true
-takes_names word.Key = true
-takes_names word.Unique = true
-takes_names word.Path = true
-takes_names word.Default = true
-takes_names word.Must = true
-takes_names word.When = true
-takes_names _ = false
+takes_names =
+    is_one_of (word.Type ∷ word.Base ∷ word.Uses ∷ word.IfFeature ∷ word.Augment ∷ word.Refine ∷
+    word.Key ∷ word.Unique ∷ word.Path ∷ word.Default ∷ word.Must ∷ word.When ∷ [])
 
 -- the prefix of a keyword, if it has one: then it is an extension's
 abbrev pub keyword_prefix : List ℕ → List (List ℕ)

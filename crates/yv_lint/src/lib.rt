@@ -24,5 +24,6 @@ mod walk;
 
 pub use finding::Finding;
 pub use findings::lint;
+pub use groups::group_of;
 pub use rule::{RULES, Rule};
 pub use rules::Rules;

@@ -1,6 +1,7 @@
 //! Files as a whole.
 use std::alloc::{AllocError, Global};
 use yv_link_scopes::name_of;
+use yv_lint::group_of;
 use yv_text_statement::{Keyword, Statement};
 
 /// What is known of a file as a whole.
@@ -61,16 +62,4 @@ impl<'s, 'a> FileFacts<'s, 'a> {
 // Whether a statement is `yang-version 1.1`.
 fn says_newer(statement: &Statement<'_>) -> bool {
     statement.is(Keyword::YangVersion) && name_of(statement) == "1.1"
-}
-
-/// The group of a keyword (RFC 7950, section 14): none for those of extensions.
-pub(crate) fn group_of(keyword: Keyword) -> u8 {
-    match keyword {
-        Keyword::YangVersion | Keyword::Namespace | Keyword::Prefix | Keyword::BelongsTo => 1,
-        Keyword::Import | Keyword::Include => 2,
-        Keyword::Organization | Keyword::Contact | Keyword::Description | Keyword::Reference => 3,
-        Keyword::Revision => 4,
-        Keyword::Extended => 0,
-        _ => 5,
-    }
 }

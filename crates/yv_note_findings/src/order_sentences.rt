@@ -1,5 +1,5 @@
 //! Sentences on the order of statements, and on dates.
-use crate::file_facts::{FileFacts, group_of};
+use crate::file_facts::FileFacts;
 use crate::spot::Spot;
 use crate::words::{push_name, push_statement};
 use std::alloc::{AllocError, Global};
