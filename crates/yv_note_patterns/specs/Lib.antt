@@ -1,1 +1,2 @@
+pub mod InnerPatterns
 pub mod PatternFailure

@@ -1,9 +1,9 @@
 //! What helps a person to fix a pattern that the library of regular expressions doesn't build.
-ghost use Rattle.std.specs.Prelude.{◌≡◌, length, map, min, string_bytes, IfOk, IfNone, IfSome};
+ghost use Rattle.std.specs.Prelude.{◌≡◌, length, map, min, option_map, string_bytes, IfOk, IfNone, IfSome};
 ghost use Rattle.yv_link_scopes.specs.{Rows.{row}, Views.{lent_in, rows_in}};
 ghost use Rattle.yv_base_streams.specs.Files.{file_of};
 ghost use Rattle.yv_note_text.specs.Excerpt.{ShowsPlace};
-ghost use Rattle.yv_note_patterns.specs.PatternFailure.{AreNoPatterns, HasNoPattern, IsPatternAmong, TellsAmong, TellsOf, TellsPattern, unbuilt_line};
+ghost use Rattle.yv_note_patterns.specs.{InnerPatterns.{FindsPattern}, PatternFailure.{AreNoPatterns, HasNoPattern, TellsAmong, TellsOf, TellsPattern, unbuilt_line}};
 
 use crate::patterns::{first_pattern, first_unbuilt};
 use std::alloc::{AllocError, Global};
@@ -59,9 +59,8 @@ fn pattern_to_tell<'r, 'a, 'b>(
     alloc: Global,
     rows: &'r Rows<'a, 'b>,
 ) -> Result<Option<&'r Entry<'a, 'b>>, AllocError>
-    ensures found { IfOk result
-        (λ found. IfSome found (λ e. IsPatternAmong (rows_in rows.now) (row e.now))) }
-    ensures none { IfOk result (λ found. IfNone found (AreNoPatterns (rows_in rows.now))) }
+    ensures { IfOk result
+        (λ found. FindsPattern (rows_in rows.now) (option_map (λ e. row e.now) found)) }
 {
     if let Some(entry) = first_unbuilt(alloc, rows)? {
         return Ok(Some(entry));

@@ -335,8 +335,8 @@ fn number_of(text: &[u8]) -> Option<u32> {
     Some(number)
 }
 
-/// In so many bytes of a pattern its flaw is looked for. A pattern may have millions of bytes, and to
-/// read each once more takes longer than a note may.
+/// In so many bytes of a pattern its flaw is looked for. A pattern may have millions of bytes, and
+/// to read each once more takes longer than a note may.
 pub(crate) const MOST_READ: usize = 65_536;
 
 /// The first flaw of a pattern, if it begins in the bytes that are read.

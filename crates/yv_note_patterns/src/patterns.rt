@@ -1,8 +1,8 @@
 //! Patterns that the library of regular expressions doesn't build.
-ghost use Rattle.std.specs.{Prelude.{◌≡◌, true, false, IfOk, IfNone, IfSome, codes}, Str.{bytes_eq}};
+ghost use Rattle.std.specs.{Prelude.{◌≡◌, true, false, IfOk, IfSome, codes, option_map}, Str.{bytes_eq}};
 ghost use Rattle.yv_text_statement.specs.Tree.{name_of as name_at};
 ghost use Rattle.yv_link_scopes.specs.{Rows.{row}, Views.{rows_in}};
-ghost use Rattle.yv_note_patterns.specs.PatternFailure.{AreNoPatterns, IsOfDialect, IsPatternAmong};
+ghost use Rattle.yv_note_patterns.specs.{InnerPatterns.{FindsPattern}, PatternFailure.{IsOfDialect, IsPatternAmong}};
 
 use std::alloc::{AllocError, Global};
 use yv_link_scopes::{Entry, Rows, name_of};
@@ -88,9 +88,8 @@ pub(crate) fn first_pattern<'r, 'a, 'b>(
     alloc: Global,
     rows: &'r Rows<'a, 'b>,
 ) -> Result<Option<&'r Entry<'a, 'b>>, AllocError>
-    ensures found { IfOk result
-        (λ found. IfSome found (λ e. IsPatternAmong (rows_in rows.now) (row e.now))) }
-    ensures none { IfOk result (λ found. IfNone found (AreNoPatterns (rows_in rows.now))) }
+    ensures { IfOk result
+        (λ found. FindsPattern (rows_in rows.now) (option_map (λ e. row e.now) found)) }
 {
     for entry in rows.entries() {
         if is_pattern(alloc, entry.statement)? {
