@@ -60,31 +60,31 @@ pub(crate) fn push_spans(
     spans: &[Span],
     scale: Scale,
 ) -> Result<(), AllocError> {
-    for (place, span) in spans.iter().enumerate() {
-        if !push_or(text, place, " or ", "others")? {
-            break;
-        }
-        push_span(text, span, scale)?;
-    }
-    Ok(())
+    push_list(text, spans, " or ", "others", |text, span| {
+        push_span(text, span, scale)
+    })
 }
 
-/// Adds these words before the item of this place, unless it is the first one. After 4 items it
-/// adds that there are others, and returns false.
-pub(crate) fn push_or(
+/// Adds items with these words between them: of many the first 4, and that there are others.
+pub(crate) fn push_list<T, F: Fn(&mut String, &T) -> Result<(), AllocError>>(
     text: &mut String,
-    place: usize,
+    items: &[T],
     or: &str,
     others: &str,
-) -> Result<bool, AllocError> {
-    if place > 0 {
-        text.push_str(or)?;
+    push: F,
+) -> Result<(), AllocError>
+    requires { F.IsAlwaysCallable push }
+{
+    for (place, item) in items.iter().enumerate() {
+        if place > 0 {
+            text.push_str(or)?;
+        }
+        if place >= MOST_LISTED {
+            return text.push_str(others);
+        }
+        push(text, item)?;
     }
-    if place >= MOST_LISTED {
-        text.push_str(others)?;
-        return Ok(false);
-    }
-    Ok(true)
+    Ok(())
 }
 
 fn push_span(text: &mut String, span: &Span, scale: Scale) -> Result<(), AllocError> {

@@ -1,7 +1,7 @@
 //! What is said of a value that no type of its node reads.
 use crate::failed_pattern::{failed_pattern, push_failure};
 use crate::listed_names::{push_bits, push_enums, push_guess, push_identities};
-use crate::numbers::{Scale, push_count, push_lengths, push_or, push_spans};
+use crate::numbers::{Scale, push_count, push_lengths, push_list, push_spans};
 use crate::type_chain::TypeChain;
 use crate::union_members::{have_typedef, push_members};
 use crate::values::push_written;
@@ -152,13 +152,9 @@ fn push_types(
     types: &[PlainType],
     written: &Written<'_>,
 ) -> Result<(), AllocError> {
-    for (place, plain) in types.iter().enumerate() {
-        if !push_or(text, place, ", or ", "something else")? {
-            break;
-        }
-        push_plain(text, plain, written)?;
-    }
-    Ok(())
+    push_list(text, types, ", or ", "something else", |text, plain| {
+        push_plain(text, plain, written)
+    })
 }
 
 // Adds what a type expects (RFC 7951, section 6).
