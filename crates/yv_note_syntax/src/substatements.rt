@@ -103,12 +103,34 @@ fn parents_of(keyword: &str) -> &'static str {
     }
 }
 
-// Statements of these keywords, and a substatement that they need.
-static NEEDS: &[(&str, &str)] = &[
-    ("module", "namespace"),
-    ("module belongs-to import", "prefix"),
-    ("submodule", "belongs-to"),
-    ("leaf leaf-list typedef", "type"),
+// Statements of these keywords, and a substatement that they need, with how it is written.
+struct Need {
+    keywords: &'static [Keyword],
+    needed: Keyword,
+    word: &'static str,
+}
+
+static NEEDS: &[Need] = &[
+    Need {
+        keywords: &[Keyword::Module],
+        needed: Keyword::Namespace,
+        word: "namespace",
+    },
+    Need {
+        keywords: &[Keyword::Module, Keyword::BelongsTo, Keyword::Import],
+        needed: Keyword::Prefix,
+        word: "prefix",
+    },
+    Need {
+        keywords: &[Keyword::Submodule],
+        needed: Keyword::BelongsTo,
+        word: "belongs-to",
+    },
+    Need {
+        keywords: &[Keyword::Leaf, Keyword::LeafList, Keyword::Typedef],
+        needed: Keyword::Type,
+        word: "type",
+    },
 ];
 
 // The statements after one, in whose block they may be.
@@ -123,10 +145,10 @@ fn first_inner<'s, 'a>(site: &Site<'s, 'a>, keyword: Keyword) -> Option<Site<'s,
 
 // The first substatement that a statement needs and lacks.
 fn missing_substatement(site: &Site<'_, '_>) -> Option<&'static str> {
-    let (_, needed) = NEEDS.iter().find(|(keywords, needed)| {
-        is_among(site.keyword(), keywords) && first_inner(site, Keyword::read(needed)).is_none()
+    let need = NEEDS.iter().find(|need| {
+        site.is_one_of(need.keywords) && first_inner(site, need.needed).is_none()
     })?;
-    Some(needed)
+    Some(need.word)
 }
 
 // The first of a block's statements whose keyword means nothing, and is like one that is needed.
