@@ -28,6 +28,7 @@ pub mod ShownBasis
 pub mod ShownItems
 pub mod AugmentNodes
 pub mod ShownNotes
+pub mod SiblingNames
 pub mod OneSchema
 pub mod ExpandedTree
 pub mod BasisOfTree

@@ -1,5 +1,5 @@
 -- Only private clauses cite this: what is known of files between the phases of their compilation.
-use Rattle.std.specs.Prelude.{ℕ, ◌≤◌, None, length}
+use Rattle.std.specs.Prelude.{◌≡◌, ℕ, ◌≤◌, None, Some, Err, Result, IfOk, OnOk, length}
 use Rattle.yv_text_statement.specs.Order.{Among, IsLeast}
 use Rattle.yv_text_statement.specs.Selection.{ModuleChoice}
 use Rattle.yv_link_scopes.specs.Files.{Files}
@@ -17,8 +17,20 @@ use Rattle.yv_expand_laws.specs.Files.{ShowFiles}
 use Rattle.yv_expand_laws.specs.Schema.{shown_nodes}
 use Rattle.yv_expand_laws.specs.Shows.{Items}
 use Rattle.yv_expand_tree.specs.FinalTree.{AreKept, FinalTreeView}
+use Rattle.yv_nodes.specs.Rows.{Rows, whole}
+use Rattle.yv_nodes.specs.Tree.{count}
+use Rattle.yv_schema_tables.specs.Sound.{IsSound}
+use Rattle.yv_text_statement.specs.declared.refusal.Refusal.{Refusal}
+use Rattle.yv_text_statement.specs.declared.refusal.Stop.{Stop}
+use Rattle.yv_text_statement.specs.declared.refusal.Stop.TheVariants.{Fault, PatternBuild}
+use Rattle.yv_type_restrictions.specs.Types.{HasTypePattern}
+use Rattle.yv_schema.specs.InnerStages.{RefusesInStages, RefusesInStagesBeforeTypes}
+use Rattle.yv_schema.specs.LinkedLeafrefs.{AreLinked as AreLinkedLeafrefs}
+use Rattle.yv_schema.specs.Module.{modules_of}
+use Rattle.yv_schema.specs.Notes.{AreNotes}
 use Rattle.yv_schema.specs.Refusals.{BadFile}
-use Rattle.yv_schema.specs.InnerStages.{RefusesInStagesBeforeTypes}
+use Rattle.yv_schema.specs.Schema.{AreReferences, IsSchema}
+use Rattle.yv_schema.specs.Units.{TakeUnits}
 
 -- files are linked, their statements can be numbered, and nothing is refused so far
 pub record AreClear (choice : ModuleChoice) (files : Files) (linked : Linked) : Type 0 where
@@ -66,3 +78,26 @@ pub record SomeExpanded (choice : ModuleChoice) (limit : ℕ) (linked : Linked) 
     (tree : FinalTreeView) : Type 0 where
   pub files : Files
   pub expanded : AreExpanded choice files limit linked names tree
+
+-- a schema is that of files, with this limit
+pub record IsCompiled (choice : ModuleChoice) (files : Files) (limit : ℕ) (s : Rows) : Type 0 where
+  pub schema : IsSchema choice files (whole s)
+  pub limited : s.limit ≡ limit
+  pub modules : s.modules ≡ modules_of choice files
+  pub augments : AreNotes choice files s.augments
+  pub references : AreReferences choice files s.links
+  pub links : AreLinkedLeafrefs choice files (whole s) s.links
+  pub units : (units : ℕ) → TakeUnits choice files units → count (whole s) ≤ units
+  pub sound : IsSound s
+
+-- the compilation of files comes to this: their schema, where nothing is refused, or the least
+-- refusal, or that a pattern isn't built, where nothing is refused before the types
+pub record Compiles (choice : ModuleChoice) (files : Files) (limit : ℕ)
+    (result : Result Rows Stop) : Type 0 where
+  pub schema : IfOk result (IsCompiled choice files limit)
+  pub clear : OnOk result (IsLeast (RefusesInStages choice files limit) None)
+  pub refusal : (r : Refusal) → result ≡ Err (Fault r)
+      → IsLeast (RefusesInStages choice files limit) (Some r)
+  pub builds : result ≡ Err PatternBuild → HasTypePattern files
+  pub before : result ≡ Err PatternBuild
+      → IsLeast (RefusesInStagesBeforeTypes choice files limit) None

@@ -17,6 +17,7 @@ pub mod InnerNotes
 pub mod Refusals
 pub mod InnerStages
 pub mod Schema
+pub mod Siblings
 pub mod Notes
 pub mod Refuses
 pub mod LinkedLeafrefs

@@ -5,7 +5,7 @@ ghost use Rattle.yv_link_scopes.specs.RowList.{rows_of};
 ghost use Rattle.yv_type_restrictions.specs.Types.{HasTypePattern};
 ghost use Rattle.yv_nodes.specs.{Rows.{whole}, Tree.{count}};
 ghost use Rattle.yv_schema_tables.specs.Sound.{IsSound};
-ghost use Rattle.yv_schema.specs.{LinkedLeafrefs.{AreLinked}, Module.{modules_of}, Notes.{AreNotes}, Refuses.{Refuses, RefusesBeforeTypes}, Schema.{AreReferences, IsSchema}, Units.{TakeUnits}};
+ghost use Rattle.yv_schema.specs.{LinkedLeafrefs.{AreLinked}, Module.{modules_of}, Notes.{AreNotes}, Refuses.{Refuses, RefusesBeforeTypes}, Schema.{AreReferences, IsSchema}, Siblings.{DefaultsAreCases, SiblingsDiffer}, Units.{TakeUnits}};
 
 use crate::conformance::first_bad_file;
 use crate::phases::of_linked;
@@ -53,6 +53,10 @@ pub fn compile(
         → count (whole s) ≤ units) }
     // The schema is sound, as validation needs it.
     ensures sound { IfOk result IsSound }
+    // The names of siblings differ.
+    ensures siblings { IfOk result (λ s. SiblingsDiffer (whole s)) }
+    // Where a choice has a default, one of its cases is that.
+    ensures cases { IfOk result (λ s. DefaultsAreCases (whole s)) }
     // A schema is returned only if nothing is refused.
     ensures clear { OnOk result
         (IsLeast (Refuses (selected_of selection.now) files.now limit) None) }

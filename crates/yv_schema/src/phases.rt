@@ -6,9 +6,7 @@ ghost use Rattle.yv_type_restrictions.specs.Types.{HasTypePattern};
 ghost use Rattle.yv_link_definitions.specs.Meanings.{AreNames};
 ghost use Rattle.yv_link.specs.LinkedFiles.{AreLinked as AreLinkedFiles, truth_in};
 ghost use Rattle.yv_types.specs.{Refusals.{BadTypes}, Types.{AreTypes}};
-ghost use Rattle.yv_nodes.specs.{Rows.{whole}, Tree.{count}};
-ghost use Rattle.yv_schema_tables.specs.Sound.{IsSound};
-ghost use Rattle.yv_schema.specs.{InnerPhases.{AreClear, AreExpanded, AreNamed, ShowsTree, SomeClear, SomeExpanded, SomeNamed}, InnerStages.{RefusesInStages, RefusesInStagesBeforeTypes}, LinkedLeafrefs.{AreLinked}, Module.{modules_of}, Notes.{AreNotes}, Refuses.{RefusesExpansion}, Schema.{AreReferences, IsSchema}, Units.{TakeUnits}};
+ghost use Rattle.yv_schema.specs.{InnerPhases.{AreClear, AreExpanded, AreNamed, Compiles, ShowsTree, SomeClear, SomeExpanded, SomeNamed}, Refuses.{RefusesExpansion}};
 
 use crate::build::build;
 use crate::parts::schema_parts;
@@ -43,31 +41,8 @@ pub(crate) fn of_linked(
     limit: u32,
 ) -> Result<Schema, Stop>
     requires { SomeClear (selected_of selection.now) linked.now }
-    ensures schema { (files : Files) → AreClear (selected_of selection.now) files linked.now
-        → IfOk result (λ s. IsSchema (selected_of selection.now) files (whole s)) }
-    ensures limit { IfOk result (λ s. s.limit ≡ limit) }
-    ensures modules { (files : Files) → AreClear (selected_of selection.now) files linked.now
-        → IfOk result (λ s. s.modules ≡ modules_of (selected_of selection.now) files) }
-    ensures augments { (files : Files) → AreClear (selected_of selection.now) files linked.now
-        → IfOk result (λ s. AreNotes (selected_of selection.now) files s.augments) }
-    ensures references { (files : Files) → AreClear (selected_of selection.now) files linked.now
-        → IfOk result (λ s. AreReferences (selected_of selection.now) files s.links) }
-    ensures links { (files : Files) → AreClear (selected_of selection.now) files linked.now
-        → IfOk result (λ s. AreLinked (selected_of selection.now) files (whole s) s.links) }
-    ensures units { (files : Files) → AreClear (selected_of selection.now) files linked.now
-        → IfOk result (λ s. (units : ℕ) → TakeUnits (selected_of selection.now) files units
-        → count (whole s) ≤ units) }
-    ensures sound { IfOk result IsSound }
-    ensures clear { (files : Files) → AreClear (selected_of selection.now) files linked.now
-        → OnOk result (IsLeast (RefusesInStages (selected_of selection.now) files limit) None) }
-    ensures refusal { (files : Files) → AreClear (selected_of selection.now) files linked.now
-        → (r : Refusal) → result ≡ Err (Fault r)
-        → IsLeast (RefusesInStages (selected_of selection.now) files limit) (Some r) }
-    ensures builds { (files : Files) → AreClear (selected_of selection.now) files linked.now
-        → result ≡ Err PatternBuild → HasTypePattern files }
-    ensures before { (files : Files) → AreClear (selected_of selection.now) files linked.now
-        → result ≡ Err PatternBuild
-        → IsLeast (RefusesInStagesBeforeTypes (selected_of selection.now) files limit) None }
+    ensures { (files : Files) → AreClear (selected_of selection.now) files linked.now
+        → Compiles (selected_of selection.now) files limit result }
 {
     links_have_phases();
     nodes_are_within_items();
@@ -129,37 +104,9 @@ fn of_expanded(
 ) -> Result<Schema, Stop>
     requires gives { SomeExpanded (selected_of selection.now) limit linked.now names tree }
     requires room { length tree.left ≤ limit }
-    ensures schema { (files : Files)
+    ensures { (files : Files)
         → AreExpanded (selected_of selection.now) files limit linked.now names tree
-        → IfOk result (λ s. IsSchema (selected_of selection.now) files (whole s)) }
-    ensures limit { IfOk result (λ s. s.limit ≡ limit) }
-    ensures modules { (files : Files)
-        → AreExpanded (selected_of selection.now) files limit linked.now names tree
-        → IfOk result (λ s. s.modules ≡ modules_of (selected_of selection.now) files) }
-    ensures augments { (files : Files)
-        → AreExpanded (selected_of selection.now) files limit linked.now names tree
-        → IfOk result (λ s. AreNotes (selected_of selection.now) files s.augments) }
-    ensures references { (files : Files)
-        → AreExpanded (selected_of selection.now) files limit linked.now names tree
-        → IfOk result (λ s. AreReferences (selected_of selection.now) files s.links) }
-    ensures links { (files : Files)
-        → AreExpanded (selected_of selection.now) files limit linked.now names tree
-        → IfOk result (λ s. AreLinked (selected_of selection.now) files (whole s) s.links) }
-    ensures units { (files : Files)
-        → AreExpanded (selected_of selection.now) files limit linked.now names tree
-        → IfOk result (λ s. (units : ℕ) → TakeUnits (selected_of selection.now) files units
-        → count (whole s) ≤ units) }
-    ensures sound { IfOk result IsSound }
-    ensures clear { (files : Files)
-        → AreExpanded (selected_of selection.now) files limit linked.now names tree
-        → OnOk result (IsLeast (RefusesInStages (selected_of selection.now) files limit) None) }
-    ensures refusal { (files : Files)
-        → AreExpanded (selected_of selection.now) files limit linked.now names tree
-        → (r : Refusal) → result ≡ Err (Fault r)
-        → IsLeast (RefusesInStages (selected_of selection.now) files limit) (Some r) }
-    ensures builds { (files : Files)
-        → AreExpanded (selected_of selection.now) files limit linked.now names tree
-        → result ≡ Err PatternBuild → HasTypePattern files }
+        → Compiles (selected_of selection.now) files limit result }
 {
     linked_files_tell_what_holds();
     an_expression_has_one_truth();
