@@ -1,5 +1,5 @@
--- What holds of the nodes of every schema: the names of siblings differ, and the default of a choice
--- is one of its cases.
+-- What holds of the nodes of every schema: the names of siblings differ, and the default of a
+-- choice is one of its cases.
 use Rattle.std.specs.Prelude.{◌≡◌, ◌≢◌, ◌<◌, ℕ, true, List, Some, slice_get}
 use Rattle.std.specs.Option.{is_some}
 use Rattle.yv_node_checks.specs.Mandatory.{default_case, own_default}

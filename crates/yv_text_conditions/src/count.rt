@@ -2,7 +2,7 @@
 ghost use Rattle.std.specs.{Prelude.{◌≡◌, codes}, Option.{option_copied}, Str.{bytes_eq}};
 ghost use Rattle.yv_text_statement.specs.Tree.{forest};
 ghost use Rattle.yv_text_grammar.specs.Conditions.{has_predicate};
-ghost use Rattle.yv_text_conditions.specs.{Conditions.{count_in, is_filtered_path, is_instance_type, is_must, is_when, one_if}, InnerCounts.{AreCounts, count_of}, Sums.{capped}};
+ghost use Rattle.yv_text_conditions.specs.{Conditions.{count_in, is_filtered_path, is_instance_type, is_must, is_when, one_if}, InnerCounts.{AreCounts, count_of}, Sums.{cap_of}};
 
 use crate::counts::Unevaluated;
 use yv_text_statement::{Keyword, Statement};
@@ -12,14 +12,14 @@ use yv_text_statement::{Keyword, Statement};
 /// count. Takes no memory, and time in proportion to the statements and their arguments.
 pub fn passed_over(files: &[Statement<'_>]) -> Unevaluated
     // The number of `must` statements, up to 2^64 - 1.
-    ensures must { result.must ≡ capped (count_in is_must (forest files.now)) }
+    ensures must { result.must ≡ cap_of (count_in is_must (forest files.now)) }
     // That of `when` statements.
-    ensures when { result.when ≡ capped (count_in is_when (forest files.now)) }
+    ensures when { result.when ≡ cap_of (count_in is_when (forest files.now)) }
     // That of paths with predicates.
-    ensures path { result.path ≡ capped (count_in is_filtered_path (forest files.now)) }
+    ensures path { result.path ≡ cap_of (count_in is_filtered_path (forest files.now)) }
     // That of types that are `instance-identifier`.
     ensures instance { result.instance
-        ≡ capped (count_in is_instance_type (forest files.now)) }
+        ≡ cap_of (count_in is_instance_type (forest files.now)) }
 {
     let mut counts = Unevaluated::NOTHING;
     for file in files {

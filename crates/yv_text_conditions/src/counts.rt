@@ -2,7 +2,8 @@
 ghost use Rattle.std.specs.Prelude.{◌≡◌};
 ghost use Rattle.yv_text_conditions.specs.Sums.{nothing, sum_of};
 
-/// How much was not evaluated: of each kind the number, up to 2^64 - 1.
+/// Unevaluated statements, or what they stand for in a document: of each kind the number, up to
+/// 2^64 - 1.
 #[derive(Clone, Copy, PartialEq, Eq, Debug)]
 pub struct Unevaluated {
     /// `must` statements (RFC 7950, section 7.5.3).

@@ -10,7 +10,7 @@ use Rattle.yv_text_statement.specs.declared.keyword.Keyword.TheVariants as word
 use Rattle.yv_text_grammar.proofs.Smaller.{fewer}
 use Rattle.yv_text_conditions.specs.Conditions.{Property, count_in, one_if}
 use Rattle.yv_text_conditions.specs.InnerCounts.{count_of}
-use Rattle.yv_text_conditions.proofs.Counting.{both_counted, count_next, forest_trees, same_counts}
+use Rattle.yv_text_conditions.proofs.StatementCounts.{both_counted, count_next, forest_trees, same_counts}
 use Rattle.yv_text_conditions.proofs.count.+in_statement.Goals as goal
 
 -- a statement itself

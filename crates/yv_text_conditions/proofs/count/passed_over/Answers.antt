@@ -5,7 +5,7 @@ use Rattle.std.proofs.lemmas.Option.{slice_get_read}
 use Rattle.yv_text_statement.specs.Tree.{forest}
 use Rattle.yv_text_conditions.specs.Conditions.{count_in}
 use Rattle.yv_text_conditions.specs.InnerCounts.{AreCounts, count_of}
-use Rattle.yv_text_conditions.proofs.Counting.{both_counted, count_next, same_counts}
+use Rattle.yv_text_conditions.proofs.StatementCounts.{both_counted, count_next, same_counts}
 use Rattle.yv_text_conditions.proofs.count.passed_over.Goals as goal
 
 pub loop-file-init : goal.loop-file-init
