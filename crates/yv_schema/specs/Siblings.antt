@@ -2,7 +2,8 @@
 -- choice is one of its cases.
 use Rattle.std.specs.Prelude.{◌≡◌, ◌≢◌, ◌<◌, ℕ, true, List, Some, slice_get}
 use Rattle.std.specs.Option.{is_some}
-use Rattle.yv_node_checks.specs.Mandatory.{default_case, own_default}
+use Rattle.yv_node_checks.specs.Mandatory.{default_case}
+use Rattle.yv_node_content.specs.Definition.{own_default}
 use Rattle.yv_node_content.specs.Kinds.{is_choice}
 use Rattle.yv_nodes.specs.Places.{Place, places}
 use Rattle.yv_nodes.specs.Tree.{Forest, Label}

@@ -1,0 +1,5 @@
+pub mod Bytes
+pub mod QualifiedNames
+pub mod Predicates
+pub mod Instances
+pub mod InnerStates
