@@ -20,9 +20,9 @@ use Rattle.yv_schema.specs.Schema.{IsSchema}
 use Rattle.yv_schema.specs.Siblings.{DefaultsAreCases, DifferInName, SiblingsDiffer}
 
 differ : (ls : List Label) → ((f : Refusal) → HasRepeat ls f → ⊥) → DifferInName ls
-differ ls none i k a b before first second module name =
+differ ls none i k a b before first second same name =
     none (duplicate_at b)
-    (k, slice_get_within ls k b second, b, second, (record { place = i; first = a; before = before; at = first; same_module = module; same_name = name }, refl))
+    (k, slice_get_within ls k b second, b, second, (record { place = i; first = a; before = before; at = first; same_module = same; same_name = name }, refl))
 
 module _ (choice : ModuleChoice) (files : Files) (limit : ℕ) (top : Forest) (none : IsLeast (Refuses choice files limit) None) (is : IsSchema choice files top) where
   no_duplicate : (f : Refusal) → HasDuplicate top f → ⊥

@@ -17,6 +17,7 @@ use Rattle.yv_schema.proofs.BasisOfTree.{if_ok}
 use Rattle.yv_schema.proofs.ExpandedTree.{expansion_phase}
 use Rattle.yv_schema.proofs.PhaseLemmas.{HavePhases, least_first, least_linked, least_of_stages, least_own, none_before_types}
 use Rattle.yv_schema.proofs.SiblingNames.{defaults_are_cases, siblings_differ}
+use Rattle.yv_schema.proofs.compilation.compile.Goals.{After-of_linked}
 use Rattle.yv_schema.proofs.compilation.compile.Goals as goal
 
 -- files that are linked have few statements
@@ -60,7 +61,7 @@ of_linked-requires c =
     let clear : AreClear choice files c.in-Ok.linked = record { few = omega arith; statements = statements; own = own; links = c.in-Ok.ensures.clear; are = c.in-Ok.ensures.links } in
     record { files = files; clear = clear }
 
-compiled : (c : goal.After-of_linked) → Compiles (selected_of c.args.selection.now) c.args.files.now c.args.limit c.of_linked.result
+compiled : (c : After-of_linked) → Compiles (selected_of c.args.selection.now) c.args.files.now c.args.limit c.of_linked.result
 compiled c =
     let own = rw c.in_default.is at c.first_bad_file.ensures in
     let files = c.args.files.now in

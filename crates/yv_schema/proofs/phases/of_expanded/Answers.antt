@@ -1,4 +1,4 @@
-use Rattle.std.proofs.Common.{[], Some, None, Ok, Err, arith, inr, refl, sym, ap, ◌∙◌}
+use Rattle.std.proofs.Common.{[], Option, Some, None, Ok, Err, arith, inr, refl, sym, ap, ◌∙◌}
 use Rattle.std.specs.Prelude.{IfOk, OnOk, Result}
 use Rattle.std.proofs.lemmas.Result.{on_ok_weaker}
 use Rattle.yv_text_statement.specs.Order.{IsLeast}
@@ -16,6 +16,9 @@ use Rattle.yv_schema.specs.InnerParts.{AreParts, IsBasisOf}
 use Rattle.yv_schema.specs.InnerPhases.{ShowsTree}
 use Rattle.yv_schema.specs.Module.{modules_of}
 use Rattle.yv_nodes.specs.Tree.{Forest}
+use Rattle.yv_schema.specs.InnerStages.{RefusesInStages}
+use Rattle.yv_schema.specs.Refusals.{BadNodes}
+use Rattle.yv_text_statement.specs.declared.refusal.Refusal.{Refusal}
 use Rattle.yv_node_leafrefs.specs.Resolution.{IsTyped}
 use Rattle.yv_schema.specs.Schema.{IsSchema}
 use Rattle.yv_schema.proofs.BasisOfTree.{is_basis_of, least_of, linked_of, references_of, schema_of}
@@ -104,7 +107,7 @@ returns c = λ files given.
     let modules = c.in_ok-parts.ensures.modules ∙ ap (modules_of choice) read in
     let typed : IsLeast (BadTypes files truth) None = c.in-Ok.ensures.clear files choice clear.are given.are_names in
     let schema : (top : Forest) → IsTyped (leafrefs_of b) (stated_of b) top → IsSchema choice files top = schema_of are_items choice b k.its is_basis k.told k.are_nodes in
-    let last = λ o top is_typed least.
+    let last : (o : Option Refusal) (top : Forest) → IsTyped (leafrefs_of b) (stated_of b) top → IsLeast (BadNodes (leafrefs_of b) top) o → IsLeast (RefusesInStages choice files limit) o = λ o top is_typed least.
     least_last choice files limit c.an_expression_has_one_truth.ensures given.before c.files_have_one_typing.ensures c.files_have_one_schema.ensures
     c.a_tree_is_typed_once.ensures truth o top is (schema top is_typed) typed (least_of are_items choice b k.its is_basis k.told k.are_nodes top is_typed o least) in
     record {

@@ -9,6 +9,7 @@ use Rattle.yv_schema.specs.InnerStages.{RefusesInStagesBeforeTypes}
 use Rattle.yv_schema.specs.InnerPhases.{AreClear, AreExpanded, AreNamed, ShowsTree}
 use Rattle.yv_schema.proofs.ExpandedTree.{expansion_phase}
 use Rattle.yv_schema.proofs.PhaseLemmas.{HavePhases, least_expanded, least_first, least_named}
+use Rattle.yv_schema.proofs.phases.of_linked.Goals.{In-Ok, In-Ok-expanded_tree}
 use Rattle.yv_schema.proofs.phases.of_linked.Goals as goal
 
 pub returns-in-Err : goal.returns-in-Err
@@ -26,7 +27,7 @@ returns-in-Err c = λ files clear.
       before = λ e. absurd (c.in-Err.ensures.builds (err_again _ _ e));
     }
 
-named_of : (c : goal.In-Ok) (files : Files) → AreClear (selected_of c.args.selection.now) files c.args.linked.now
+named_of : (c : In-Ok) (files : Files) → AreClear (selected_of c.args.selection.now) files c.args.linked.now
     → AreNamed (selected_of c.args.selection.now) files c.args.linked.now c.in-Ok.names
 named_of c files clear =
     let rows = c.rows.ensures files (selected_of c.args.selection.now) clear.are in
@@ -53,7 +54,7 @@ pub expanded_tree-requires : goal.expanded_tree-requires
 expanded_tree-requires c =
     record { files = c.requires.files; named = named_of (goal.at.expanded_tree-requires c).In-Ok c.requires.files c.requires.clear }
 
-expanded_of : (c : goal.In-Ok-expanded_tree) (files : Files) → AreClear (selected_of c.args.selection.now) files c.args.linked.now
+expanded_of : (c : In-Ok-expanded_tree) (files : Files) → AreClear (selected_of c.args.selection.now) files c.args.linked.now
     → AreExpanded (selected_of c.args.selection.now) files c.args.limit c.args.linked.now c.in-Ok.names c.in-Ok-expanded_tree.tree
 expanded_of c files clear =
     let choice = selected_of c.args.selection.now in
