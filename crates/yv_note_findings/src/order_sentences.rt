@@ -4,6 +4,7 @@ use crate::spot::Spot;
 use crate::words::{push_name, push_statement};
 use std::alloc::{AllocError, Global};
 use yv_link_scopes::name_of;
+use yv_lint::group_of;
 use yv_note_text::push_quoted;
 use yv_text_statement::{Keyword, Statement};
 
