@@ -6,5 +6,5 @@ mod count;
 mod counts;
 pub mod laws;
 
-pub use counts::Unevaluated;
 pub use count::passed_over;
+pub use counts::Unevaluated;

@@ -49,7 +49,7 @@ returns-in-Err c = λ files given.
       schema = tt;
       clear = tt;
       refusal = λ r e. least_typed choice files limit c.an_expression_has_one_truth.ensures given.before truth r is
-      (c.in-Err.ensures.refusal r (err_again _ _ e) files choice clear.are given.are_names);
+          (c.in-Err.ensures.refusal r (err_again _ _ e) files choice clear.are given.are_names);
       builds = λ e. c.in-Err.ensures.builds (err_again _ _ e) files choice clear.are;
       before = λ e. given.before;
     }
@@ -112,28 +112,28 @@ returns c = λ files given.
     c.a_tree_is_typed_once.ensures truth o top is (schema top is_typed) typed (least_of are_items choice b k.its is_basis k.told k.are_nodes top is_typed o least) in
     record {
       schema = all_ok c.build.result (c.build.ensures.schema b parts) c.build.ensures.limit c.build.ensures.modules (c.build.ensures.augments b parts)
-      (c.build.ensures.references b parts) c.build.ensures.sound (c.build.ensures.clear b parts)
-      (λ s typed limited listed noted linked sound none. record {
-        schema = schema (whole s) typed;
-        limited = limited ∙ c.in_ok-parts.ensures.limit;
-        modules = listed ∙ modules;
-        augments = record {
-          basis = shown_basis k.its b;
-          of_files = refl;
-          is_basis = is_basis_of are_items choice b k.its is_basis k.told k.are_nodes;
-          is = noted ∙ notes;
-        };
-        references = references_of are_items choice b k.its is_basis k.told k.are_nodes s.links linked;
-        links = linked_of are_items choice b k.its is_basis k.told k.are_nodes c.an_expression_has_one_truth.ensures c.files_have_one_typing.ensures
-        c.files_have_one_schema.ensures fine (whole s) s.links
-        (each_linked c.statements_have_their_rows.ensures c.an_origin_is_a_leafref.ensures c.nothing_stands_below_a_leaf.ensures choice b is_basis conform
-        none.tree s.links none.is (λ f bad. none.least f (inr (inr bad))) linked);
-        units = λ units takes.
-        let few = c.nodes_are_within_units.ensures choice files truth b.final b.nodes units is_basis.final is_basis.nodes takes in
-        let same = count_resolved (leafrefs_of b) (stated_of b) (whole s) typed ∙ count_labelled b [] b.nodes in
-        omega (arith, few, same);
-        sound = sound;
-      });
+          (c.build.ensures.references b parts) c.build.ensures.sound (c.build.ensures.clear b parts)
+          (λ s typed limited listed noted linked sound none. record {
+            schema = schema (whole s) typed;
+            limited = limited ∙ c.in_ok-parts.ensures.limit;
+            modules = listed ∙ modules;
+            augments = record {
+              basis = shown_basis k.its b;
+              of_files = refl;
+              is_basis = is_basis_of are_items choice b k.its is_basis k.told k.are_nodes;
+              is = noted ∙ notes;
+            };
+            references = references_of are_items choice b k.its is_basis k.told k.are_nodes s.links linked;
+            links = linked_of are_items choice b k.its is_basis k.told k.are_nodes c.an_expression_has_one_truth.ensures c.files_have_one_typing.ensures
+                c.files_have_one_schema.ensures fine (whole s) s.links
+                (each_linked c.statements_have_their_rows.ensures c.an_origin_is_a_leafref.ensures c.nothing_stands_below_a_leaf.ensures choice b is_basis conform
+                none.tree s.links none.is (λ f bad. none.least f (inr (inr bad))) linked);
+            units = λ units takes.
+                let few = c.nodes_are_within_units.ensures choice files truth b.final b.nodes units is_basis.final is_basis.nodes takes in
+                let same = count_resolved (leafrefs_of b) (stated_of b) (whole s) typed ∙ count_labelled b [] b.nodes in
+                omega (arith, few, same);
+            sound = sound;
+          });
       clear = on_ok_weaker c.build.result (λ h. last None h.tree h.is h.least) (c.build.ensures.clear b parts);
       refusal = λ r e. let h = c.build.ensures.refusal b parts r e in last (Some r) h.tree h.is h.least;
       builds = λ e. absurd (c.build.ensures.builds e);

@@ -45,7 +45,7 @@ returns-in-Err-expanded_tree c = λ files clear.
       schema = tt;
       clear = tt;
       refusal = λ r e.
-      least_first choice files limit phases r (least_expanded choice files limit (Some r) clear.own clear.links named.fine (c.in-Err-expanded_tree.ensures.refusal files named r (err_again _ _ e)));
+          least_first choice files limit phases r (least_expanded choice files limit (Some r) clear.own clear.links named.fine (c.in-Err-expanded_tree.ensures.refusal files named r (err_again _ _ e)));
       builds = λ e. absurd (c.in-Err-expanded_tree.ensures.builds (err_again _ _ e));
       before = λ e. absurd (c.in-Err-expanded_tree.ensures.builds (err_again _ _ e));
     }
