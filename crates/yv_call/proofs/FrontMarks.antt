@@ -1,5 +1,5 @@
 -- Two marks that are the same.
-use Rattle.std.proofs.Common.{◌≡◌, ◌∙◌, ℕ, ◌+◌, List, [], ◌∷◌, ◌++◌, Some, length, take, drop, refl, ap, sym, append_assoc, subst}
+use Rattle.std.proofs.Common.{◌≡◌, ◌∙◌, ℕ, List, ◌∷◌, ◌++◌, Some, length, take, drop, ap, sym, append_assoc}
 use Rattle.std.proofs.Math.Seq.{take-append_seam, drop-append_seam}
 use Rattle.yv_call.specs.Front.{mark}
 use Rattle.yv_call.specs.FrontText.{initial_of, mark_of, name_of, text_of}

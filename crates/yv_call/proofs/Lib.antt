@@ -1,3 +1,5 @@
+pub mod FileLemmas
 pub mod FrontLemmas
 pub mod FrontMarks
 pub mod PartLemmas
+pub mod ShelfLemmas

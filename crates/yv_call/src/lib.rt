@@ -3,10 +3,14 @@
 #![tactic(auto)]
 
 mod front;
+mod inputs;
 mod log;
 mod parts;
+mod shelf;
 mod words;
 
 pub use front::TextFront;
+pub use inputs::inputs_of;
 pub use parts::parts_of;
+pub use shelf::Shelf;
 pub use words::{command_line, texts_of};
