@@ -1,7 +1,9 @@
 pub mod Documents
+pub mod Fits
 pub mod Front
 pub mod FrontText
 pub mod GivenFiles
+pub mod InnerFits
 pub mod InnerShelf
 pub mod Parts
 pub mod ShelfDocuments

@@ -5,12 +5,14 @@
 mod front;
 mod inputs;
 mod log;
+mod misfit;
 mod parts;
 mod shelf;
 mod words;
 
 pub use front::TextFront;
 pub use inputs::inputs_of;
+pub use misfit::{Misfit, fit};
 pub use parts::parts_of;
 pub use shelf::Shelf;
 pub use words::{command_line, texts_of};
