@@ -64,7 +64,6 @@ module _ {X Y : Type 0} (f : X → List ℕ) (g : Y → List ℕ) (names : List 
     (i : ℕ) (d : X) (e : Y) (name document : List ℕ) (within : i < length names)
     (there : i < length documents) (is_name : name ≡ f (get_or names i d))
     (is_document : document ≡ g (get_or documents i e)) where
-
   abbrev Before : (List ℕ → Option (List ℕ)) → Type 0
   Before lookup = AreNamed lookup (map f (take i names)) (map g (take i documents))
 
@@ -91,7 +90,7 @@ module _ {X Y : Type 0} (f : X → List ℕ) (g : Y → List ℕ) (names : List 
       let held : Keeps name document old new true =
       subst (λ b. Keeps name document old new b) is keeps in
       let next = named_next new (map f (take i names)) (map g (take i documents)) name document
-          (named_still old new (map f (take i names)) (map g (take i documents)) held.1 are) held.0 in
+      (named_still old new (map f (take i names)) (map g (take i documents)) held.1 are) held.0 in
       subst (λ ns. AreNamed new ns (map g (take (i + 1) documents))) (sym more_names)
       (subst (λ ds. AreNamed new (map f (take i names) ++ name ∷ []) ds) (sym more_documents) next)
 

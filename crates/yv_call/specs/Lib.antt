@@ -6,4 +6,5 @@ pub mod GivenFiles
 pub mod InnerFits
 pub mod InnerShelf
 pub mod Parts
+pub mod Plans
 pub mod ShelfDocuments

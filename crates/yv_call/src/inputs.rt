@@ -28,16 +28,14 @@ fn input_of(alloc: Global, name: &str, bytes: &[u8]) -> Result<Input, AllocError
 }
 
 /// The files of these names, with the bytes that are given for them.
-pub fn inputs_of(
-    alloc: Global,
-    names: &[String],
-    files: &[&[u8]],
-) -> Result<Vec<Input>, AllocError>
+pub fn inputs_of(alloc: Global, names: &[String], files: &[&[u8]]) -> Result<Vec<Input>, AllocError>
     // There are bytes for each name.
     requires { length names.now ≡ length files.now }
     // Each has its name, and as many of its bytes as a run reads of a file.
-    ensures { IfOk result (λ inputs. map file_of inputs.items
+    ensures files { IfOk result (λ inputs. map file_of inputs.items
         ≡ files_named (map string_bytes names.now) (map (λ f. f.now) files.now)) }
+    // There is one for each name.
+    ensures each { IfOk result (λ inputs. length inputs.items ≡ length names.now) }
 {
     let mut inputs = Vec::new(alloc);
     for (place, name) in names.iter().enumerate() {

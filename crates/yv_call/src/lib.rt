@@ -7,6 +7,7 @@ mod inputs;
 mod log;
 mod misfit;
 mod parts;
+mod plan;
 mod shelf;
 mod words;
 
@@ -14,5 +15,6 @@ pub use front::TextFront;
 pub use inputs::inputs_of;
 pub use misfit::{Misfit, fit};
 pub use parts::parts_of;
+pub use plan::{Batch, Plan, Work, plan_of};
 pub use shelf::Shelf;
 pub use words::{command_line, texts_of};

@@ -100,7 +100,8 @@ fn fit_documents<'a>(
 ) -> Result<Result<Shelf<'a>, Misfit>, AllocError>
     ensures named { IfOk result (λ found. IfOk found (λ s. AreNamed (document_of s)
         (map string_bytes names.now) (map (λ d. d.now) documents.now))) }
-    ensures lacks { IfOk result (λ found. IfErr found (λ m. (asked : RequestAsked) (files : List (List ℕ))
+    ensures lacks { IfOk result (λ found. IfErr found
+        (λ m. (asked : RequestAsked) (files : List (List ℕ))
         → source_names asked.action ≡ map string_bytes names.now
         → Lacks asked files (map (λ d. d.now) documents.now) m)) }
 {

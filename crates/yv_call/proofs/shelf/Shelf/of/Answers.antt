@@ -17,14 +17,14 @@ pub loop-place-preserved : goal.loop-place-preserved
 loop-place-preserved c =
     let there : c.loop-place.place < length c.args.documents.now = omega arith in
     let kept : c.in_ok-put.field-0 ≡ true = search rules in record {
-  are = named_more string_bytes (λ (d : Bor (List ℕ)). d.now) c.args.names.now
-      c.args.documents.now c.loop-place.place _ _ _ _ c.loop-place-test.true there
-      (c.as_str.ensures.value ∙ ap string_bytes c.index-names-place.is) refl
-      (document_of c.loop-place.shelf) (document_of c.put.new.self) _ kept c.in_ok-put.ensures
-      c.loop-place.invariant.are;
-  forced = forced_more string_bytes (λ (d : Bor (List ℕ)). d.now) c.args.names.now
-      c.args.documents.now c.loop-place.place _ _ _ _ c.loop-place-test.true there
-      (c.as_str.ensures.value ∙ ap string_bytes c.index-names-place.is) refl
-      (document_of c.loop-place.shelf) (document_of c.put.new.self) _ kept c.in_ok-put.ensures
-      c.loop-place.invariant.forced;
-}
+      are = named_more string_bytes (λ (d : Bor (List ℕ)). d.now) c.args.names.now
+          c.args.documents.now c.loop-place.place _ _ _ _ c.loop-place-test.true there
+          (c.as_str.ensures.value ∙ ap string_bytes c.index-names-place.is) refl
+          (document_of c.loop-place.shelf) (document_of c.put.new.self) _ kept c.in_ok-put.ensures
+          c.loop-place.invariant.are;
+      forced = forced_more string_bytes (λ (d : Bor (List ℕ)). d.now) c.args.names.now
+          c.args.documents.now c.loop-place.place _ _ _ _ c.loop-place-test.true there
+          (c.as_str.ensures.value ∙ ap string_bytes c.index-names-place.is) refl
+          (document_of c.loop-place.shelf) (document_of c.put.new.self) _ kept c.in_ok-put.ensures
+          c.loop-place.invariant.forced;
+    }
