@@ -3,3 +3,4 @@ pub mod FrontLemmas
 pub mod FrontMarks
 pub mod PartLemmas
 pub mod ShelfLemmas
+pub mod SupplyLemmas

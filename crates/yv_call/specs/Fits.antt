@@ -57,13 +57,13 @@ Lacks asked files documents of.DocumentCount =
     length (source_names asked.action) ≡ length documents → ⊥
 Lacks asked files documents of.Unequal = HaveNames (source_names asked.action) documents → ⊥
 
--- what is said of it
+-- what is said of it, as one line without its line feed
 abbrev pub reason_of : Misfit → List ℕ
-reason_of of.Search = codes "yangcheck: the library does not support --path\n"
-reason_of of.Listing = codes "yangcheck: the library does not support the command files\n"
+reason_of of.Search = codes "yangcheck: the library does not support --path"
+reason_of of.Listing = codes "yangcheck: the library does not support the command files"
 reason_of of.NamesOfFiles =
-    codes "yangcheck: the library does not support --each name and --each name0\n"
-reason_of of.FileCount = codes "yangcheck: the words name another number of files than is given\n"
+    codes "yangcheck: the library does not support --each name and --each name0"
+reason_of of.FileCount = codes "yangcheck: the words name another number of files than is given"
 reason_of of.DocumentCount =
-    codes "yangcheck: the words name another number of documents than is given\n"
-reason_of of.Unequal = codes "yangcheck: two documents of one name differ\n"
+    codes "yangcheck: the words name another number of documents than is given"
+reason_of of.Unequal = codes "yangcheck: two documents of one name differ"

@@ -8,3 +8,4 @@ pub mod InnerShelf
 pub mod Parts
 pub mod Plans
 pub mod ShelfDocuments
+pub mod Supplies

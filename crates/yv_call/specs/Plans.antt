@@ -1,5 +1,5 @@
 -- What is done for a request.
-use Rattle.std.specs.Prelude.{◌≡◌, ℕ, List, map, string_bytes}
+use Rattle.std.specs.Prelude.{◌≡◌, map, string_bytes}
 use Rattle.yv_call.specs.declared.plan.Work.{Work}
 use Rattle.yv_call.specs.declared.plan.Work.TheVariants as work
 use Rattle.yv_job.specs.Jobs.{CommandAsked, Compiles, Task}

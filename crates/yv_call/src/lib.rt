@@ -9,6 +9,7 @@ mod misfit;
 mod parts;
 mod plan;
 mod shelf;
+mod supply;
 mod words;
 
 pub use front::TextFront;
@@ -17,4 +18,5 @@ pub use misfit::{Misfit, fit};
 pub use parts::parts_of;
 pub use plan::{Batch, Plan, Work, plan_of};
 pub use shelf::Shelf;
+pub use supply::{NoFiles, shelf_documents};
 pub use words::{command_line, texts_of};

@@ -26,24 +26,24 @@ pub enum Misfit {
 }
 
 impl Misfit {
-    /// The line that says why the request isn't done.
+    /// Why the request isn't done, as one line without its line feed.
     pub fn reason(self) -> &'static str
         // It is this one.
         ensures { result.now ≡ reason_of self }
     {
         match self {
-            Misfit::Search => "yangcheck: the library does not support --path\n",
-            Misfit::Listing => "yangcheck: the library does not support the command files\n",
+            Misfit::Search => "yangcheck: the library does not support --path",
+            Misfit::Listing => "yangcheck: the library does not support the command files",
             Misfit::NamesOfFiles => {
-                "yangcheck: the library does not support --each name and --each name0\n"
+                "yangcheck: the library does not support --each name and --each name0"
             }
             Misfit::FileCount => {
-                "yangcheck: the words name another number of files than is given\n"
+                "yangcheck: the words name another number of files than is given"
             }
             Misfit::DocumentCount => {
-                "yangcheck: the words name another number of documents than is given\n"
+                "yangcheck: the words name another number of documents than is given"
             }
-            Misfit::Unequal => "yangcheck: two documents of one name differ\n",
+            Misfit::Unequal => "yangcheck: two documents of one name differ",
         }
     }
 }

@@ -59,6 +59,8 @@ pub fn plan_of(request: Request) -> Plan
     requires limit { IsLimited request }
     // The job is the task of the request.
     ensures task { task_of result.job ≡ task_asked (request_of request) }
+    // It has the files of the request.
+    ensures names { result.job.files ≡ request.files }
     // With its files this is done.
     ensures work { IsWorkFor (request_of request) result.work }
     // The job has 1 to 256 files.
