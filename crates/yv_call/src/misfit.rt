@@ -3,12 +3,12 @@ ghost use Rattle.std.specs.Prelude.{◌≡◌, ℕ, List, IfErr, IfOk, MatchBool
 ghost use Rattle.yv_call.specs.{Documents.{AreNamed}, Fits.{AreAtHand, Fits, IsRun, Lacks, reason_of, source_names}, InnerFits.{FitsFiles}, ShelfDocuments.{document_of}};
 ghost use Rattle.yv_job.specs.Requests.{RequestAsked, action_of, request_of};
 
-use crate::shelf::Shelf;
+use crate::shelf::DocumentShelf;
 use std::alloc::{AllocError, Global};
 use std::slice;
 use yv_job::{Action, Command, Each, Request};
 
-/// What a request asks for that isn't given.
+/// A misfit: what a request asks for that isn't given.
 #[derive(Clone, Copy, PartialEq, Eq, Debug)]
 pub enum Misfit {
     /// To search folders.
@@ -97,7 +97,7 @@ fn fit_documents<'a>(
     alloc: Global,
     names: &[String],
     documents: &[&'a [u8]],
-) -> Result<Result<Shelf<'a>, Misfit>, AllocError>
+) -> Result<Result<DocumentShelf<'a>, Misfit>, AllocError>
     ensures named { IfOk result (λ found. IfOk found (λ s. AreNamed (document_of s)
         (map string_bytes names.now) (map (λ d. d.now) documents.now))) }
     ensures lacks { IfOk result (λ found. IfErr found
@@ -108,19 +108,19 @@ fn fit_documents<'a>(
     if names.len() != documents.len() {
         return Ok(Err(Misfit::DocumentCount));
     }
-    match Shelf::of(alloc, names, documents)? {
+    match DocumentShelf::of(alloc, names, documents)? {
         Some(shelf) => Ok(Ok(shelf)),
         None => Ok(Err(Misfit::Unequal)),
     }
 }
 
 /// The documents of the sources that a request names, or what it asks for that isn't given.
-pub fn fit<'a>(
+pub fn fit_request<'a>(
     alloc: Global,
     request: &Request,
     files: &[&[u8]],
     documents: &[&'a [u8]],
-) -> Result<Result<Shelf<'a>, Misfit>, AllocError>
+) -> Result<Result<DocumentShelf<'a>, Misfit>, AllocError>
     // It asks for nothing that isn't given, where there are such documents.
     ensures fits { IfOk result (λ found. OnOk found (Fits (request_of request.now)
         (map (λ f. f.now) files.now) (map (λ d. d.now) documents.now))) }

@@ -7,8 +7,8 @@ use std::collections::VecDeque;
 use yv_job::{Action, Command, Each, Job, OutputForm, Request};
 use yv_lint::Rules;
 
-/// Sources of documents: what each holds, whether lines about a document name it, and the names of
-/// the sources in order.
+/// A batch: what each source of documents holds, whether lines about a document name it, and the
+/// names of the sources in order.
 #[derive(Drop)]
 pub struct Batch {
     pub each: Option<Each>,
@@ -31,7 +31,7 @@ impl Batch {
     }
 }
 
-/// What is done with the files of a job.
+/// The work that is done with the files of a job.
 #[derive(Drop)]
 pub enum Work {
     /// What its command says.
@@ -42,15 +42,15 @@ pub enum Work {
     Lint(Rules),
 }
 
-/// What a request comes to.
+/// The plan of a call: what its request comes to.
 #[derive(Drop)]
-pub struct Plan {
+pub struct CallPlan {
     pub job: Job,
     pub work: Work,
 }
 
 /// The plan for a request that searches no folders.
-pub fn plan_of(request: Request) -> Plan
+pub fn plan_of(request: Request) -> CallPlan
     // It does more than to show which files there are.
     requires runs { IsRun (action_of request.action) }
     // It names 1 to 256 files.
@@ -98,5 +98,5 @@ pub fn plan_of(request: Request) -> Plan
         output,
         search: None,
     };
-    Plan { job, work }
+    CallPlan { job, work }
 }

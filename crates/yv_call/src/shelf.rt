@@ -5,9 +5,9 @@ ghost use Rattle.yv_call.specs.{Documents.{AreNamed, HaveNames}, InnerShelf.{Gai
 use std::alloc::{AllocError, Global};
 use std::collections::BTreeMap;
 
-/// The documents of sources, by the names of these.
+/// A document shelf: the documents of sources, by the names of these.
 #[derive(Drop)]
-pub struct Shelf<'a> {
+pub struct DocumentShelf<'a> {
     documents: BTreeMap<String, &'a [u8]>,
 }
 
@@ -18,7 +18,7 @@ fn are_same(left: &[u8], right: &[u8]) -> bool
     left == right
 }
 
-impl<'a> Shelf<'a> {
+impl<'a> DocumentShelf<'a> {
     ghost use Rattle.yv_call.specs.ShelfDocuments.{document_of};
 
     /// The documents that are given for these names. None if there is another number of them, or if
@@ -27,7 +27,7 @@ impl<'a> Shelf<'a> {
         alloc: Global,
         names: &[String],
         documents: &[&'a [u8]],
-    ) -> Result<Option<Shelf<'a>>, AllocError>
+    ) -> Result<Option<DocumentShelf<'a>>, AllocError>
         // Each name has the document that is given for it, unless they can't all have theirs.
         ensures { IfOk result (λ shelf. MatchOption shelf
             (HaveNames (map string_bytes names.now) (map (λ d. d.now) documents.now) → ⊥)
@@ -37,7 +37,7 @@ impl<'a> Shelf<'a> {
         if names.len() != documents.len() {
             return Ok(None);
         }
-        let mut shelf = Shelf::new(alloc);
+        let mut shelf = DocumentShelf::new(alloc);
         for (place, name) in names.iter().enumerate() {
             if !shelf.put(alloc, name.as_str(), documents[place])? {
                 return Ok(None);
@@ -55,10 +55,10 @@ impl<'a> Shelf<'a> {
     }
 
     // No documents.
-    fn new(alloc: Global) -> Shelf<'a>
+    fn new(alloc: Global) -> DocumentShelf<'a>
         ensures { (n : List ℕ) → document_of result n ≡ None }
     {
-        Shelf {
+        DocumentShelf {
             documents: BTreeMap::new(alloc),
         }
     }

@@ -3,7 +3,7 @@ ghost use Rattle.std.specs.Prelude.{◌≡◌, ℕ, List, Some, map, string_byte
 ghost use Rattle.yv_batch.specs.SourcesLeft.{sources_left};
 ghost use Rattle.yv_call.specs.{Documents.{AreNamed}, ShelfDocuments.{document_of}, Supplies.{documents_given, kind_of, no_files}};
 
-use crate::shelf::Shelf;
+use crate::shelf::DocumentShelf;
 use std::alloc::Global;
 use std::collections::VecDeque;
 use yv_base_streams::InputFault;
@@ -25,7 +25,7 @@ impl Files for NoFiles {
     }
 }
 
-impl<'a> Opener<&'a [u8]> for Shelf<'a> {
+impl<'a> Opener<&'a [u8]> for DocumentShelf<'a> {
     ghost use Rattle.std.specs.Prelude.{Some};
     ghost use Rattle.yv_call.specs.ShelfDocuments.{document_of};
 
@@ -55,8 +55,8 @@ fn kind_of(each: Option<Each>) -> SourceKind
 pub fn shelf_documents<'a>(
     each: Option<Each>,
     names: VecDeque<String>,
-    shelf: Shelf<'a>,
-) -> Sources<&'a [u8], Shelf<'a>, NoFiles>
+    shelf: DocumentShelf<'a>,
+) -> Sources<&'a [u8], DocumentShelf<'a>, NoFiles>
     // They are those that are given for the names.
     ensures { (documents : List (List ℕ))
         → AreNamed (document_of shelf.entry) (map string_bytes names.items) documents

@@ -1,7 +1,7 @@
 use Rattle.std.proofs.Common.{◌≡◌, ℕ, List, Option, Some, map, string_bytes, take}
 use Rattle.yv_call.specs.Documents.{AreNamed}
 use Rattle.yv_call.specs.ShelfDocuments.{document_of}
-use Rattle.yv_call.proofs.shelf.Shelf.of.Given as goal
+use Rattle.yv_call.proofs.shelf.DocumentShelf.of.Given as goal
 
 abbrev pub invariant-loop-place : goal.invariant-loop-place
 invariant-loop-place l = record {

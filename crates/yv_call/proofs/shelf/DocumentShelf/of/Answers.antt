@@ -1,7 +1,7 @@
 use Rattle.std.proofs.Common.{rules, arith, ◌≡◌, ◌∙◌, ◌<◌, length, Bor, List, ℕ, false, true, ap, refl, string_bytes}
 use Rattle.yv_call.specs.ShelfDocuments.{document_of}
 use Rattle.yv_call.proofs.ShelfLemmas.{forced_more, named_more, none_named}
-use Rattle.yv_call.proofs.shelf.Shelf.of.Goals as goal
+use Rattle.yv_call.proofs.shelf.DocumentShelf.of.Goals as goal
 
 pub returns-then-not-branch : goal.returns-then-not-branch
 returns-then-not-branch c = λ (lookup, are).

@@ -2,7 +2,7 @@ use Rattle.std.proofs.Common.{◌∙◌, Some, ap, option_map, string_bytes}
 use Rattle.std.specs.Str.{bytes_eq}
 use Rattle.std.proofs.lemmas.Map.Text.{btree_map_updates_text}
 use Rattle.yv_call.proofs.ShelfLemmas.{found_of}
-use Rattle.yv_call.proofs.shelf.Shelf.add.Goals as goal
+use Rattle.yv_call.proofs.shelf.DocumentShelf.add.Goals as goal
 
 pub returns : goal.returns
 returns c = λ n.
