@@ -3,8 +3,8 @@
  * line, over files and documents that are in memory. `yangcheck --help` describes the words, and
  * docs/JSON-LINES.md what is written with `--format json`, the form for programs.
  *
- * Link with libyangcheck.a or libyangcheck.so. Both need only the C library. They cannot be made
- * yet: docs/ASSURANCE.md says what is missing.
+ * Link with libyangcheck.a or libyangcheck.so, which tools/library makes. Both need only the C
+ * library.
  */
 #ifndef YANGCHECK_H
 #define YANGCHECK_H
@@ -40,8 +40,8 @@ extern "C" {
  * OUTPUT AND NOTE. The output is what the program prints on standard output, and the note is what
  * it prints on standard error, for a person. `buffer` gets the output and, right after it, the
  * note, as far as both fit; nothing is put after them. *output_length and *note_length are how long
- * they are, also where they do not fit: call again with a larger buffer if you need the rest. What
- * does not fit takes no memory.
+ * they are, also where they do not fit: call again with a larger buffer if you need the rest. Output
+ * that does not fit takes no memory.
  *
  * WHAT IS NOT DONE. The answer is 2, without an output and with a note that says why, if the words
  * ask for something that is not given: `--path`, the command `files`, `--each name`, `--each

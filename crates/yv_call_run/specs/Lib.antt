@@ -1,0 +1,9 @@
+pub mod Calls
+pub mod NoteParts
+pub mod NoteTexts
+pub mod InnerNotes
+pub mod Performs
+pub mod CallAnswers
+pub mod InnerOutcomes
+pub mod Fills
+pub mod BufferCalls
