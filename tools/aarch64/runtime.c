@@ -3,7 +3,9 @@
    For x86-64 they are in the kit's libos_c.a and liblibc_c.a. The kit has none for aarch64, so these
    take their place, and do the same: `tests/run static` compares both on x86-64. Their contracts,
    which proofs assume, are in the kit's os/src/c.rt and libc/src/heap.rt. No proof covers this file. */
+#define _GNU_SOURCE /* for O_DIRECTORY and O_NOFOLLOW */
 #include <errno.h>
+#include <fcntl.h>
 #include <stdbool.h>
 #include <stddef.h>
 #include <stdlib.h>
@@ -50,6 +52,13 @@ int rattle_errno(void)
 void rattle_set_errno(int error)
 {
     errno = error;
+}
+
+/* Opens the directory that a name reaches from another. Answers a descriptor, or -1, also where the
+   name ends in a link or reaches no directory. */
+int rattle_open_dir_at(int directory, const char *name)
+{
+    return openat(directory, name, O_RDONLY | O_DIRECTORY | O_NOFOLLOW | O_CLOEXEC);
 }
 
 /* Whether there is memory, and where. If there is none, the pointer is to a byte of this file. */
