@@ -1,4 +1,4 @@
-//! What a request comes to, where its files are given.
+//! The plan of a call: the job of its request, and what is done with it.
 ghost use Rattle.std.specs.Prelude.{◌≡◌};
 ghost use Rattle.yv_call.specs.{Fits.{IsRun}, Plans.{IsWorkFor, task_asked}};
 ghost use Rattle.yv_job.specs.{Jobs.{HasFiles, HasLimit, task_of}, Requests.{IsLimited, NamesFiles, action_of, request_of}};
@@ -42,7 +42,7 @@ pub enum Work {
     Lint(Rules),
 }
 
-/// The plan of a call: what its request comes to.
+/// The plan of a call: the job of its request, and what is done with it.
 #[derive(Drop)]
 pub struct CallPlan {
     pub job: Job,
